@@ -1,0 +1,174 @@
+-- Roles, comparisons and the opcode sheet's meaning (document 01, 'Sheet'; the stand-in for the source's `opcode`).
+use Prim.Native.Nat.{ℕ, suc, zero}
+use mathlib.Core.List.{List, [], _∷_}
+use mathlib.Core.Bool.{Bool, true, false}
+use mathlib.Core.Option.{Option, some, none}
+use lib.Dec.{eqb}
+use lib.ListN.{getD}
+
+-- `O`: the operators of two values
+pub data BinaryOp : Type 0 where
+  Add Sub Mul Div Mod BoolAnd BoolOr BoolXor : BinaryOp
+
+-- `U`
+pub data UnaryOp : Type 0 where
+  Neg BoolNot : UnaryOp
+
+-- `C`, and the order of the sheet's comparison bytes
+pub data CompareOp : Type 0 where
+  Eq Ne Lt Le Gt Ge : CompareOp
+
+-- `H`
+pub data ShortCircuitOp : Type 0 where
+  AndThen OrElse : ShortCircuitOp
+
+-- the 27 roles, by class
+pub data Role : Type 0 where
+  dup pop loadVar storeVar loadConst loadTrue loadFalse : Role
+  binary : BinaryOp → Role
+  unary : UnaryOp → Role
+  compare : CompareOp → Role
+  jmp jmpIfNot cmpBr ret : Role
+
+-- every role at its number
+unfoldable pub roles : List Role
+roles = dup ∷ pop ∷ loadVar ∷ storeVar ∷ loadConst ∷ loadTrue ∷ loadFalse
+    ∷ binary Add ∷ binary Sub ∷ binary Mul ∷ binary Div ∷ binary Mod ∷ unary Neg ∷ binary BoolAnd ∷ binary BoolOr ∷ binary BoolXor ∷ unary BoolNot
+    ∷ compare Eq ∷ compare Ne ∷ compare Lt ∷ compare Le ∷ compare Gt ∷ compare Ge
+    ∷ jmp ∷ jmpIfNot ∷ cmpBr ∷ ret ∷ []
+
+unfoldable pub compareIndex : CompareOp → ℕ
+compareIndex Eq = 0
+compareIndex Ne = 1
+compareIndex Lt = 2
+compareIndex Le = 3
+compareIndex Gt = 4
+compareIndex Ge = 5
+
+unfoldable pub number : Role → ℕ
+number dup = 0
+number pop = 1
+number loadVar = 2
+number storeVar = 3
+number loadConst = 4
+number loadTrue = 5
+number loadFalse = 6
+number (binary Add) = 7
+number (binary Sub) = 8
+number (binary Mul) = 9
+number (binary Div) = 10
+number (binary Mod) = 11
+number (unary Neg) = 12
+number (binary BoolAnd) = 13
+number (binary BoolOr) = 14
+number (binary BoolXor) = 15
+number (unary BoolNot) = 16
+number (compare Eq) = 17
+number (compare Ne) = 18
+number (compare Lt) = 19
+number (compare Le) = 20
+number (compare Gt) = 21
+number (compare Ge) = 22
+number jmp = 23
+number jmpIfNot = 24
+number cmpBr = 25
+number ret = 26
+
+-- what an instruction does to the stack's height
+pub data Effect : Type 0 where
+  up down same : Effect
+
+unfoldable pub shift : Effect → ℕ → ℕ
+shift up h = suc h
+shift down zero = zero
+shift down (suc h) = h
+shift same h = h
+
+-- where a run goes on: behind the instruction, at its target, at either by the outcome, or nowhere
+pub data Flow : Type 0 where
+  onward away either stop : Flow
+
+-- a role's row of the sheet's table: bytes, values that must be on the stack, height change, flow
+pub record Traits : Type 0 where
+  pub size : ℕ
+  pub needs : ℕ
+  pub effect : Effect
+  pub flow : Flow
+
+unfoldable pub row : ℕ → ℕ → Effect → Flow → Traits
+row z n e f = record { size = z; needs = n; effect = e; flow = f }
+
+unfoldable pub traits : Role → Traits
+traits dup = row 1 1 up onward
+traits pop = row 1 1 down onward
+traits loadVar = row 3 0 up onward
+traits storeVar = row 3 1 down onward
+traits loadConst = row 3 0 up onward
+traits loadTrue = row 1 0 up onward
+traits loadFalse = row 1 0 up onward
+traits (binary o) = row 1 2 down onward
+traits (unary o) = row 1 1 same onward
+traits (compare c) = row 1 2 down onward
+traits jmp = row 3 0 same away
+traits jmpIfNot = row 3 1 down either
+traits cmpBr = row 8 0 same either
+traits ret = row 1 0 same stop
+
+unfoldable pub size : Role → ℕ
+size r = traits r .size
+
+unfoldable pub needs : Role → ℕ
+needs r = traits r .needs
+
+unfoldable pub effect : Role → Effect
+effect r = traits r .effect
+
+unfoldable pub flow : Role → Flow
+flow r = traits r .flow
+
+-- `cmp_op::negate`: the comparison that holds where this one does not
+unfoldable pub negate : CompareOp → CompareOp
+negate Eq = Ne
+negate Ne = Eq
+negate Lt = Ge
+negate Le = Gt
+negate Gt = Le
+negate Ge = Lt
+
+-- `cmp_op::commute`: the comparison with its sides exchanged
+unfoldable pub commute : CompareOp → CompareOp
+commute Eq = Eq
+commute Ne = Ne
+commute Lt = Gt
+commute Le = Ge
+commute Gt = Lt
+commute Ge = Le
+
+-- a sheet that was accepted: 27 opcodes by role, six comparison bytes
+pub record Sheet : Type 0 where
+  pub opcodes : List ℕ
+  pub comparisons : List ℕ
+
+unfoldable pub opcode : Sheet → Role → ℕ
+opcode s r = getD (s .opcodes) (number r) 0
+
+unfoldable pub comparisonByte : Sheet → CompareOp → ℕ
+comparisonByte s c = getD (s .comparisons) (compareIndex c) 0
+
+-- what stands in ys where b stands in xs
+unfoldable pub beside : {A : Type 0} → ℕ → List ℕ → List A → Option A
+beside b [] ys = none
+beside b (x ∷ xs) [] = none
+beside b (x ∷ xs) (y ∷ ys) = elim (eqb x b) [ true ↦ some y | false ↦ beside b xs ys ]
+
+-- the role of an opcode; none for a byte that the sheet does not list
+unfoldable pub roleOf : Sheet → ℕ → Option Role
+roleOf s b = beside b (s .opcodes) roles
+
+unfoldable pub comparisonOf : Sheet → ℕ → Option CompareOp
+comparisonOf s b = beside b (s .comparisons) (Eq ∷ Ne ∷ Lt ∷ Le ∷ Gt ∷ Ge ∷ [])
+
+-- `unfolding open-Opcode` names all of this module's definitions at once
+unfoldable pub open-Opcode : Unit {0}
+unfolding roles compareIndex number shift row traits size needs effect flow negate commute opcode comparisonByte beside roleOf comparisonOf
+open-Opcode = tt

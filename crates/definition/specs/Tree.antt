@@ -1,0 +1,67 @@
+-- The tree that a program's lines spell (the source's lowered statements and expressions). It is read from any bytes: where the text
+-- is at fault there is a leaf `bad` with the refusal, and emission refuses at it.
+use Prim.Native.Nat.{ℕ}
+use mathlib.Core.List.{List, [], _∷_}
+use mathlib.Core.Bool.{Bool}
+use mathlib.Core.Option.{Option, some, none}
+use Rattle.definition.specs.Opcode.{BinaryOp, UnaryOp, CompareOp, ShortCircuitOp}
+
+-- a source position
+pub record Pos : Type 0 where
+  pub line : ℕ
+  pub column : ℕ
+
+-- a statement's position, and the file line on which the statement stands
+pub record Source : Type 0 where
+  pub pos : Pos
+  pub row : ℕ
+
+-- a refusal and its place
+pub record Fault : Type 0 where
+  pub number : ℕ
+  pub place : ℕ
+
+-- values are two's complement bits
+pub data Expr : Type 0 where
+  const : ℕ → Expr
+  bool : Bool → Expr
+  read : ℕ → Expr
+  binary : BinaryOp → Expr → Expr → Expr
+  unary : UnaryOp → Expr → Expr
+  compare : CompareOp → Expr → Expr → Expr
+  shortCircuit : ShortCircuitOp → Expr → Expr → Expr
+  bad : Fault → Expr
+
+pub data CaseLabel : Type 0 where
+  value : ℕ → CaseLabel
+  range : ℕ → ℕ → CaseLabel
+  badLabel : Fault → CaseLabel
+
+mutual
+  pub data Stmt : Type 0 where
+    assign : Source → ℕ → Expr → Stmt
+    if : Source → Expr → Block → Block → Stmt
+    case : Source → Expr → Arms → Block → Stmt
+    -- loop number, control variable, step, from, to, body
+    for : Source → ℕ → ℕ → ℕ → Expr → Expr → Block → Stmt
+    -- loop number, body, `continuing`
+    loop : Source → ℕ → Block → Block → Stmt
+    exit : Source → ℕ → Stmt
+    continue : Source → ℕ → Stmt
+    return : Source → Stmt
+    badStmt : Fault → Stmt
+
+  pub data Block : Type 0 where
+    done : Block
+    _then_ : Stmt → Block → Block
+
+  pub data Arms : Type 0 where
+    noArms : Arms
+    arm : List CaseLabel → Block → Arms → Arms
+    badArm : Fault → Arms
+
+infixr 20 _then_
+-- a program's header position and its top statements
+pub record Program : Type 0 where
+  pub pos : Pos
+  pub body : Block

@@ -1,0 +1,110 @@
+// The limits of document 01 for code, each shown to be the definition's (specs/Limits.antt).
+ghost use mathlib.Core.Path.{_≡_};
+ghost use Prim.Native.Nat.{_*_};
+ghost use Rattle.definition.specs.Limits.{maxCode, maxLabels, maxProtected, maxLines, maxConstants, entrySize, maxProgram, maxNesting, maxVariables, maxField, maxRules, passCount, width};
+
+// Bytes of code, emitted and finished.
+pub const MAX_CODE: usize = 16384;
+// Labels created, used or not.
+pub const MAX_LABELS: usize = 4096;
+// Protected offsets of rewriting called alone.
+pub const MAX_PROTECTED: usize = 4096;
+// Line entries.
+pub const MAX_LINES: usize = 4096;
+// Numbers that a line entry takes in a lent list.
+pub const ENTRY_SIZE: usize = 3;
+// Constants in the pool.
+pub const MAX_CONSTANTS: usize = 1024;
+// Bytes of a program.
+pub const MAX_PROGRAM: usize = 65536;
+// Nesting levels of a program.
+pub const MAX_NESTING: usize = 64;
+// Variables of a program.
+pub const MAX_VARIABLES: u32 = 1024;
+// The largest number of a field that is no value.
+pub const MAX_FIELD: u32 = 65535;
+// Lines of a rule file.
+pub const MAX_RULES: usize = 64;
+// Passes of the rewriter.
+pub const PASS_COUNT: u32 = 3;
+// Bits of a value.
+pub const WIDTH: u32 = 32;
+
+pub fn max_code() -> usize
+    ensures { λ r. ⌜ r ≡ maxCode ⌝ }
+{
+    MAX_CODE
+}
+
+pub fn max_labels() -> usize
+    ensures { λ r. ⌜ r ≡ maxLabels ⌝ }
+{
+    MAX_LABELS
+}
+
+pub fn max_protected() -> usize
+    ensures { λ r. ⌜ r ≡ maxProtected ⌝ }
+{
+    MAX_PROTECTED
+}
+
+pub fn max_lines() -> usize
+    ensures { λ r. ⌜ r ≡ maxLines ⌝ }
+{
+    MAX_LINES
+}
+
+// Numbers that a full line list takes.
+pub fn max_line_numbers() -> usize
+    ensures { λ r. ⌜ r ≡ maxLines * entrySize ⌝ }
+{
+    MAX_LINES * ENTRY_SIZE
+}
+
+pub fn max_constants() -> usize
+    ensures { λ r. ⌜ r ≡ maxConstants ⌝ }
+{
+    MAX_CONSTANTS
+}
+
+pub fn max_program() -> usize
+    ensures { λ r. ⌜ r ≡ maxProgram ⌝ }
+{
+    MAX_PROGRAM
+}
+
+pub fn max_nesting() -> usize
+    ensures { λ r. ⌜ r ≡ maxNesting ⌝ }
+{
+    MAX_NESTING
+}
+
+pub fn max_variables() -> u32
+    ensures { λ r. ⌜ r ≡ maxVariables ⌝ }
+{
+    MAX_VARIABLES
+}
+
+pub fn max_field() -> u32
+    ensures { λ r. ⌜ r ≡ maxField ⌝ }
+{
+    MAX_FIELD
+}
+
+pub fn max_rules() -> usize
+    ensures { λ r. ⌜ r ≡ maxRules ⌝ }
+{
+    MAX_RULES
+}
+
+pub fn pass_count() -> u32
+    ensures { λ r. ⌜ r ≡ passCount ⌝ }
+{
+    PASS_COUNT
+}
+
+pub fn width() -> u32
+    ensures { λ r. ⌜ r ≡ width ⌝ }
+{
+    WIDTH
+}
