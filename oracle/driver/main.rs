@@ -1,0 +1,182 @@
+//! The oracle's driver.
+
+mod answer;
+mod compare;
+mod generate;
+mod head;
+mod limits;
+mod passes;
+mod programs;
+mod random;
+mod short;
+
+use std::hint::black_box;
+use std::io::{self, Read, Write};
+use std::path::Path;
+use std::process::ExitCode;
+use std::time::Instant;
+
+use answer::{answer, Answer, Program};
+use compare::Compared;
+use generate::Kind;
+
+const USE: &str = "use: oracle [--reader] [--fold-constants] COMMAND
+  listing | passes                     one input, one answer
+  batch listing|passes                 a line ==== ends each input, and each answer
+  generate programs|short|passes FROM TO   the inputs of these seeds, as a batch
+  answers programs|short|passes FROM TO    their answers, as a batch
+  compare programs|short|passes FROM TO FOLDER PROGRAM [WORD..]   a program held against the oracle
+  bench listing|passes RUNS            ns for a run of the published code on one input
+--reader: the plain reader's refusals by number and place (NOT from the Rust), instead of `unparsed`
+--fold-constants: constant loads folded, as published";
+
+const SEPARATOR: &[u8] = b"====\n";
+
+fn main() -> ExitCode {
+    match run() {
+        Ok(()) => ExitCode::SUCCESS,
+        Err(message) => {
+            eprintln!("oracle: {message}");
+            ExitCode::FAILURE
+        }
+    }
+}
+
+fn run() -> Result<(), String> {
+    let words: Vec<String> = std::env::args().skip(1).collect();
+    let switches = words.iter().take_while(|word| word.starts_with("--")).count();
+    let (switches, words) = words.split_at(switches);
+    let mut reading = false;
+    for switch in switches {
+        match switch.as_str() {
+            "--reader" => reading = true,
+            "--fold-constants" => oracle::stand_ins::fold_constants(),
+            "--help" => return write(format!("{USE}\n").as_bytes()),
+            _ => return Err(unknown("switch", switch)),
+        }
+    }
+    let words: Vec<&str> = words.iter().map(String::as_str).collect();
+    match words.as_slice() {
+        ["batch", name] => batch(program(name)?, reading),
+        ["generate", kind, from, to] => generate(self::kind(kind)?, seed(from)?, seed(to)?),
+        ["answers", kind, from, to] => answers(self::kind(kind)?, seed(from)?, seed(to)?, reading),
+        ["compare", kind, from, to, folder, command @ ..] if !command.is_empty() => {
+            let command: Vec<String> = command.iter().map(|word| word.to_string()).collect();
+            compare(self::kind(kind)?, seed(from)?, seed(to)?, Path::new(folder), &command)
+        }
+        ["bench", name, runs] => bench(program(name)?, seed(runs)?),
+        ["listing" | "passes"] => write(answer(program(words[0])?, &input()?, reading)?.as_bytes()),
+        _ => Err(unknown("command", &words.join(" "))),
+    }
+}
+
+fn unknown(what: &str, name: &str) -> String {
+    format!("no {what} `{name}`: see oracle --help")
+}
+
+fn program(name: &str) -> Result<Program, String> {
+    match name {
+        "listing" => Ok(Program::Listing),
+        "passes" => Ok(Program::Passes),
+        _ => Err(unknown("program", name)),
+    }
+}
+
+fn kind(name: &str) -> Result<Kind, String> {
+    Kind::of(name).ok_or_else(|| unknown("kind of inputs", name))
+}
+
+fn seed(word: &str) -> Result<u64, String> {
+    word.parse().map_err(|_| format!("not a number: {word}"))
+}
+
+fn input() -> Result<Vec<u8>, String> {
+    let mut text = Vec::new();
+    io::stdin().read_to_end(&mut text).map_err(|error| format!("standard input: {error}"))?;
+    Ok(text)
+}
+
+fn write(text: &[u8]) -> Result<(), String> {
+    io::stdout().write_all(text).map_err(|error| format!("standard output: {error}"))
+}
+
+fn write_all(parts: impl Iterator<Item = Answer>) -> Result<(), String> {
+    let mut out = io::BufWriter::new(io::stdout().lock());
+    for part in parts {
+        let written = out.write_all(part?.as_bytes()).and_then(|()| out.write_all(SEPARATOR));
+        written.map_err(|error| format!("standard output: {error}"))?;
+    }
+    out.flush().map_err(|error| format!("standard output: {error}"))
+}
+
+fn batch(program: Program, reading: bool) -> Result<(), String> {
+    let text = input()?;
+    let mut inputs: Vec<Vec<u8>> = vec![Vec::new()];
+    for line in text.split_inclusive(|byte| *byte == b'\n') {
+        match (line == SEPARATOR, inputs.last_mut()) {
+            (false, Some(last)) => last.extend_from_slice(line),
+            _ => inputs.push(Vec::new()),
+        }
+    }
+    // Text after the last separator is an input too, unless there is none.
+    if inputs.last().is_some_and(Vec::is_empty) {
+        inputs.pop();
+    }
+    write_all(inputs.iter().map(|input| answer(program, input, reading)))
+}
+
+fn generate(kind: Kind, from: u64, to: u64) -> Result<(), String> {
+    let mut out = io::BufWriter::new(io::stdout().lock());
+    for (_, input) in kind.inputs(from, to) {
+        let written = out.write_all(&input).and_then(|()| out.write_all(SEPARATOR));
+        written.map_err(|error| format!("standard output: {error}"))?;
+    }
+    out.flush().map_err(|error| format!("standard output: {error}"))
+}
+
+fn answers(kind: Kind, from: u64, to: u64, reading: bool) -> Result<(), String> {
+    write_all(kind.inputs(from, to).map(|(_, input)| answer(kind.program(), &input, reading)))
+}
+
+fn compare(kind: Kind, from: u64, to: u64, folder: &Path, command: &[String]) -> Result<(), String> {
+    let Compared { rust, plain, differences } = compare::compare(kind, from, to, folder, command)?;
+    let name = kind.name();
+    write(
+        format!("{name}: {rust} compared with the Rust, {plain} with the plain reader, {differences} differences\n")
+            .as_bytes(),
+    )?;
+    match differences {
+        0 => Ok(()),
+        _ => Err(format!("{differences} differences in {}", folder.display())),
+    }
+}
+
+/// The time of one run, the shortest of five rounds.
+fn time(runs: u64, mut run: impl FnMut()) -> u128 {
+    let round = |run: &mut dyn FnMut()| {
+        let start = Instant::now();
+        (0..runs).for_each(|_| run());
+        start.elapsed().as_nanos() / u128::from(runs)
+    };
+    (0..5).map(|_| round(&mut run)).min().unwrap_or(0)
+}
+
+fn bench(program: Program, runs: u64) -> Result<(), String> {
+    let text = input()?;
+    let runs = runs.max(1);
+    let times = match program {
+        Program::Listing => {
+            let input = oracle::reader::read(&text).map_err(|_| "a bad input cannot be timed")?;
+            let compile = time(runs, || drop(black_box(oracle::listing::compile(&input))));
+            format!("compile,{compile}\n")
+        }
+        Program::Passes => {
+            let request = oracle::alone::read(&text).map_err(|_| "a bad input cannot be timed")?;
+            let rewritten = oracle::alone::rewrite(&request);
+            let optimize = time(runs, || drop(black_box(oracle::alone::rewrite(&request))));
+            let remap = time(runs, || drop(black_box(oracle::alone::remap(&request, &rewritten))));
+            format!("optimize,{optimize}\nremap_line_map,{remap}\n")
+        }
+    };
+    write(times.as_bytes())
+}

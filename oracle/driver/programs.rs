@@ -1,0 +1,432 @@
+//! Whole programs at random: the listing program's inputs.
+
+use oracle::limits::PROGRAM_BYTES;
+
+use crate::head;
+use crate::limits;
+use crate::random::Random;
+
+/// What a program is made of.
+#[derive(Clone, Copy)]
+struct Style {
+    statements: &'static [(usize, u8)],
+    /// How deep statements and expressions go, how many lines about there are, how many variables and loop numbers.
+    depth: usize,
+    lines: usize,
+    variables: usize,
+    loops: usize,
+    /// In a hundred: an EXIT or CONTINUE of a loop that is not open.
+    astray: usize,
+}
+
+const MIXED: Style = Style {
+    statements: &[(6, b'A'), (3, b'I'), (2, b'S'), (2, b'F'), (3, b'L'), (2, b'X'), (2, b'N'), (1, b'R')],
+    depth: 6,
+    lines: 60,
+    variables: 3,
+    loops: 2,
+    astray: 0,
+};
+const LOOPS: Style = Style { statements: &[(2, b'A'), (1, b'I'), (1, b'F'), (6, b'L'), (2, b'X'), (2, b'N')], ..MIXED };
+const CASES: Style = Style { statements: &[(2, b'A'), (5, b'S'), (1, b'L'), (1, b'X'), (1, b'N')], ..MIXED };
+const COUNTS: Style = Style { statements: &[(2, b'A'), (5, b'F'), (1, b'X'), (2, b'N')], ..MIXED };
+const FOLDS: Style =
+    Style { statements: &[(9, b'A'), (1, b'I'), (1, b'L'), (1, b'F'), (1, b'S')], variables: 2, depth: 4, ..MIXED };
+const SUMS: Style = Style { statements: &[(4, b'A'), (1, b'I')], depth: 10, lines: 90, ..MIXED };
+const LARGE: Style = Style { lines: 700, depth: 9, ..MIXED };
+const ASTRAY: Style = Style { astray: 8, lines: 30, ..LOOPS };
+
+/// The input of this seed.
+pub fn input(seed: u64) -> Vec<u8> {
+    let random = &mut Random::new(seed);
+    if seed % 16 == 15 {
+        return with_head(random, limits::program);
+    }
+    match seed % 9 {
+        0 => with_head(random, |random| program(random, MIXED)),
+        1 => with_head(random, |random| program(random, LOOPS)),
+        2 => with_head(random, |random| program(random, CASES)),
+        3 => with_head(random, |random| program(random, COUNTS)),
+        4 => with_head(random, |random| program(random, FOLDS)),
+        5 => with_head(random, |random| program(random, SUMS)),
+        6 => with_head(random, |random| program(random, ASTRAY)),
+        7 if seed % 18 == 7 => with_head(random, |random| program(random, LARGE)),
+        7 if seed % 72 == 16 => with_head(random, long),
+        7 => with_head(random, deep),
+        _ => damaged(random),
+    }
+}
+
+fn with_head(random: &mut Random, program: impl FnOnce(&mut Random) -> Vec<String>) -> Vec<u8> {
+    let (sheet, rules) = (head::sheet(random), head::rules(random));
+    let mut text = head::head(&sheet, &rules);
+    program(random).iter().for_each(|line| text.extend([line.as_str(), "\n"]));
+    text.into_bytes()
+}
+
+fn program(random: &mut Random, style: Style) -> Vec<String> {
+    // Few positions, so that one often equals the last entry's.
+    let positions = random.pick(&[1, 2, 3]);
+    let mut writer = Writer { random, style, positions, lines: vec![String::new()], open: Vec::new(), assigned: 0 };
+    let mut count = 0;
+    while count == 0 || (writer.left() > 0 && writer.random.percent(90)) {
+        writer.statement(1);
+        count += 1;
+    }
+    writer.lines[0] = format!("P,{},{count},{}", style.variables, writer.position());
+    writer.lines
+}
+
+/// What stands in a block that an IF of a loop's shape, or nearly, holds.
+#[derive(Clone, Copy)]
+enum Piece {
+    Exit,
+    ExitOther,
+    Continue,
+    Any,
+}
+
+struct Writer<'r> {
+    random: &'r mut Random,
+    style: Style,
+    positions: usize,
+    lines: Vec<String>,
+    /// The open loops' numbers.
+    open: Vec<usize>,
+    /// The variable that the last assignment stores to.
+    assigned: usize,
+}
+
+impl Writer<'_> {
+    fn left(&self) -> usize {
+        self.style.lines.saturating_sub(self.lines.len())
+    }
+
+    fn line(&mut self, line: String) {
+        self.lines.push(line);
+    }
+
+    fn position(&mut self) -> String {
+        format!("{},{}", self.random.below(self.positions), self.random.below(self.positions))
+    }
+
+    fn variable(&mut self) -> usize {
+        self.random.below(self.style.variables)
+    }
+
+    /// A variable to read: often the one stored last, so that loads fold.
+    fn source(&mut self) -> usize {
+        if self.random.percent(40) {
+            self.assigned
+        } else {
+            self.variable()
+        }
+    }
+
+    fn value(&mut self) -> i32 {
+        self.random.pick(&[0, 1, 1, 2, 3, 5, -1, -7, 100, i32::MAX, i32::MIN])
+    }
+
+    fn statement(&mut self, depth: usize) {
+        let leaf = depth >= self.style.depth || self.left() == 0;
+        let kind = if leaf { self.random.pick(b"AAAXNR") } else { self.random.weigh(self.style.statements) };
+        match kind {
+            b'A' => self.assign(depth),
+            b'I' => self.choice(depth),
+            b'S' => self.case(depth),
+            b'F' => self.count(depth),
+            b'L' => self.repeats(depth),
+            b'X' | b'N' => self.jump(depth, kind),
+            _ => self.returns(),
+        }
+    }
+
+    fn assign(&mut self, depth: usize) {
+        let (position, variable) = (self.position(), self.variable());
+        self.line(format!("A,{position},{variable}"));
+        self.expression(depth + 1);
+        self.assigned = variable;
+    }
+
+    fn returns(&mut self) {
+        let position = self.position();
+        self.line(format!("R,{position}"));
+    }
+
+    /// A jump out of an open loop, if there is one.
+    fn jump(&mut self, depth: usize, letter: u8) {
+        let astray = self.random.percent(self.style.astray);
+        match self.open.len() {
+            0 if !astray => self.assign(depth),
+            _ if astray => self.jump_of(letter, self.style.loops),
+            open => {
+                let at = self.random.below(open);
+                self.jump_of(letter, self.open[at]);
+            }
+        }
+    }
+
+    fn jump_of(&mut self, letter: u8, id: usize) {
+        let position = self.position();
+        self.line(format!("{},{position},{id}", letter as char));
+    }
+
+    /// How many statements a block is given.
+    fn few(&mut self) -> usize {
+        match self.left() {
+            0 => 0,
+            _ => self.random.pick(&[0, 1, 1, 2, 3]),
+        }
+    }
+
+    fn block(&mut self, count: usize, depth: usize) {
+        (0..count).for_each(|_| self.statement(depth));
+    }
+
+    fn choice(&mut self, depth: usize) {
+        let (position, then, other) = (self.position(), self.few(), self.few());
+        self.line(format!("I,{position},{then},{other}"));
+        self.condition(depth + 1);
+        self.block(then + other, depth + 1);
+    }
+
+    fn case(&mut self, depth: usize) {
+        let (position, arms, other) = (self.position(), self.random.below(4), self.few());
+        self.line(format!("S,{position},{arms},{other}"));
+        self.expression(depth + 1);
+        for _ in 0..arms {
+            self.arm(depth + 1);
+        }
+        self.block(other, depth + 1);
+    }
+
+    /// One in four has no label, and then jumps that lead nowhere do no harm.
+    fn arm(&mut self, depth: usize) {
+        let (labels, body) = (self.random.pick(&[0, 1, 2, 3]), self.few());
+        self.line(format!("M,{labels},{body}"));
+        for _ in 0..labels {
+            let (low, high, single) = (self.value(), self.value(), self.random.percent(50));
+            self.line(if single { format!("Q,{low}") } else { format!("G,{low},{high}") });
+        }
+        let astray = self.style.astray;
+        if labels == 0 {
+            self.style.astray = 30;
+        }
+        self.block(body, depth);
+        self.style.astray = astray;
+    }
+
+    fn count(&mut self, depth: usize) {
+        let (position, id, variable, body) = (self.position(), self.loop_number(), self.variable(), self.few());
+        let step = self.random.pick(&[1, 1, 2, -1, -3, 0, i32::MAX, i32::MIN]);
+        self.line(format!("F,{position},{id},{variable},{step},{body}"));
+        self.bound(depth + 1);
+        self.bound(depth + 1);
+        self.open.push(id);
+        self.block(body, depth + 1);
+        self.open.pop();
+    }
+
+    /// A FOR's start or end.
+    fn bound(&mut self, depth: usize) {
+        if self.random.percent(60) {
+            let value = self.value();
+            self.line(format!("K,{value}"));
+        } else {
+            self.expression(depth);
+        }
+    }
+
+    fn loop_number(&mut self) -> usize {
+        self.random.below(self.style.loops)
+    }
+
+    /// A loop: one in two has the shape of a WHILE or a REPEAT, one in four nearly has.
+    fn repeats(&mut self, depth: usize) {
+        let (position, id, body, continuing) = (self.position(), self.loop_number(), self.few(), self.few());
+        let near = self.random.percent(33);
+        let (head, tail) = match self.random.below(8) {
+            0..3 => (true, false),
+            3..6 => (false, true),
+            6 => (false, false),
+            _ => (true, true),
+        };
+        // A WHILE has no continuing, a REPEAT just its IF; near misses have more.
+        let continuing = if (head || tail) && !near { 0 } else { continuing };
+        let (inner, outer) = (body + usize::from(head), continuing + usize::from(tail));
+        self.line(format!("L,{position},{id},{inner},{outer}"));
+        self.open.push(id);
+        let first = if near { self.random.below(2) } else { 0 };
+        self.parts(head, first.min(body), body, depth + 1, id, near, true);
+        self.open.pop();
+        self.parts(tail, continuing, continuing, depth + 1, id, near, false);
+    }
+
+    /// `count` statements, and the IF with a loop's EXIT after the first `before` of them if there is one.
+    #[allow(clippy::too_many_arguments)]
+    fn parts(&mut self, has: bool, before: usize, count: usize, depth: usize, id: usize, near: bool, heads: bool) {
+        self.block(before, depth);
+        if has {
+            self.exit_if(depth, id, near, heads);
+        }
+        self.block(count - before, depth);
+    }
+
+    fn exit_if(&mut self, depth: usize, id: usize, near: bool, heads: bool) {
+        let pieces: [&[Piece]; 6] =
+            [&[], &[Piece::Exit], &[Piece::ExitOther], &[Piece::Continue], &[Piece::Exit, Piece::Any], &[Piece::Any]];
+        let (then, other) = match (near, heads) {
+            (true, _) => (self.random.pick(&pieces), self.random.pick(&pieces)),
+            (false, true) => (pieces[0], pieces[1]),
+            (false, false) => (pieces[1], pieces[0]),
+        };
+        let position = self.position();
+        self.line(format!("I,{position},{},{}", then.len(), other.len()));
+        self.condition(depth + 1);
+        then.iter().chain(other).for_each(|piece| self.piece(*piece, depth + 1, id));
+    }
+
+    fn piece(&mut self, piece: Piece, depth: usize, id: usize) {
+        match piece {
+            Piece::Exit => self.jump_of(b'X', id),
+            Piece::Continue => self.jump_of(b'N', id),
+            Piece::ExitOther => self.jump(depth, b'X'),
+            Piece::Any => self.statement(depth),
+        }
+    }
+
+    /// Most compare a variable with a constant, or nearly so.
+    fn condition(&mut self, depth: usize) {
+        if self.random.percent(25) || depth >= self.style.depth {
+            return self.expression(depth);
+        }
+        let comparison = self.random.below(6);
+        self.line(format!("C,{comparison}"));
+        let sides: [&[u8; 2]; 7] = [b"DK", b"DK", b"KD", b"KK", b"DD", b"DB", b"D-"];
+        for side in *self.random.pick(&sides) {
+            self.operand(side);
+        }
+    }
+
+    fn operand(&mut self, kind: u8) {
+        let line = match kind {
+            b'K' => format!("K,{}", self.value()),
+            b'D' => format!("D,{}", self.source()),
+            b'B' => format!("B,{}", self.random.below(2)),
+            // A negated constant is not one.
+            _ => format!("U,0\nK,{}", self.value()),
+        };
+        self.line(line);
+    }
+
+    fn expression(&mut self, depth: usize) {
+        let leaf = depth >= self.style.depth || self.left() == 0;
+        let kind = if leaf { self.random.pick(b"KDDB") } else { self.random.pick(b"KKDDDDBOOOUCHH") };
+        let (choices, sides) = match kind {
+            b'O' => (8, 2),
+            b'U' => (2, 1),
+            b'C' => (6, 2),
+            b'H' => (2, 2),
+            _ => return self.operand(kind),
+        };
+        let choice = self.random.below(choices);
+        self.line(format!("{},{choice}", kind as char));
+        (0..sides).for_each(|_| self.expression(depth + 1));
+    }
+}
+
+/// Blocks or operands nested to the limit, or one past it.
+fn deep(random: &mut Random) -> Vec<String> {
+    let depth = random.pick(&[20, 63, 64, 65]);
+    let mut lines = vec!["P,1,1,1,1".to_string()];
+    let blocks = if random.percent(50) { depth - 1 } else { 0 };
+    for level in 0..blocks {
+        lines.push(match random.below(4) {
+            0 => format!("I,{level},1,1,0\nB,1"),
+            1 => format!("I,{level},1,0,1\nC,2\nD,0\nK,{level}"),
+            2 => format!("S,{level},1,1,0\nD,0\nM,1,1\nQ,{level}"),
+            _ => format!("L,{level},1,{level},1,0"),
+        });
+    }
+    // The assignment's value stands one deeper.
+    lines.push("A,99,1,0".to_string());
+    for _ in blocks + 2..depth {
+        let line = random.pick(&["U,0", "O,0\nD,0", "C,2\nK,5", "H,0\nB,1", "H,1\nD,0", "O,1\nD,0"]);
+        lines.push(line.to_string());
+    }
+    lines.push("D,0".to_string());
+    lines
+}
+
+/// A program at the limit of its bytes, or one over it.
+fn long(random: &mut Random) -> Vec<String> {
+    let bytes = PROGRAM_BYTES + random.below(2);
+    let (header, line) = ("P,0,10920,1,1", "R,1,1");
+    // The lines fall short by a few bytes, which wider positions make up.
+    let count = 10_920;
+    let short = bytes - (header.len() + 1) - count * (line.len() + 1);
+    let widened = |at: usize| if at < short { "R,10,1" } else { line };
+    [header].into_iter().chain((0..count).map(widened)).map(String::from).collect()
+}
+
+/// A good input with a few bytes or lines of it changed.
+fn damaged(random: &mut Random) -> Vec<u8> {
+    let style = Style { lines: 12, ..MIXED };
+    let mut text = with_head(random, |random| program(random, style));
+    for _ in 0..random.pick(&[1, 1, 2, 3]) {
+        damage(random, &mut text);
+    }
+    text
+}
+
+fn damage(random: &mut Random, text: &mut Vec<u8>) {
+    // Mostly in the program, which is shorter than what stands before it.
+    let program = text.windows(3).position(|bytes| bytes == b"\nP,").unwrap_or(0);
+    let from = if random.percent(70) { program } else { 0 };
+    let at = (from + random.below(text.len() - from + 1)).min(text.len());
+    let line = text[..at].iter().rposition(|byte| *byte == b'\n').map_or(0, |end| end + 1);
+    let next = text[at..].iter().position(|byte| *byte == b'\n').map_or(text.len(), |end| at + end + 1);
+    let odd = random.pick(b"0123456789,,,--+ \n\n\r\0\xffAISFLXNRKBDOUCHMQGP");
+    match random.below(11) {
+        0 | 1 if at < text.len() => text[at] = odd,
+        2 => text.insert(at, odd),
+        3 if at < text.len() => {
+            text.remove(at);
+        }
+        4 => {
+            text.drain(line..next);
+        }
+        5 => {
+            let copy = text[line..next].to_vec();
+            text.splice(line..line, copy);
+        }
+        6 => text.truncate(at),
+        7 => {
+            let long =
+                random.pick(&["65536", "256", "2147483648", "4294967297", "18446744073709551617", "-1", "01", ""]);
+            let start = text[at..].iter().position(u8::is_ascii_digit).map_or(text.len(), |start| at + start);
+            let end =
+                text[start..].iter().position(|byte| !byte.is_ascii_digit()).map_or(text.len(), |end| start + end);
+            text.splice(start..end, long.bytes());
+        }
+        8 => text.extend_from_slice(random.pick(&[b"\n".as_slice(), b"K,1\n", b"R,1,1\n", b"x"])),
+        9 => recount(random, text),
+        _ => swap_bytes(random, text),
+    }
+}
+
+/// Another rule count line.
+fn recount(random: &mut Random, text: &mut Vec<u8>) {
+    let mut lines = text.splitn(3, |byte| *byte == b'\n');
+    if let (Some(sheet), Some(_), Some(rest)) = (lines.next(), lines.next(), lines.next()) {
+        let count = random.pick(&["0", "1", "2", "64", "65", "00", "", "-1", "4294967296"]);
+        *text = [sheet, b"\n", count.as_bytes(), b"\n", rest].concat();
+    }
+}
+
+fn swap_bytes(random: &mut Random, text: &mut [u8]) {
+    if !text.is_empty() {
+        let (a, b) = (random.below(text.len()), random.below(text.len()));
+        text.swap(a, b);
+    }
+}

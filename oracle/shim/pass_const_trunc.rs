@@ -1,0 +1,11 @@
+//! Stands for the third pass.
+
+use std::collections::HashSet;
+
+use super::pass_self_assign::apply_rules;
+use super::OffsetMap;
+use crate::compile::PoolConstant;
+
+pub(super) fn apply(bytecode: &[u8], protected: &HashSet<usize>, _constants: &[PoolConstant]) -> (Vec<u8>, OffsetMap) {
+    apply_rules(3, bytecode, protected)
+}
