@@ -1,0 +1,231 @@
+-- Numbers: counting up to the cap decides what the definition decides, and a field's number is within its bound.
+use mathlib.Core.Path.{_≡_, refl, ap, sym, _∙_}
+use mathlib.Core.Bool.{Bool, true, false, _&&_}
+use mathlib.Core.Option.{Option, some, none}
+use mathlib.Core.List.{List, [], _∷_}
+use Prim.Native.Nat.{ℕ, zero, suc, _+_, _-_, _*_, _^_, _≤_, _<_, min}
+use native.Mathlib.Numerals.{add-one}
+use native.Mathlib.Nat.{le-of-lt, lt-of-lt-of-le, pow-le-pow-right}
+use native.Mathlib.Omega.{arith, min-cases}
+use borrow.Author.Tests.{le-leb, lt-leb, lt-ltb, le-ltb, eq-eqb, ne-eqb, ltb-true, leb-true}
+use lib.Dec.{leb, ltb, eqb, leb·suc-suc}
+use lib.ListN.{length, getD, take, drop, length-drop, drop-of-length-le}
+use lib.Seq.{drop-cons, take-all}
+use lib.Pow.{pow-pos}
+use Rattle.definition.specs.Field as def
+use Rattle.definition.specs.Field.{digit0, digit9, digits, natural, within, naturalWithin, negative, signed, field, upTo, below, value, malformed, outside, is}
+use Rattle.field.specs.declared.Read.{Read}
+use Rattle.field.specs.declared.Read.the-variants.{Is}
+use Rattle.field.specs.View.{readOf, cap, capped}
+
+-- ---- counting
+
+-- `digits`, counted up to the cap
+unfoldable pub count : ℕ → List ℕ → Option ℕ
+count n [] = some n
+count n (b ∷ bs) = elim (leb digit0 b && leb b digit9) [ true ↦ count (min (n * 10 + (b - digit0)) cap) bs | false ↦ none ]
+
+step : (m d : ℕ) → min (min m cap * 10 + d) cap ≡ min (m * 10 + d) cap
+step m d = omega arith
+
+count-digits : (m : ℕ) (bs : List ℕ) → count (min m cap) bs ≡ capped (digits m bs)
+unfolding count digits capped
+count-digits m [] = refl
+count-digits m (b ∷ bs) =
+    elim (leb digit0 b && leb b digit9)
+    as (λ t. elim t [ true ↦ count (min (min m cap * 10 + (b - digit0)) cap) bs | false ↦ none ] ≡ capped (elim t [ true ↦ digits (m * 10 + (b - digit0)) bs | false ↦ none ]))
+    [ true ↦ rw (step m (b - digit0)) (count-digits (m * 10 + (b - digit0)) bs) | false ↦ refl ]
+
+pub natural-empty : (bs : List ℕ) → length bs ≡ 0 → none ≡ capped (natural bs)
+unfolding natural capped
+natural-empty [] h = refl
+natural-empty (b ∷ bs) h = absurd (omega arith)
+
+pub natural-zero : (bs : List ℕ) → 1 < length bs → getD bs 0 0 ≡ 48 → none ≡ capped (natural bs)
+unfolding natural capped
+natural-zero [] h e = absurd (omega arith)
+natural-zero (b ∷ []) h e = absurd (omega arith)
+natural-zero (b ∷ c ∷ bs) h e = rw (natural, eq-eqb _ _ e, capped)
+
+pub natural-one : (bs : List ℕ) → (length bs ≡ 0 → ⊥) → length bs ≤ 1 → capped (natural bs) ≡ count 0 bs
+unfolding natural
+natural-one [] n h = absurd (n refl)
+natural-one (b ∷ []) n h = sym (count-digits 0 (b ∷ []))
+natural-one (b ∷ c ∷ bs) n h = absurd (omega arith)
+
+pub natural-more : (bs : List ℕ) → (length bs ≡ 0 → ⊥) → (getD bs 0 0 ≡ 48 → ⊥) → capped (natural bs) ≡ count 0 bs
+unfolding natural
+natural-more [] n h = absurd (n refl)
+natural-more (b ∷ []) n h = sym (count-digits 0 (b ∷ []))
+natural-more (b ∷ c ∷ bs) n h = rw (natural, ne-eqb _ _ h) (sym (count-digits 0 (b ∷ c ∷ bs)))
+
+-- what stands at a place of the bytes
+module _ (bs : List ℕ) (n i : ℕ) where
+  pub count-end : length bs ≤ i → count n (drop i bs) ≡ some n
+  unfolding count
+  count-end h = rw (drop-of-length-le bs h)
+
+  pub count-low : i < length bs → getD bs i 0 < 48 → count n (drop i bs) ≡ none
+  unfolding count
+  count-low h l = rw (drop-cons bs i 0 h, count, lt-leb _ _ l)
+
+  pub count-high : i < length bs → 57 < getD bs i 0 → count n (drop i bs) ≡ none
+  unfolding count
+  count-high h l = rw (drop-cons bs i 0 h, count, le-leb digit0 (getD bs i 0) (omega arith), lt-leb _ _ l)
+
+  pub count-next : i < length bs → 48 ≤ getD bs i 0 → getD bs i 0 ≤ 57 → count n (drop i bs) ≡ count (min (n * 10 + (getD bs i 0 - 48)) cap) (drop (i + 1) bs)
+  unfolding count
+  count-next h l u = rw (add-one, drop-cons bs i 0 h, count, le-leb _ _ l, le-leb _ _ u)
+
+-- ---- a number within its bound, whether counted up to the cap or not
+
+module _ (limit : ℕ) (low : limit ≤ cap) where
+  within-capped : (n : ℕ) → within (ltb (min n cap) limit) (min n cap) ≡ within (ltb n limit) n
+  unfolding within
+  within-capped n =
+      min-cases n cap (within (ltb (min n cap) limit) (min n cap) ≡ within (ltb n limit) n)
+      (λ h e. rw e)
+      (λ h e. rw (e, le-ltb cap limit low, le-ltb n limit (omega arith)))
+
+  pub capped-within : (o : Option ℕ) → naturalWithin (λ n. ltb n limit) (capped o) ≡ naturalWithin (λ n. ltb n limit) o
+  unfolding naturalWithin capped
+  capped-within none = refl
+  capped-within (some n) = within-capped n
+
+module _ (w : ℕ) (low : 2 ^ (w - 1) < cap) where
+  capped-negative : (o : Option ℕ) → negative w (capped o) ≡ negative w o
+  unfolding negative capped within
+  capped-negative none = refl
+  capped-negative (some zero) = refl
+  capped-negative (some (suc n)) =
+      min-cases (suc n) cap (negative w (some (min (suc n) cap)) ≡ negative w (some (suc n)))
+      (λ h e. rw e)
+      (λ h e. rw (e, negative, le-ltb (cap - 1) (2 ^ (w - 1)) (omega arith), le-ltb n (2 ^ (w - 1)) (omega arith)))
+
+-- a number that was counted, taken by cases
+module _ {o : Option ℕ} {k : ℕ} (e : o ≡ some k) where
+  module _ (limit : ℕ) where
+    pub within-below : k < limit → is k ≡ naturalWithin (λ n. ltb n limit) o
+    unfolding naturalWithin within
+    within-below h = rw (e, lt-ltb _ _ h)
+
+    pub within-past : limit ≤ k → outside ≡ naturalWithin (λ n. ltb n limit) o
+    unfolding naturalWithin within
+    within-past h = rw (e, le-ltb _ _ h)
+
+  module _ (w : ℕ) where
+    pub negative-zero : k ≡ 0 → malformed ≡ negative w o
+    unfolding negative
+    negative-zero h = rw (e, h)
+
+    pub negative-within : (k ≡ 0 → ⊥) → k ≤ 2 ^ (w - 1) → is (2 ^ w - k) ≡ negative w o
+    unfolding negative within
+    negative-within n h = rw e (go k n h)
+      where
+        go : (j : ℕ) → (j ≡ 0 → ⊥) → j ≤ 2 ^ (w - 1) → is (2 ^ w - j) ≡ negative w (some j)
+        go zero n h = absurd (n refl)
+        go (suc j) n h = rw (lt-ltb j (2 ^ (w - 1)) h)
+
+    pub negative-past : 2 ^ (w - 1) < k → outside ≡ negative w o
+    unfolding negative within
+    negative-past h = rw e (go k h)
+      where
+        go : (j : ℕ) → 2 ^ (w - 1) < j → outside ≡ negative w (some j)
+        go zero h = absurd (omega arith)
+        go (suc j) h = rw (le-ltb j (2 ^ (w - 1)) (omega arith))
+
+module _ {o : Option ℕ} (e : o ≡ none) where
+  pub within-none : (ok : ℕ → Bool) → malformed ≡ naturalWithin ok o
+  unfolding naturalWithin
+  within-none ok = rw e
+
+  pub negative-none : (w : ℕ) → malformed ≡ negative w o
+  unfolding negative
+  negative-none w = rw e
+
+up-to-below : (m : ℕ) (o : Option ℕ) → naturalWithin (λ n. leb n m) o ≡ naturalWithin (λ n. ltb n (m + 1)) o
+unfolding naturalWithin
+up-to-below m none = refl
+up-to-below m (some n) = rw (add-one m, leb·suc-suc)
+
+pub below-up-to : (m : ℕ) (bs : List ℕ) → field (below (suc m)) bs ≡ field (upTo m) bs
+unfolding field
+below-up-to m bs = rw (← add-one m) (sym (up-to-below m (natural bs)))
+
+-- what each function answers, from what those that it calls answer
+module _ (bs : List ℕ) {o : Option ℕ} (is-o : o ≡ capped (natural bs)) {x : def.Read} where
+  pub up-to-is : (m : ℕ) → m + 1 ≤ cap → x ≡ naturalWithin (λ n. ltb n (m + 1)) o → x ≡ field (upTo m) bs
+  unfolding field
+  up-to-is m low e = e ∙ ap (naturalWithin (λ n. ltb n (m + 1))) is-o ∙ capped-within (m + 1) low (natural bs) ∙ sym (up-to-below m (natural bs))
+
+  pub below-is : (m : ℕ) → m ≤ cap → x ≡ naturalWithin (λ n. ltb n m) o → x ≡ field (below m) bs
+  unfolding field
+  below-is m low e = e ∙ ap (naturalWithin (λ n. ltb n m)) is-o ∙ capped-within m low (natural bs)
+
+signed-plain : (w : ℕ) (bs : List ℕ) → (getD bs 0 0 ≡ 45 → ⊥) → signed w bs ≡ naturalWithin (λ n. ltb n (2 ^ (w - 1))) (natural bs)
+unfolding signed naturalWithin natural
+signed-plain w [] h = refl
+signed-plain w (b ∷ bs) h = rw (signed, ne-eqb _ _ h)
+
+signed-minus : (w : ℕ) (bs : List ℕ) → getD bs 0 0 ≡ 45 → signed w bs ≡ negative w (natural (drop 1 bs))
+unfolding signed
+signed-minus w [] h = absurd (omega arith)
+signed-minus w (b ∷ bs) h = rw (signed, eq-eqb _ _ h)
+
+pub no-minus : (bs : List ℕ) → length bs ≤ 0 → getD bs 0 0 ≡ 45 → ⊥
+no-minus [] h e = omega arith
+no-minus (b ∷ bs) h e = omega arith
+
+module _ (w : ℕ) (bs : List ℕ) {o : Option ℕ} (low : 2 ^ (w - 1) < cap) {x : def.Read} where
+  pub value-plain : o ≡ capped (natural bs) → (getD bs 0 0 ≡ 45 → ⊥) → x ≡ naturalWithin (λ n. ltb n (2 ^ (w - 1))) o → x ≡ field (value w) bs
+  unfolding field
+  value-plain is-o h e = e ∙ ap (naturalWithin (λ n. ltb n (2 ^ (w - 1)))) is-o ∙ capped-within (2 ^ (w - 1)) (le-of-lt low) (natural bs) ∙ sym (signed-plain w bs h)
+
+  pub value-minus : o ≡ capped (natural (take (length bs - 1) (drop 1 bs))) → getD bs 0 0 ≡ 45 → x ≡ negative w o → x ≡ field (value w) bs
+  unfolding field
+  value-minus is-o h e =
+      let all : take (length bs - 1) (drop 1 bs) ≡ drop 1 bs = take-all (length bs - 1) (drop 1 bs) (omega (arith, length-drop 1 bs)) in
+      e ∙ ap (negative w) (is-o ∙ ap (λ (l : List ℕ). capped (natural l)) all) ∙ capped-negative w low (natural (drop 1 bs)) ∙ sym (signed-minus w bs h)
+
+-- ---- a field's number is within its bound
+
+within-is : (t : Bool) (k n : ℕ) → within t k ≡ is n → (t ≡ true) × (k ≡ n)
+unfolding within
+within-is true k n e = (refl, cc)
+within-is false k n e = absurd (let z : _≡_ {A = ℕ} 0 1 = cc in omega arith)
+
+natural-is : (ok : ℕ → Bool) (o : Option ℕ) (n : ℕ) → naturalWithin ok o ≡ is n → ok n ≡ true
+unfolding naturalWithin
+natural-is ok none n e = absurd (let z : _≡_ {A = ℕ} 0 1 = cc in omega arith)
+natural-is ok (some k) n e = let p = within-is (ok k) k n e in ap ok (sym (p .1)) ∙ p .0
+
+negative-is : (w : ℕ) (o : Option ℕ) (n : ℕ) → negative w o ≡ is n → n < 2 ^ w
+unfolding negative
+negative-is w none n e = absurd (let z : _≡_ {A = ℕ} 0 1 = cc in omega arith)
+negative-is w (some zero) n e = absurd (let z : _≡_ {A = ℕ} 0 1 = cc in omega arith)
+negative-is w (some (suc k)) n e =
+    let p = within-is (ltb k (2 ^ (w - 1))) (2 ^ w - suc k) n e in
+    omega (arith, p .1, pow-pos w)
+
+-- `field .. ≡ is n` from what a function of this crate answers
+pub read-is : {r : Read} {f : def.Read} {n : ℕ} → readOf r ≡ f → r ≡ Is n → f ≡ is n
+read-is a b = sym a ∙ ap readOf b
+
+module _ (bs : List ℕ) {n : ℕ} where
+  pub up-to-bound : (m : ℕ) → field (upTo m) bs ≡ is n → n ≤ m
+  unfolding field
+  up-to-bound m e = leb-true n m (natural-is (λ k. leb k m) (natural bs) n e)
+
+  pub below-bound : (m : ℕ) → field (below m) bs ≡ is n → n < m
+  unfolding field
+  below-bound m e = ltb-true n m (natural-is (λ k. ltb k m) (natural bs) n e)
+
+pub value-bound : (w : ℕ) (bs : List ℕ) {n : ℕ} → field (value w) bs ≡ is n → n < 2 ^ w
+unfolding field signed
+value-bound w [] = λ e. absurd (let z : _≡_ {A = ℕ} 0 1 = cc in omega arith)
+value-bound w (b ∷ bs) {n} =
+    elim (eqb b def.minus)
+    as (λ t. elim t [ true ↦ negative w (natural bs) | false ↦ naturalWithin (λ k. ltb k (2 ^ (w - 1))) (natural (b ∷ bs)) ] ≡ is n → n < 2 ^ w) [
+      | true ↦ negative-is w (natural bs) n
+      | false ↦ λ e. lt-of-lt-of-le (ltb-true n (2 ^ (w - 1)) (natural-is (λ k. ltb k (2 ^ (w - 1))) (natural (b ∷ bs)) n e)) (pow-le-pow-right {n = 2} (omega arith) {i = w - 1} (omega arith))
+    ]

@@ -1,0 +1,156 @@
+-- Parts: what `split` gives, walked from one end of a part to the next.
+use mathlib.Core.Path.{_≡_, refl, ap, sym, _∙_}
+use mathlib.Core.Bool.{Bool, true, false}
+use mathlib.Core.List.{List, [], _∷_}
+use Prim.Native.Nat.{ℕ, zero, suc, _+_, _-_, _≤_, _<_}
+use native.Mathlib.Numerals.{add-one}
+use mathlib.Core.Logic.{⊎-elim}
+use native.Mathlib.Omega.{arith}
+use native.Mathlib.Nat.{eq-or-lt-of-le}
+use borrow.Author.Tests.{le-leb, lt-leb, eq-eqb, ne-eqb}
+use lib.Dec.{eqb, leb}
+use lib.ListN.{length, getD, take, drop, length-drop, drop-of-length-le}
+use lib.Seq.{drop-cons, drop-drop}
+use Rattle.definition.specs.Field.{lf, onto, split, firstLine}
+use Rattle.field.specs.View.{before, Ends}
+
+pub before-lf : (bs : List ℕ) → before lf bs ≡ firstLine bs
+unfolding before firstLine
+before-lf [] = refl
+before-lf (b ∷ bs) =
+    elim (eqb b lf) as (λ t. _≡_ {A = List ℕ} (elim t [ true ↦ [] | false ↦ b ∷ before lf bs ]) (elim t [ true ↦ [] | false ↦ b ∷ firstLine bs ]))
+    [ true ↦ refl | false ↦ ap (λ (l : List ℕ). b ∷ l) (before-lf bs) ]
+
+-- ---- the first part of some bytes
+module _ (sep : ℕ) where
+  pub before-short : (bs : List ℕ) → length (before sep bs) ≤ length bs
+  unfolding before
+  before-short [] = omega arith
+  before-short (b ∷ bs) =
+      elim (eqb b sep) as (λ t. length {A = ℕ} (elim t [ true ↦ [] | false ↦ b ∷ before sep bs ]) ≤ suc (length bs))
+      [ true ↦ omega arith | false ↦ omega (arith, before-short bs) ]
+
+  pub before-take : (bs : List ℕ) → take (length (before sep bs)) bs ≡ before sep bs
+  unfolding before
+  before-take [] = refl
+  before-take (b ∷ bs) =
+      elim (eqb b sep) as (λ t. take (length {A = ℕ} (elim t [ true ↦ [] | false ↦ b ∷ before sep bs ])) (b ∷ bs) ≡ elim t [ true ↦ [] | false ↦ b ∷ before sep bs ])
+      [ true ↦ refl | false ↦ ap (λ (l : List ℕ). b ∷ l) (before-take bs) ]
+
+  -- the parts: the first, and those of what follows it
+  pub split-last : (bs : List ℕ) → length bs ≤ length (before sep bs) → split sep bs ≡ before sep bs ∷ []
+  unfolding before split onto
+  split-last [] = λ h. refl
+  split-last (b ∷ bs) =
+      elim (eqb b sep)
+      as (λ t. length (b ∷ bs) ≤ length {A = ℕ} (elim t [ true ↦ [] | false ↦ b ∷ before sep bs ])
+      → _≡_ {A = List (List ℕ)} (elim t [ true ↦ [] ∷ split sep bs | false ↦ onto b (split sep bs) ]) ((elim t [ true ↦ [] | false ↦ b ∷ before sep bs ]) ∷ []))
+      [ true ↦ λ h. absurd (omega arith) | false ↦ λ h. rw (split-last bs (omega arith)) ]
+
+  pub split-more : (bs : List ℕ) → length (before sep bs) < length bs → split sep bs ≡ before sep bs ∷ split sep (drop (suc (length (before sep bs))) bs)
+  unfolding before split onto
+  split-more [] = λ h. absurd (omega arith)
+  split-more (b ∷ bs) =
+      elim (eqb b sep)
+      as (λ t. length {A = ℕ} (elim t [ true ↦ [] | false ↦ b ∷ before sep bs ]) < length (b ∷ bs)
+      → _≡_ {A = List (List ℕ)} (elim t [ true ↦ [] ∷ split sep bs | false ↦ onto b (split sep bs) ])
+      ((elim t [ true ↦ [] | false ↦ b ∷ before sep bs ]) ∷ split sep (drop (length {A = ℕ} (elim t [ true ↦ [] | false ↦ b ∷ before sep bs ])) bs)))
+      [ true ↦ λ h. refl | false ↦ λ h. rw (split-more bs (omega arith)) ]
+
+-- ---- the walk: a part ends at r, and the next starts at r + 1
+module _ (sep : ℕ) {bytes : List ℕ} {at r : ℕ} (e : Ends (before sep) bytes at r) where
+  part-long : r - at ≡ length (before sep (drop at bytes))
+  part-long = omega (arith, e .is)
+
+  pub part-is : take (r - at) (drop at bytes) ≡ before sep (drop at bytes)
+  part-is = rw part-long (before-take sep (drop at bytes))
+
+  pub parts-last : length bytes ≤ r → split sep (drop at bytes) ≡ take (r - at) (drop at bytes) ∷ []
+  parts-last h = rw part-is (split-last sep (drop at bytes) (omega (arith, e .is, length-drop at bytes)))
+
+  pub parts-more : r < length bytes → split sep (drop at bytes) ≡ take (r - at) (drop at bytes) ∷ split sep (drop (r + 1) bytes)
+  parts-more h =
+      let n = length (before sep (drop at bytes)) in
+      let far : at + suc n ≡ r + 1 = omega (arith, e .is) in
+      let next : drop (suc n) (drop at bytes) ≡ drop (r + 1) bytes = drop-drop (suc n) at bytes ∙ ap (λ (k : ℕ). drop k bytes) far in
+      rw (part-is, ← next) (split-more sep (drop at bytes) (omega (arith, e .is, length-drop at bytes)))
+
+pub part-line : {bytes : List ℕ} {at r : ℕ} → Ends (before lf) bytes at r → Ends firstLine bytes at r
+part-line {bytes} {at} e = record { is = e .is ∙ ap (λ (l : List ℕ). at + length l) (before-lf (drop at bytes)); low = e .low; high = e .high }
+
+module _ {bytes : List ℕ} {at r : ℕ} (e : Ends firstLine bytes at r) where
+  -- a line is a part between LFs
+  pub line-part : Ends (before lf) bytes at r
+  line-part = record { is = e .is ∙ ap (λ (l : List ℕ). at + length l) (sym (before-lf (drop at bytes))); low = e .low; high = e .high }
+
+  pub line-is : take (r - at) (drop at bytes) ≡ firstLine (drop at bytes)
+  line-is = part-is lf line-part ∙ before-lf (drop at bytes)
+
+-- ---- the same with no case for the last part: after it the next place lies past the end, and there are no parts
+unfoldable pub partsFrom : ℕ → List ℕ → ℕ → List (List ℕ)
+partsFrom sep bytes at = elim (leb at (length bytes)) [ true ↦ split sep (drop at bytes) | false ↦ [] ]
+
+module _ (sep : ℕ) (bytes : List ℕ) where
+  pub parts-whole : partsFrom sep bytes 0 ≡ split sep bytes
+  unfolding partsFrom
+  parts-whole = rw (partsFrom, le-leb 0 (length bytes) (omega arith))
+
+  pub parts-past : (at : ℕ) → length bytes < at → partsFrom sep bytes at ≡ []
+  unfolding partsFrom
+  parts-past at h = rw (partsFrom, lt-leb _ _ h)
+
+  pub parts-at : (at : ℕ) → at ≤ length bytes → partsFrom sep bytes at ≡ split sep (drop at bytes)
+  unfolding partsFrom
+  parts-at at h = rw (partsFrom, le-leb _ _ h)
+
+pub parts-next : (sep : ℕ) {bytes : List ℕ} {at r : ℕ} → Ends (before sep) bytes at r → at ≤ length bytes
+    → partsFrom sep bytes at ≡ take (r - at) (drop at bytes) ∷ partsFrom sep bytes (r + 1)
+parts-next sep {bytes} {at} {r} e h =
+    let inside : r ≤ length bytes = omega (arith, e .high) in
+    ⊎-elim
+    (λ last. parts-at sep bytes at h ∙ rw (parts-past sep bytes (r + 1) (omega arith)) (parts-last sep e (omega arith)))
+    (λ more. parts-at sep bytes at h ∙ rw (parts-at sep bytes (r + 1) (omega arith)) (parts-more sep e more))
+    (eq-or-lt-of-le inside)
+
+-- there is always a part
+pub data Some : List (List ℕ) → Type 0 where
+  some-part : {x : List ℕ} {xs : List (List ℕ)} → Some (x ∷ xs)
+
+onto-some : (b : ℕ) {xs : List (List ℕ)} → Some xs → Some (onto b xs)
+unfolding onto
+onto-some b some-part = some-part
+
+pub split-some : (sep : ℕ) (bs : List ℕ) → Some (split sep bs)
+unfolding split
+split-some sep [] = some-part
+split-some sep (b ∷ bs) =
+    elim (eqb b sep) as (λ t. Some (elim t [ true ↦ [] ∷ split sep bs | false ↦ onto b (split sep bs) ]))
+    [ true ↦ some-part | false ↦ onto-some b (split-some sep bs) ]
+
+-- ---- finding an end, byte by byte: `sep` does not stand before i
+pub record Finding (sep : ℕ) (bytes : List ℕ) (at i : ℕ) : Type 0 where
+  pub low : at ≤ i
+  pub high : i ≤ at + (length bytes - at)
+  pub more : at + length (before sep (drop at bytes)) ≡ i + length (before sep (drop i bytes))
+
+pub finds-start : (sep : ℕ) (bytes : List ℕ) (at : ℕ) → Finding sep bytes at at
+finds-start sep bytes at = record { low = omega arith; high = omega arith; more = refl }
+
+module _ {sep : ℕ} {bytes : List ℕ} {at i : ℕ} (f : Finding sep bytes at i) where
+  pub finds-next : i < length bytes → (getD bytes i 0 ≡ sep → ⊥) → Finding sep bytes at (i + 1)
+  unfolding before
+  finds-next h n =
+      let one : length (before sep (drop i bytes)) ≡ length (before sep (drop (i + 1) bytes)) + 1 = rw (add-one i, drop-cons bytes i 0 h, before, ne-eqb _ _ n) (omega arith) in
+      record { low = omega (arith, f .low); high = omega (arith, f .low, f .high); more = omega (arith, f .more) }
+
+  pub finds-here : i < length bytes → getD bytes i 0 ≡ sep → Ends (before sep) bytes at i
+  unfolding before
+  finds-here h e =
+      let none : length (before sep (drop i bytes)) ≡ 0 = rw (drop-cons bytes i 0 h, before, eq-eqb _ _ e) in
+      record { is = omega (arith, f .more); low = f .low; high = f .high }
+
+  pub finds-end : length bytes ≤ i → Ends (before sep) bytes at i
+  unfolding before
+  finds-end h =
+      let none : length (before sep (drop i bytes)) ≡ 0 = rw (drop-of-length-le bytes h) in
+      record { is = omega (arith, f .more); low = f .low; high = f .high }
