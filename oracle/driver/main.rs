@@ -43,7 +43,7 @@ fn main() -> ExitCode {
 }
 
 fn run() -> Result<(), String> {
-    let words: Vec<String> = std::env::args().skip(1).collect();
+    let words: Vec<String> = std::env::args_os().skip(1).map(|word| word.to_string_lossy().into()).collect();
     let switches = words.iter().take_while(|word| word.starts_with("--")).count();
     let (switches, words) = words.split_at(switches);
     let mut reading = false;

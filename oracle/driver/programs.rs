@@ -86,6 +86,15 @@ enum Piece {
     Any,
 }
 
+/// How a loop misses a shape: in the IF's blocks, by a longer continuing, or by where the IF stands.
+#[derive(Clone, Copy, PartialEq)]
+enum Miss {
+    Nothing,
+    Pieces,
+    Continuing,
+    Place,
+}
+
 struct Writer<'r> {
     random: &'r mut Random,
     style: Style,
@@ -144,7 +153,12 @@ impl Writer<'_> {
     fn assign(&mut self, depth: usize) {
         let (position, variable) = (self.position(), self.variable());
         self.line(format!("A,{position},{variable}"));
-        self.expression(depth + 1);
+        // A copy of what was stored last is folded into that store.
+        if self.random.percent(25) {
+            self.line(format!("D,{}", self.assigned));
+        } else {
+            self.expression(depth + 1);
+        }
         self.assigned = variable;
     }
 
@@ -241,56 +255,63 @@ impl Writer<'_> {
         self.random.below(self.style.loops)
     }
 
-    /// A loop: one in two has the shape of a WHILE or a REPEAT, one in four nearly has.
+    /// A loop. Most have the shape of a WHILE or a REPEAT, or nearly.
     fn repeats(&mut self, depth: usize) {
         let (position, id, body, continuing) = (self.position(), self.loop_number(), self.few(), self.few());
-        let near = self.random.percent(33);
-        let (head, tail) = match self.random.below(8) {
-            0..3 => (true, false),
-            3..6 => (false, true),
-            6 => (false, false),
-            _ => (true, true),
-        };
-        // A WHILE has no continuing, a REPEAT just its IF; near misses have more.
-        let continuing = if (head || tail) && !near { 0 } else { continuing };
+        let miss = self.random.weigh(&[(6, Miss::Nothing), (3, Miss::Pieces), (1, Miss::Continuing), (1, Miss::Place)]);
+        let (head, tail) =
+            self.random.weigh(&[(3, (true, false)), (3, (false, true)), (1, (false, false)), (1, (true, true))]);
+        let before = if miss == Miss::Place { body.min(1) } else { 0 };
+        let continuing = if (head || tail) && miss != Miss::Continuing { 0 } else { continuing };
         let (inner, outer) = (body + usize::from(head), continuing + usize::from(tail));
         self.line(format!("L,{position},{id},{inner},{outer}"));
         self.open.push(id);
-        let first = if near { self.random.below(2) } else { 0 };
-        self.parts(head, first.min(body), body, depth + 1, id, near, true);
-        self.open.pop();
-        self.parts(tail, continuing, continuing, depth + 1, id, near, false);
-    }
-
-    /// `count` statements, and the IF with a loop's EXIT after the first `before` of them if there is one.
-    #[allow(clippy::too_many_arguments)]
-    fn parts(&mut self, has: bool, before: usize, count: usize, depth: usize, id: usize, near: bool, heads: bool) {
-        self.block(before, depth);
-        if has {
-            self.exit_if(depth, id, near, heads);
+        self.block(before, depth + 1);
+        if head {
+            self.exit_if(depth + 1, id, miss, true);
         }
-        self.block(count - before, depth);
+        self.block(body - before, depth + 1);
+        self.open.pop();
+        self.block(continuing, depth + 1);
+        if tail {
+            self.exit_if(depth + 1, id, miss, false);
+        }
     }
 
-    fn exit_if(&mut self, depth: usize, id: usize, near: bool, heads: bool) {
+    /// The IF at a WHILE's head or a REPEAT's tail.
+    fn exit_if(&mut self, depth: usize, id: usize, miss: Miss, heads: bool) {
         let pieces: [&[Piece]; 6] =
             [&[], &[Piece::Exit], &[Piece::ExitOther], &[Piece::Continue], &[Piece::Exit, Piece::Any], &[Piece::Any]];
-        let (then, other) = match (near, heads) {
-            (true, _) => (self.random.pick(&pieces), self.random.pick(&pieces)),
-            (false, true) => (pieces[0], pieces[1]),
-            (false, false) => (pieces[1], pieces[0]),
-        };
+        let (mut empty, mut jump) = (pieces[0], pieces[1]);
+        if miss == Miss::Pieces {
+            jump = self.random.pick(&pieces);
+            empty = if self.random.percent(40) { self.random.pick(&pieces) } else { empty };
+        }
+        let (then, other) = if heads { (empty, jump) } else { (jump, empty) };
         let position = self.position();
         self.line(format!("I,{position},{},{}", then.len(), other.len()));
         self.condition(depth + 1);
         then.iter().chain(other).for_each(|piece| self.piece(*piece, depth + 1, id));
     }
 
+    /// An open loop of another number, if there is one.
+    fn other_loop(&mut self, id: usize) -> usize {
+        let others: Vec<usize> = self.open.iter().copied().filter(|open| *open != id).collect();
+        if others.is_empty() {
+            id
+        } else {
+            self.random.pick(&others)
+        }
+    }
+
     fn piece(&mut self, piece: Piece, depth: usize, id: usize) {
         match piece {
             Piece::Exit => self.jump_of(b'X', id),
             Piece::Continue => self.jump_of(b'N', id),
-            Piece::ExitOther => self.jump(depth, b'X'),
+            Piece::ExitOther => {
+                let other = self.other_loop(id);
+                self.jump_of(b'X', other);
+            }
             Piece::Any => self.statement(depth),
         }
     }
@@ -383,7 +404,7 @@ fn damage(random: &mut Random, text: &mut Vec<u8>) {
     // Mostly in the program, which is shorter than what stands before it.
     let program = text.windows(3).position(|bytes| bytes == b"\nP,").unwrap_or(0);
     let from = if random.percent(70) { program } else { 0 };
-    let at = (from + random.below(text.len() - from + 1)).min(text.len());
+    let at = from + random.below(text.len() - from + 1);
     let line = text[..at].iter().rposition(|byte| *byte == b'\n').map_or(0, |end| end + 1);
     let next = text[at..].iter().position(|byte| *byte == b'\n').map_or(text.len(), |end| at + end + 1);
     let odd = random.pick(b"0123456789,,,--+ \n\n\r\0\xffAISFLXNRKBDOUCHMQGP");
@@ -401,18 +422,22 @@ fn damage(random: &mut Random, text: &mut Vec<u8>) {
             text.splice(line..line, copy);
         }
         6 => text.truncate(at),
-        7 => {
-            let long =
-                random.pick(&["65536", "256", "2147483648", "4294967297", "18446744073709551617", "-1", "01", ""]);
-            let start = text[at..].iter().position(u8::is_ascii_digit).map_or(text.len(), |start| at + start);
-            let end =
-                text[start..].iter().position(|byte| !byte.is_ascii_digit()).map_or(text.len(), |end| start + end);
-            text.splice(start..end, long.bytes());
-        }
+        7 => renumber(random, text, at),
         8 => text.extend_from_slice(random.pick(&[b"\n".as_slice(), b"K,1\n", b"R,1,1\n", b"x"])),
         9 => recount(random, text),
         _ => swap_bytes(random, text),
     }
+}
+
+/// Another number for the next one.
+fn renumber(random: &mut Random, text: &mut Vec<u8>, at: usize) {
+    let digits = |from: usize, digit: bool| {
+        text[from..].iter().position(|byte| byte.is_ascii_digit() == digit).map_or(text.len(), |end| from + end)
+    };
+    let start = digits(at, true);
+    let end = digits(start, false);
+    let number = random.pick(&["65536", "256", "2147483648", "4294967297", "18446744073709551617", "-1", "01", ""]);
+    text.splice(start..end, number.bytes());
 }
 
 /// Another rule count line.

@@ -1,5 +1,5 @@
-//! What the published statements and expressions call for the parts that 01 leaves out. `LeftOut` has no value,
-//! so the compiler holds that none of this runs.
+//! What the published statements and expressions call for the parts that 01 leaves out. `LeftOut` has no value, so
+//! the compiler holds that none of this runs, but for conversions: the reader makes none, and one would be an error.
 
 use ironplc_ir::lowered::{Program, Stmt};
 use ironplc_ir::{Diagnostic, LeftOut, SourceSpan};
