@@ -1,7 +1,7 @@
 // Lines, fields and decimal numbers of lent bytes. A number of any length is one: it is counted up to a cap above every bound, so that nothing wraps
 // and what is malformed is told apart from what is out of its range.
 ghost use mathlib.Core.Path.{_≡_};
-ghost use Prim.Native.Nat.{ℕ, _≤_, _+_, _*_, min};
+ghost use Prim.Native.Nat.{_≤_, _+_, _*_, min};
 ghost use lib.Dec.{ltb};
 ghost use Rattle.definition.specs.Limits.{width};
 ghost use Rattle.definition.specs.Field.{comma, firstLine, natural, naturalWithin, negative, field, upTo, below, value};
@@ -20,7 +20,13 @@ enum Number {
     Is(u64),
 }
 
+// Where counting stops: above every value, of 64 bits too, and a power of ten, so that one test of the number before a digit decides.
 const CAP: u64 = 10000000000000000000;
+
+// How many values there are, and how many of them are negative.
+const VALUES: u64 = 4294967296;
+
+const NEGATIVES: u64 = 2147483648;
 
 // One digit more.
 fn add_digit(n: u64, digit: u8) -> u64
@@ -42,7 +48,7 @@ fn natural(bytes: &[u8]) -> Number
         return Number::Malformed;
     }
     if bytes.len() > 1 {
-        if bytes[0] == 48 {
+        if bytes[0] == b'0' {
             return Number::Malformed;
         }
     }
@@ -50,13 +56,13 @@ fn natural(bytes: &[u8]) -> Number
     let mut i = 0;
     while i < bytes.len() {
         let b = bytes[i];
-        if b < 48 {
+        if b < b'0' {
             return Number::Malformed;
         }
-        if b > 57 {
+        if b > b'9' {
             return Number::Malformed;
         }
-        n = add_digit(n, b - 48);
+        n = add_digit(n, b - b'0');
         i += 1;
     }
     Number::Is(n)
@@ -89,8 +95,8 @@ fn negative(number: Number) -> Read
             if n == 0 {
                 return Read::Malformed;
             }
-            if n <= 2147483648 {
-                Read::Is((4294967296 - n) as u32)
+            if n <= NEGATIVES {
+                Read::Is((VALUES - n) as u32)
             } else {
                 Read::Outside
             }
@@ -117,11 +123,11 @@ pub fn value(bytes: &[u8]) -> Read
     ensures { λ r. ⌜ readOf r ≡ field (value width) (now (bytes .entry)) ⌝ }
 {
     if bytes.len() > 0 {
-        if bytes[0] == 45 {
+        if bytes[0] == b'-' {
             return negative(natural(&bytes[1..]));
         }
     }
-    within(natural(bytes), 2147483648)
+    within(natural(bytes), NEGATIVES)
 }
 
 // Where the part that starts at `at` and ends before `sep` ends.
@@ -142,12 +148,12 @@ fn part_end(bytes: &[u8], at: usize, sep: u8) -> usize
 pub fn line_end(text: &[u8], at: usize) -> usize
     ensures { λ r. ⌜ Ends firstLine (now (text .entry)) at r ⌝ }
 {
-    part_end(text, at, 10)
+    part_end(text, at, b'\n')
 }
 
 // Where the field that starts at `at` of a line ends: its comma, or the line's end.
 pub fn field_end(line: &[u8], at: usize) -> usize
     ensures { λ r. ⌜ Ends (before comma) (now (line .entry)) at r ⌝ }
 {
-    part_end(line, at, 44)
+    part_end(line, at, b',')
 }

@@ -1,0 +1,61 @@
+-- What the table of roles says, over plain values.
+use mathlib.Core.Path.{_≡_, refl}
+use Prim.Native.Nat.{ℕ, zero, suc, _+_, _-_, _<_, _≤_}
+use native.Mathlib.Numerals.{add-one, sub-one}
+use native.Mathlib.Omega.{arith}
+use lib.Dec.{lit<}
+use mathlib.Core.List.{List, [], _∷_, map}
+use lib.ListN.{length, getD, List·getD-eq-default}
+use Rattle.definition.specs.Opcode as def
+use Rattle.definition.specs.Opcode.{compare, number, compareIndex, up, down, shift, roles, ret}
+use Rattle.definition.specs.Rules.{roleNumbered}
+use Rattle.opcode.specs.declared.BinaryOp.the-variants.{Add, Sub, Mul, Div, Mod, BoolAnd, BoolOr, BoolXor}
+use Rattle.opcode.specs.declared.UnaryOp.the-variants.{Neg, BoolNot}
+use Rattle.opcode.specs.declared.CompareOp.the-variants.{Eq, Ne, Lt, Le, Gt, Ge}
+use Rattle.opcode.specs.declared.Role.{Role}
+use Rattle.opcode.specs.declared.Role.the-variants.{Dup, Pop, LoadVar, StoreVar, LoadConst, LoadTrue, LoadFalse, Binary, Unary, Compare, Jmp, JmpIfNot, CmpBr, Ret}
+
+pub compare-number : (c : def.CompareOp) → number (compare c) ≡ 17 + compareIndex c
+unfolding number compareIndex
+compare-number def.Eq = refl
+compare-number def.Ne = refl
+compare-number def.Lt = refl
+compare-number def.Le = refl
+compare-number def.Gt = refl
+compare-number def.Ge = refl
+
+pub compare-index : (c : def.CompareOp) → compareIndex c < 6
+unfolding compareIndex
+compare-index def.Eq = lit< tt
+compare-index def.Ne = lit< tt
+compare-index def.Lt = lit< tt
+compare-index def.Le = lit< tt
+compare-index def.Gt = lit< tt
+compare-index def.Ge = lit< tt
+
+-- what stands at a place of a list, seen through f
+pub seen-at : {A B : Type 0} (f : A → B) (l : List A) (d : A) (e : B) (n : ℕ) → n < length l → f (getD l n d) ≡ getD (map f l) n e
+seen-at f [] d e n h = absurd (omega arith)
+seen-at f (x ∷ l) d e zero h = refl
+seen-at f (x ∷ l) d e (suc n) h = seen-at f l d e n (omega arith)
+
+-- the code's table
+abbrev pub table : List Role
+table = Dup ∷ Pop ∷ LoadVar ∷ StoreVar ∷ LoadConst ∷ LoadTrue ∷ LoadFalse
+    ∷ Binary Add ∷ Binary Sub ∷ Binary Mul ∷ Binary Div ∷ Binary Mod ∷ Unary Neg ∷ Binary BoolAnd ∷ Binary BoolOr ∷ Binary BoolXor ∷ Unary BoolNot
+    ∷ Compare Eq ∷ Compare Ne ∷ Compare Lt ∷ Compare Le ∷ Compare Gt ∷ Compare Ge
+    ∷ Jmp ∷ JmpIfNot ∷ CmpBr ∷ Ret ∷ []
+
+-- past the last role there is RET again
+pub past-roles : (n : ℕ) → 27 ≤ n → roleNumbered n ≡ ret
+unfolding roleNumbered roles
+past-roles n h = List·getD-eq-default roles ret h
+
+pub shift-up : (h : ℕ) → h + 1 ≡ shift up h
+unfolding shift
+shift-up h = add-one h
+
+pub shift-down : (h : ℕ) → (h ≡ 0 → ⊥) → h - 1 ≡ shift down h
+unfolding shift
+shift-down zero e = absurd (e refl)
+shift-down (suc h) e = sub-one (suc h)

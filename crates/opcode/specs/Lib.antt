@@ -1,0 +1,3 @@
+pub mod View
+pub mod Table
+pub mod Reading

@@ -1,0 +1,252 @@
+// Roles and comparisons: the stand-in for the source's `opcode` and `cmp_op`.
+ghost use mathlib.Core.Path.{_≡_};
+ghost use Prim.Native.Nat.{_<_};
+ghost use Rattle.definition.specs.Opcode.{binary, unary, size, number, traits, shift, negate, commute, compareIndex};
+ghost use Rattle.definition.specs.Rules.{roleNumbered};
+ghost use Rattle.opcode.specs.View.{binaryView, unaryView, compareView, roleView, effectView, IsRow};
+
+pub mod sheet; // sheet.rt: reading a sheet, and what a sheet gives
+
+pub enum BinaryOp {
+    Add,
+    Sub,
+    Mul,
+    Div,
+    Mod,
+    BoolAnd,
+    BoolOr,
+    BoolXor,
+}
+
+pub enum UnaryOp {
+    Neg,
+    BoolNot,
+}
+
+pub enum CompareOp {
+    Eq,
+    Ne,
+    Lt,
+    Le,
+    Gt,
+    Ge,
+}
+
+// The 27 roles, by class.
+pub enum Role {
+    Dup,
+    Pop,
+    LoadVar,
+    StoreVar,
+    LoadConst,
+    LoadTrue,
+    LoadFalse,
+    Binary(BinaryOp),
+    Unary(UnaryOp),
+    Compare(CompareOp),
+    Jmp,
+    JmpIfNot,
+    CmpBr,
+    Ret,
+}
+
+// Every role at its number.
+const ROLES: [Role; 27] = [
+    Role::Dup,
+    Role::Pop,
+    Role::LoadVar,
+    Role::StoreVar,
+    Role::LoadConst,
+    Role::LoadTrue,
+    Role::LoadFalse,
+    Role::Binary(BinaryOp::Add),
+    Role::Binary(BinaryOp::Sub),
+    Role::Binary(BinaryOp::Mul),
+    Role::Binary(BinaryOp::Div),
+    Role::Binary(BinaryOp::Mod),
+    Role::Unary(UnaryOp::Neg),
+    Role::Binary(BinaryOp::BoolAnd),
+    Role::Binary(BinaryOp::BoolOr),
+    Role::Binary(BinaryOp::BoolXor),
+    Role::Unary(UnaryOp::BoolNot),
+    Role::Compare(CompareOp::Eq),
+    Role::Compare(CompareOp::Ne),
+    Role::Compare(CompareOp::Lt),
+    Role::Compare(CompareOp::Le),
+    Role::Compare(CompareOp::Gt),
+    Role::Compare(CompareOp::Ge),
+    Role::Jmp,
+    Role::JmpIfNot,
+    Role::CmpBr,
+    Role::Ret,
+];
+
+// What an instruction does to the stack's height.
+pub enum Effect {
+    Up,
+    Down,
+    Same,
+}
+
+// A role's row of the sheet's table: bytes, values that must be on the stack, height change.
+pub struct Traits {
+    pub size: u8,
+    pub needs: u8,
+    pub effect: Effect,
+}
+
+impl Effect {
+    // A height after it. Only our own crates ask, and no height of theirs comes near the limit.
+    pub fn shift(self, height: u16) -> u16
+        requires { ⌜ height < 65535 ⌝ }
+        ensures { λ r. ⌜ r ≡ shift (effectView self) height ⌝ }
+    {
+        match self {
+            Effect::Up => height + 1,
+            Effect::Down => { if height == 0 { 0 } else { height - 1 } }
+            Effect::Same => height,
+        }
+    }
+}
+
+impl CompareOp {
+    // Its place in the sheet's comparison bytes.
+    pub fn index(self) -> u8
+        ensures { λ r. ⌜ r ≡ compareIndex (compareView self) ⌝ }
+    {
+        match self {
+            CompareOp::Eq => 0,
+            CompareOp::Ne => 1,
+            CompareOp::Lt => 2,
+            CompareOp::Le => 3,
+            CompareOp::Gt => 4,
+            CompareOp::Ge => 5,
+        }
+    }
+
+    // The comparison that holds where this one does not.
+    pub fn negate(self) -> CompareOp
+        ensures { λ r. ⌜ compareView r ≡ negate (compareView self) ⌝ }
+    {
+        match self {
+            CompareOp::Eq => CompareOp::Ne,
+            CompareOp::Ne => CompareOp::Eq,
+            CompareOp::Lt => CompareOp::Ge,
+            CompareOp::Le => CompareOp::Gt,
+            CompareOp::Gt => CompareOp::Le,
+            CompareOp::Ge => CompareOp::Lt,
+        }
+    }
+
+    // The comparison with its sides exchanged.
+    pub fn commute(self) -> CompareOp
+        ensures { λ r. ⌜ compareView r ≡ commute (compareView self) ⌝ }
+    {
+        match self {
+            CompareOp::Eq => CompareOp::Eq,
+            CompareOp::Ne => CompareOp::Ne,
+            CompareOp::Lt => CompareOp::Gt,
+            CompareOp::Le => CompareOp::Ge,
+            CompareOp::Gt => CompareOp::Lt,
+            CompareOp::Ge => CompareOp::Le,
+        }
+    }
+}
+
+impl BinaryOp {
+    fn number(self) -> u8
+        ensures { λ r. ⌜ r ≡ number (binary (binaryView self)) ⌝ }
+    {
+        match self {
+            BinaryOp::Add => 7,
+            BinaryOp::Sub => 8,
+            BinaryOp::Mul => 9,
+            BinaryOp::Div => 10,
+            BinaryOp::Mod => 11,
+            BinaryOp::BoolAnd => 13,
+            BinaryOp::BoolOr => 14,
+            BinaryOp::BoolXor => 15,
+        }
+    }
+}
+
+impl UnaryOp {
+    fn number(self) -> u8
+        ensures { λ r. ⌜ r ≡ number (unary (unaryView self)) ⌝ }
+    {
+        match self {
+            UnaryOp::Neg => 12,
+            UnaryOp::BoolNot => 16,
+        }
+    }
+}
+
+impl Role {
+    pub fn number(self) -> u8
+        ensures { λ r. ⌜ r ≡ number (roleView self) ⌝ }
+    {
+        match self {
+            Role::Dup => 0,
+            Role::Pop => 1,
+            Role::LoadVar => 2,
+            Role::StoreVar => 3,
+            Role::LoadConst => 4,
+            Role::LoadTrue => 5,
+            Role::LoadFalse => 6,
+            Role::Binary(o) => o.number(),
+            Role::Unary(o) => o.number(),
+            Role::Compare(c) => 17 + c.index(),
+            Role::Jmp => 23,
+            Role::JmpIfNot => 24,
+            Role::CmpBr => 25,
+            Role::Ret => 26,
+        }
+    }
+
+    // The role with a number; RET past the last.
+    pub fn numbered(n: u8) -> Role
+        ensures { λ r. ⌜ roleView r ≡ roleNumbered n ⌝ }
+    {
+        if n < 27 { ROLES[n as usize] } else { Role::Ret }
+    }
+
+    pub fn traits(self) -> Traits
+        ensures { λ r. ⌜ IsRow (traits (roleView self)) r ⌝ }
+    {
+        match self {
+            Role::Dup => row(1, 1, Effect::Up),
+            Role::Pop => row(1, 1, Effect::Down),
+            Role::LoadVar => row(3, 0, Effect::Up),
+            Role::StoreVar => row(3, 1, Effect::Down),
+            Role::LoadConst => row(3, 0, Effect::Up),
+            Role::LoadTrue => row(1, 0, Effect::Up),
+            Role::LoadFalse => row(1, 0, Effect::Up),
+            Role::Binary(_) => row(1, 2, Effect::Down),
+            Role::Unary(_) => row(1, 1, Effect::Same),
+            Role::Compare(_) => row(1, 2, Effect::Down),
+            Role::Jmp => row(3, 0, Effect::Same),
+            Role::JmpIfNot => row(3, 1, Effect::Down),
+            Role::CmpBr => row(8, 0, Effect::Same),
+            Role::Ret => row(1, 0, Effect::Same),
+        }
+    }
+}
+
+fn row(size: u8, needs: u8, effect: Effect) -> Traits
+    ensures { λ r. ⌜ (r .size ≡ size) × (r .needs ≡ needs) × (r .effect ≡ effect) ⌝ }
+{
+    Traits {
+        size: size,
+        needs: needs,
+        effect: effect,
+    }
+}
+
+// Bytes of an instruction of the role with this number.
+pub fn size_numbered(n: u8) -> usize
+    ensures { λ r. ⌜ r ≡ size (roleNumbered n) ⌝ }
+{
+    let role = Role::numbered(n);
+    let t = role.traits();
+    t.size as usize
+}

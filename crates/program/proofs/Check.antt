@@ -1,0 +1,116 @@
+-- The laws behind the check: each answer is the definition's.
+use mathlib.Core.Path.{_≡_, refl, ap, sym, _∙_}
+use mathlib.Core.Bool.{Bool, true, false, _&&_}
+use mathlib.Core.Option.{Option, some, none}
+use mathlib.Core.List.{List, [], _∷_}
+use Prim.Native.Nat.{ℕ, zero, suc, _+_, _-_, _≤_, _<_}
+use native.Mathlib.Omega.{arith}
+use borrow.Author.Tests.{le-leb, lt-leb, ne-eqb, eq-eqb}
+use lib.Dec.{eqb, leb}
+use lib.ListN.{length, getD}
+use Rattle.definition.specs.Limits.{maxProgram, maxNesting, badText, wrongLines}
+use Rattle.definition.specs.Res.{Res, ok, refuse, _>>=_, _>>_, demand}
+use Rattle.definition.specs.Field.{lf}
+use Rattle.definition.specs.Tree.{Pos, Fault, Program, Block}
+use Rattle.definition.specs.Program as def
+use Rattle.definition.specs.Program.{Line, is, not, Header, lineAt, headerForms, nextLine, stmtAt, blockOf, faultOfBlock, endsInLF, headerOf, noFault, topStmts, readProgram}
+use Rattle.program.specs.declared.Walk.{Walk}
+use Rattle.program.specs.declared.Checked.{Checked}
+use Rattle.program.specs.declared.Checked.the-variants.{Refused, Accepted}
+use Rattle.program.specs.Walk.{cursorIn, standBy, stand, Walked, outcome, many, overStmt, Passed}
+use Rattle.program.specs.Check.{answer, checked, Headed}
+use Rattle.program.proofs.Laws.{block-many}
+
+-- ---- 1
+
+last-is : (b : ℕ) (bs : List ℕ) → endsInLF (b ∷ bs) ≡ eqb (getD (b ∷ bs) (length bs) 0) lf
+unfolding endsInLF
+last-is b [] = refl
+last-is b (c ∷ bs) = last-is c bs
+
+pub ends-in-lf : (text : List ℕ) → 0 < length text → endsInLF text ≡ eqb (getD text (length text - 1) 0) lf
+ends-in-lf [] h = absurd (omega arith)
+ends-in-lf (b ∷ bs) h =
+    let q : suc (length bs) - 1 ≡ length bs = omega arith in
+    rw q (last-is b bs)
+
+module _ (text : List ℕ) where
+  bad-text : leb (length text) maxProgram && endsInLF text ≡ false → Refused 1 0 ≡ checked text
+  unfolding checked readProgram demand _>>_ answer
+  bad-text e = rw (checked, readProgram, e)
+
+  pub check-long : maxProgram < length text → Refused 1 0 ≡ checked text
+  check-long h = bad-text (rw (lt-leb _ _ h))
+
+  pub check-open : 0 < length text → length text ≤ maxProgram → (getD text (length text - 1) 0 ≡ lf → ⊥) → Refused 1 0 ≡ checked text
+  check-open there short h = bad-text (rw (le-leb _ _ short, ends-in-lf text there, ne-eqb _ _ h))
+
+  module _ (there : 0 < length text) (short : length text ≤ maxProgram) (last : getD text (length text - 1) 0 ≡ lf) where
+    pub headed : {v n : ℕ} {p : Pos} → lineAt headerForms maxNesting text 0 ≡ is (record { variables = v; statements = n; pos = p }) → Headed text v n p
+    headed e = record { there = there; short = short; ended = ends-in-lf text there ∙ eq-eqb _ _ last; header = e }
+
+    pub check-header : (n : ℕ) → lineAt headerForms maxNesting text 0 ≡ not n → Refused n 1 ≡ checked text
+    unfolding checked readProgram demand _>>_ _>>=_ headerOf answer
+    check-header n e = rw (checked, readProgram, le-leb _ _ short, ends-in-lf text there, eq-eqb _ _ last, e)
+
+pub check-empty : (text : List ℕ) → length text ≡ 0 → Refused 1 0 ≡ checked text
+unfolding endsInLF
+check-empty [] e = bad-text [] refl
+check-empty (b ∷ bs) e = absurd (omega arith)
+
+-- ---- the lines behind the header
+
+-- what is answered of a body with this first fault and this place after it
+unfoldable behind : List ℕ → Program → Option Fault → def.Cursor → Res Program
+behind text p f c = noFault f >> (demand (leb (length text) (c .at)) wrongLines (c .row) >> ok p)
+
+-- where a walk that heeds faults stands, it is answered
+behind-refused : (text : List ℕ) (p : Program) (f : Option Fault) (c d : def.Cursor) (r : ℕ) → standBy r d ≡ outcome true f c → (r ≡ 0 → ⊥) → behind text p f c ≡ refuse r (d .row)
+unfolding standBy outcome behind noFault _>>_
+behind-refused text p none c d zero e h = absurd (h refl)
+behind-refused text p none c d (suc r) e h = absurd (let q : _≡_ {A = ℕ} 0 1 = cc in omega arith)
+behind-refused text p (some f) c d zero e h = absurd (h refl)
+behind-refused text p (some f) c d (suc r) e h =
+    let a : f .number ≡ suc r = cc in
+    let b : f .place ≡ d .row = cc in
+    rw (a, b)
+
+behind-on : (text : List ℕ) (p : Program) (f : Option Fault) (c d : def.Cursor) → standBy 0 d ≡ outcome true f c → behind text p f c ≡ demand (leb (length text) (d .at)) wrongLines (d .row) >> ok p
+unfolding standBy outcome behind noFault _>>_
+behind-on text p none c d e = let q : c ≡ d = cc in rw q
+behind-on text p (some f) c d e = absurd (let q : _≡_ {A = ℕ} 0 1 = cc in omega arith)
+
+module _ {text : List ℕ} {v n : ℕ} {p : Pos} (h : Headed text v n p) {top : Walk} (passed : Passed text (record { at = 0; row = 1; refused = 0 }) top)
+    {w : Walk} (walked : Walked (many n (overStmt true maxNesting v text)) text top w) where
+  abbrev head : Header
+  head = record { variables = v; statements = n; pos = p }
+
+  abbrev body : Block × def.Cursor
+  body = blockOf (λ c. stmtAt maxNesting v text c) n (nextLine text (record { at = 0; row = 1 }))
+
+  read-is : readProgram text ≡ behind text (record { pos = p; body = body .0 }) (faultOfBlock (body .0)) (body .1)
+  unfolding readProgram demand _>>_ _>>=_ headerOf behind topStmts
+  read-is = rw (readProgram, le-leb _ _ (h .short), h .ended, h .header)
+
+  stands : stand w ≡ outcome true (faultOfBlock (body .0)) (body .1)
+  unfolding standBy _>>=_
+  stands = walked .did ∙ rw (passed .same, passed .is) (sym (block-many true (λ c. stmtAt maxNesting v text c) n _))
+
+  checked-is : (r : Res Program) → readProgram text ≡ r → checked text ≡ answer r (is head) (top .at)
+  unfolding checked
+  checked-is r e = rw (checked, e, h .header, ← passed .is)
+
+  pub check-faulty : (w .refused ≡ 0 → ⊥) → Refused (w .refused) (w .row) ≡ checked text
+  unfolding answer
+  check-faulty z = sym (checked-is _ (read-is ∙ behind-refused _ _ _ _ _ _ stands z))
+
+  on : w .refused ≡ 0 → standBy 0 (cursorIn w) ≡ outcome true (faultOfBlock (body .0)) (body .1)
+  on z = rw z at stands
+
+  pub check-left-over : w .refused ≡ 0 → w .at < length text → Refused wrongLines (w .row) ≡ checked text
+  unfolding answer demand _>>_
+  check-left-over z less = sym (checked-is (refuse wrongLines (w .row)) (read-is ∙ behind-on _ _ _ _ _ (on z) ∙ rw (lt-leb _ _ less)))
+
+  pub check-fine : w .refused ≡ 0 → length text ≤ w .at → Accepted v n (record { line = p .line; column = p .column }) (top .at) ≡ checked text
+  unfolding answer demand _>>_
+  check-fine z all = sym (checked-is (ok (record { pos = p; body = body .0 })) (read-is ∙ behind-on _ _ _ _ _ (on z) ∙ rw (le-leb _ _ all)))

@@ -1,0 +1,15 @@
+-- Made by `answers` from crates/program/answers/check_body.txt: edit that file, not this one.
+use Rattle.program.proofs.Check.{check-faulty, check-left-over, check-fine}
+use borrow.Author.Needs.{needs}
+use Rattle.program.proofs.check_body.Statement.{statement}
+use Rattle.program.proofs.check_body.Tie as tie
+
+pub check-body-spec : {M : Type 1} → statement M
+check-body-spec =
+    tie.close
+    (tie.spec
+    (λ c κs. search needs)  -- next-line-requires
+    (λ c κs. search needs)  -- walk-stmts-requires
+    (λ c. check-faulty (c .before .before .before .before .before .pre) (c .before .before .before .next-line .ensures) (c .before .before .walk-stmts .ensures) (c .if1 .taken))  -- returns
+    (λ c. check-left-over (c .before .before .before .before .before .before .before .pre) (c .before .before .before .before .before .next-line .ensures) (c .before .before .before .before .walk-stmts .ensures) (c .before .before .if1 .left) (c .if2 .taken))  -- returns-2
+    (λ c. check-fine (c .before .before .before .before .before .before .before .pre) (c .before .before .before .before .before .next-line .ensures) (c .before .before .before .before .walk-stmts .ensures) (c .before .before .if1 .left) (c .if2 .left)))  -- returns-3

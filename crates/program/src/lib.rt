@@ -1,0 +1,389 @@
+// The program text: checked in its order (1; then line by line 6, 5, 2, 3), and gone over in place.
+ghost use mathlib.Core.Path.{_≡_};
+ghost use Prim.Native.Nat.{_<_};
+ghost use lib.ListN.{length};
+ghost use Rattle.definition.specs.Program.{nextLine};
+ghost use Rattle.program_line.specs.View.{posView, stmtLine, exprLine};
+ghost use Rattle.program.specs.Walk.{stand, cursorIn, Near, Walked, many, overExpr, overStmt, overLabel, overArm, partsOf, operandsOf, blocks, failed, Passed};
+ghost use Rattle.program.specs.Check.{checked, Headed};
+use program_line::ArmLine;
+use program_line::ExprLine;
+use program_line::HeaderLine;
+use program_line::LabelLine;
+use program_line::Pos;
+use program_line::StmtLine;
+
+// A place in the text: the byte where a line starts, and its number.
+pub struct Cursor {
+    pub at: usize,
+    pub row: usize,
+}
+
+// A walk's place. Once it is refused it stays there: the refusal's number, 0 while there is none; the place is `row`.
+pub struct Walk {
+    pub at: usize,
+    pub row: usize,
+    pub refused: u8,
+}
+
+// What follows a statement's line, in this order; `bad` is the line's refusal, 0 if there is none.
+pub struct Parts {
+    pub bad: u8,
+    pub exprs: usize,
+    pub arms: usize,
+    pub first: usize,
+    pub second: usize,
+}
+
+// What follows an expression's line.
+pub struct Operands {
+    pub bad: u8,
+    pub count: usize,
+}
+
+// The answer of the check: a refusal and its place, or what the header says and where the first top statement stands.
+pub enum Checked {
+    Refused {
+        number: u8,
+        place: usize,
+    },
+    Accepted {
+        variables: u16,
+        statements: u16,
+        pos: Pos,
+        next: usize,
+    },
+}
+
+fn blocks(exprs: usize, first: u16, second: u16) -> Parts
+    ensures { λ r. ⌜ r ≡ blocks exprs first second ⌝ }
+{
+    Parts {
+        bad: 0,
+        exprs: exprs,
+        arms: 0,
+        first: first as usize,
+        second: second as usize,
+    }
+}
+
+fn parts_of(line: StmtLine) -> Parts
+    ensures { λ r. ⌜ r ≡ partsOf (stmtLine line) ⌝ }
+{
+    match line {
+        StmtLine::Assign {
+            pos: _,
+            variable: _,
+        } => blocks(1, 0, 0),
+        StmtLine::If {
+            pos: _,
+            then,
+            otherwise,
+        } => blocks(1, then, otherwise),
+        StmtLine::Case {
+            pos: _,
+            arms,
+            otherwise,
+        } => Parts {
+            bad: 0,
+            exprs: 1,
+            arms: arms as usize,
+            first: 0,
+            second: otherwise as usize,
+        },
+        StmtLine::For {
+            pos: _,
+            loop_number: _,
+            variable: _,
+            step: _,
+            body,
+        } => blocks(2, body, 0),
+        StmtLine::Loop {
+            pos: _,
+            loop_number: _,
+            body,
+            continuing,
+        } => blocks(0, body, continuing),
+        StmtLine::Exit {
+            pos: _,
+            loop_number: _,
+        } => blocks(0, 0, 0),
+        StmtLine::Continue {
+            pos: _,
+            loop_number: _,
+        } => blocks(0, 0, 0),
+        StmtLine::Return { pos: _ } => blocks(0, 0, 0),
+        StmtLine::Bad(n) => Parts {
+            bad: n,
+            exprs: 0,
+            arms: 0,
+            first: 0,
+            second: 0,
+        },
+    }
+}
+
+fn operands_of(line: ExprLine) -> Operands
+    ensures { λ r. ⌜ r ≡ operandsOf (exprLine line) ⌝ }
+{
+    match line {
+        ExprLine::Const(_) => Operands { bad: 0, count: 0 },
+        ExprLine::Bool(_) => Operands { bad: 0, count: 0 },
+        ExprLine::Read(_) => Operands { bad: 0, count: 0 },
+        ExprLine::Binary(_) => Operands { bad: 0, count: 2 },
+        ExprLine::Unary(_) => Operands { bad: 0, count: 1 },
+        ExprLine::Compare(_) => Operands { bad: 0, count: 2 },
+        ExprLine::ShortCircuit(_) => Operands { bad: 0, count: 2 },
+        ExprLine::Bad(n) => Operands { bad: n, count: 0 },
+    }
+}
+
+// A line is at fault: the walk is refused there if faults are heeded, and else goes on.
+fn fail(w: Walk, heed: bool, n: u8) -> Walk
+    ensures { λ r. ⌜ r ≡ failed heed w n ⌝ }
+{
+    if heed {
+        return Walk {
+            at: w.at,
+            row: w.row,
+            refused: n,
+        };
+    }
+    w
+}
+
+// Over a line that is there.
+fn next_line(text: &[u8], w: Walk) -> Walk
+    requires { ⌜ Near (now text) (w .at) (w .row) ⌝ }
+    requires { ⌜ w .at < length (now text) ⌝ }
+    ensures { λ r. ⌜ Passed (now (text .entry)) w r ⌝ }
+{
+    let at = w.at;
+    let end = field::line_end(text, at);
+    Walk {
+        at: end + 1,
+        row: w.row + 1,
+        refused: w.refused,
+    }
+}
+
+// So many expressions.
+pub fn walk_exprs(text: &[u8], variables: u16, heed: bool, left: usize, n: usize, w: Walk) -> Walk
+    requires { ⌜ Near (now text) (w .at) (w .row) ⌝ }
+    ensures { λ r. ⌜ Walked (many n (overExpr heed left variables (now (text .entry)))) (now (text .entry)) w r ⌝ }
+{
+    let mut more = n;
+    let mut on = w;
+    while more > 0 {
+        if on.refused != 0 {
+            return on;
+        }
+        on = walk_expr(text, variables, heed, left, on);
+        more = more - 1;
+    }
+    on
+}
+
+// An expression, with so many nesting levels left.
+pub fn walk_expr(text: &[u8], variables: u16, heed: bool, left: usize, w: Walk) -> Walk
+    requires { ⌜ Near (now text) (w .at) (w .row) ⌝ }
+    ensures { λ r. ⌜ Walked (overExpr heed left variables (now (text .entry))) (now (text .entry)) w r ⌝ }
+{
+    if w.refused != 0 {
+        return w;
+    }
+    let at = w.at;
+    let p = operands_of(program_line::read_expr(text, variables, left, at));
+    if p.bad != 0 {
+        return fail(w, heed, p.bad);
+    }
+    let count = p.count;
+    let next = next_line(text, w);
+    walk_exprs(text, variables, heed, left - 1, count, next)
+}
+
+// A label's line.
+fn walk_label(text: &[u8], heed: bool, left: usize, w: Walk) -> Walk
+    requires { ⌜ Near (now text) (w .at) (w .row) ⌝ }
+    ensures { λ r. ⌜ Walked (overLabel heed left (now (text .entry))) (now (text .entry)) w r ⌝ }
+{
+    if w.refused != 0 {
+        return w;
+    }
+    let at = w.at;
+    let line = program_line::read_label(text, left, at);
+    match line {
+        LabelLine::Bad(n) => fail(w, heed, n),
+        LabelLine::Value(_) => next_line(text, w),
+        LabelLine::Range(_, _) => next_line(text, w),
+    }
+}
+
+// So many labels.
+pub fn walk_labels(text: &[u8], heed: bool, left: usize, n: usize, w: Walk) -> Walk
+    requires { ⌜ Near (now text) (w .at) (w .row) ⌝ }
+    ensures { λ r. ⌜ Walked (many n (overLabel heed left (now (text .entry)))) (now (text .entry)) w r ⌝ }
+{
+    let mut more = n;
+    let mut on = w;
+    while more > 0 {
+        if on.refused != 0 {
+            return on;
+        }
+        on = walk_label(text, heed, left, on);
+        more = more - 1;
+    }
+    on
+}
+
+// So many arms.
+pub fn walk_arms(text: &[u8], variables: u16, heed: bool, left: usize, n: usize, w: Walk) -> Walk
+    requires { ⌜ Near (now text) (w .at) (w .row) ⌝ }
+    ensures { λ r. ⌜ Walked (many n (overArm heed left variables (now (text .entry)))) (now (text .entry)) w r ⌝ }
+{
+    let mut more = n;
+    let mut on = w;
+    while more > 0 {
+        if on.refused != 0 {
+            return on;
+        }
+        on = walk_arm(text, variables, heed, left, on);
+        more = more - 1;
+    }
+    on
+}
+
+// An arm: its line, its labels and its body.
+pub fn walk_arm(text: &[u8], variables: u16, heed: bool, left: usize, w: Walk) -> Walk
+    requires { ⌜ Near (now text) (w .at) (w .row) ⌝ }
+    ensures { λ r. ⌜ Walked (overArm heed left variables (now (text .entry))) (now (text .entry)) w r ⌝ }
+{
+    if w.refused != 0 {
+        return w;
+    }
+    let at = w.at;
+    let line = program_line::read_arm(text, left, at);
+    match line {
+        ArmLine::Bad(n) => fail(w, heed, n),
+        ArmLine::Arm { labels, statements } => {
+            let next = next_line(text, w);
+            let a = walk_labels(text, heed, left, labels as usize, next);
+            walk_stmts(text, variables, heed, left, statements as usize, a)
+        }
+    }
+}
+
+// So many statements.
+pub fn walk_stmts(text: &[u8], variables: u16, heed: bool, left: usize, n: usize, w: Walk) -> Walk
+    requires { ⌜ Near (now text) (w .at) (w .row) ⌝ }
+    ensures { λ r. ⌜ Walked (many n (overStmt heed left variables (now (text .entry)))) (now (text .entry)) w r ⌝ }
+{
+    let mut more = n;
+    let mut on = w;
+    while more > 0 {
+        if on.refused != 0 {
+            return on;
+        }
+        on = walk_stmt(text, variables, heed, left, on);
+        more = more - 1;
+    }
+    on
+}
+
+// A statement, with so many nesting levels left: its line, then its parts.
+pub fn walk_stmt(text: &[u8], variables: u16, heed: bool, left: usize, w: Walk) -> Walk
+    requires { ⌜ Near (now text) (w .at) (w .row) ⌝ }
+    ensures { λ r. ⌜ Walked (overStmt heed left variables (now (text .entry))) (now (text .entry)) w r ⌝ }
+{
+    if w.refused != 0 {
+        return w;
+    }
+    let at = w.at;
+    let p = parts_of(program_line::read_stmt(text, variables, left, at));
+    if p.bad != 0 {
+        return fail(w, heed, p.bad);
+    }
+    let next = next_line(text, w);
+    let l = left - 1;
+    let a = walk_exprs(text, variables, heed, l, p.exprs, next);
+    let b = walk_arms(text, variables, heed, l, p.arms, a);
+    let c = walk_stmts(text, variables, heed, l, p.first, b);
+    walk_stmts(text, variables, heed, l, p.second, c)
+}
+
+// The lines behind an accepted header, the top statements at nesting level 1.
+fn check_body(text: &[u8], variables: u16, statements: u16, pos: Pos) -> Checked
+    requires { ⌜ Headed (now text) variables statements (posView pos) ⌝ }
+    ensures { λ r. ⌜ r ≡ checked (now (text .entry)) ⌝ }
+{
+    let first = Walk {
+        at: 0,
+        row: 1,
+        refused: 0,
+    };
+    let top = next_line(text, first);
+    let next = top.at;
+    let w = walk_stmts(
+        text,
+        variables,
+        true,
+        definition::MAX_NESTING,
+        statements as usize,
+        top,
+    );
+    if w.refused != 0 {
+        return Checked::Refused {
+            number: w.refused,
+            place: w.row,
+        };
+    }
+    if w.at < text.len() {
+        return Checked::Refused {
+            number: 6,
+            place: w.row,
+        };
+    }
+    Checked::Accepted {
+        variables: variables,
+        statements: statements,
+        pos: pos,
+        next: next,
+    }
+}
+
+// The check of any text.
+pub fn check_program(text: &[u8]) -> Checked
+    ensures { λ r. ⌜ r ≡ checked (now (text .entry)) ⌝ }
+{
+    let n = text.len();
+    if n == 0 {
+        return Checked::Refused {
+            number: 1,
+            place: 0,
+        };
+    }
+    if n > definition::MAX_PROGRAM {
+        return Checked::Refused {
+            number: 1,
+            place: 0,
+        };
+    }
+    if text[n - 1] != 10 {
+        return Checked::Refused {
+            number: 1,
+            place: 0,
+        };
+    }
+    let line = program_line::read_header(text, definition::MAX_NESTING, 0);
+    match line {
+        HeaderLine::Bad(b) => Checked::Refused {
+            number: b,
+            place: 1,
+        },
+        HeaderLine::Header {
+            variables,
+            statements,
+            pos,
+        } => check_body(text, variables, statements, pos),
+    }
+}

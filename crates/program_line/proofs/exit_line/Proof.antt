@@ -1,0 +1,25 @@
+-- Made by `answers` from crates/program_line/answers/exit_line.txt: edit that file, not this one.
+use mathlib.Core.Path.{refl}
+use Rattle.definition.specs.Program.{stmtForms, open-Program}
+use Rattle.program_line.proofs.Laws.{bad-line, good-line, ended, ended-number, ended-position}
+use borrow.Author.Needs.{needs}
+use Rattle.program_line.proofs.exit_line.Statement.{statement}
+use Rattle.program_line.proofs.exit_line.Tie as tie
+
+returns : tie.Need-returns
+unfolding open-Program
+returns c = bad-line (stmtForms (c .before .before .before .before .before .before .args .variables)) 0x58 (c .before .before .before .before .before .before .pre) (ended-position (c .before .before .before .before .position .ensures) (ended-number (c .before .before .count .ensures) (ended (c .before .refusal .ensures)))) (record { is = λ fs. refl }) (c .if1 .taken)
+
+returns-2 : tie.Need-returns-2
+unfolding open-Program
+returns-2 c = good-line (stmtForms (c .before .before .before .before .before .before .args .variables)) 0x58 (c .before .before .before .before .before .before .pre) (ended-position (c .before .before .before .before .position .ensures) (ended-number (c .before .before .count .ensures) (ended (c .before .refusal .ensures)))) (record { is = λ fs. refl }) (c .if1 .left)
+
+pub exit-line-spec : {M : Type 1} → statement M
+exit-line-spec =
+    tie.close
+    (tie.spec
+    (λ c κs. search needs)  -- position-requires
+    (λ c κs. search needs)  -- count-requires
+    (λ c κs. search needs)  -- refusal-requires
+    returns
+    returns-2)

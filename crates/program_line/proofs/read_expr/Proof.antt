@@ -1,0 +1,19 @@
+-- Made by `answers` from crates/program_line/answers/read_expr.txt: edit that file, not this one.
+use mathlib.Core.Path.{_∙_}
+use Rattle.program_line.proofs.Laws.{line-missing, line-deep, line-there}
+use borrow.Author.Needs.{needs}
+use Rattle.program_line.proofs.read_expr.Statement.{statement}
+use Rattle.program_line.proofs.read_expr.Tie as tie
+
+pub read-expr-spec : {M : Type 1} → statement M
+read-expr-spec =
+    tie.close
+    (tie.spec
+    (λ c. line-missing _ _ _ _ (search needs))  -- returns
+    (λ c. line-deep _ _ _ _ (search needs) (search needs))  -- returns-2
+    (λ c κs. search needs)  -- line-end-requires
+    (λ c. search needs)  -- sub-expr-of
+    (λ c. search needs)  -- part-expr-of-start
+    (λ c. search needs)  -- part-expr-of-end
+    (λ c κs. search needs)  -- expr-of-requires
+    (λ c. c .expr-of .ensures ∙ line-there _ _ _ _ (search needs) (search needs) (c .before .before .line-end .ensures)))  -- returns-3

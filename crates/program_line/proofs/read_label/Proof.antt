@@ -1,0 +1,19 @@
+-- Made by `answers` from crates/program_line/answers/read_label.txt: edit that file, not this one.
+use mathlib.Core.Path.{_∙_}
+use Rattle.program_line.proofs.Laws.{line-missing, line-deep, line-there}
+use borrow.Author.Needs.{needs}
+use Rattle.program_line.proofs.read_label.Statement.{statement}
+use Rattle.program_line.proofs.read_label.Tie as tie
+
+pub read-label-spec : {M : Type 1} → statement M
+read-label-spec =
+    tie.close
+    (tie.spec
+    (λ c. line-missing _ _ _ _ (search needs))  -- returns
+    (λ c. line-deep _ _ _ _ (search needs) (search needs))  -- returns-2
+    (λ c κs. search needs)  -- line-end-requires
+    (λ c. search needs)  -- sub-label-of
+    (λ c. search needs)  -- part-label-of-start
+    (λ c. search needs)  -- part-label-of-end
+    (λ c κs. search needs)  -- label-of-requires
+    (λ c. c .label-of .ensures ∙ line-there _ _ _ _ (search needs) (search needs) (c .before .before .line-end .ensures)))  -- returns-3

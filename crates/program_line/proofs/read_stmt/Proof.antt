@@ -1,0 +1,19 @@
+-- Made by `answers` from crates/program_line/answers/read_stmt.txt: edit that file, not this one.
+use mathlib.Core.Path.{_∙_}
+use Rattle.program_line.proofs.Laws.{line-missing, line-deep, line-there}
+use borrow.Author.Needs.{needs}
+use Rattle.program_line.proofs.read_stmt.Statement.{statement}
+use Rattle.program_line.proofs.read_stmt.Tie as tie
+
+pub read-stmt-spec : {M : Type 1} → statement M
+read-stmt-spec =
+    tie.close
+    (tie.spec
+    (λ c. line-missing _ _ _ _ (search needs))  -- returns
+    (λ c. line-deep _ _ _ _ (search needs) (search needs))  -- returns-2
+    (λ c κs. search needs)  -- line-end-requires
+    (λ c. search needs)  -- sub-stmt-of
+    (λ c. search needs)  -- part-stmt-of-start
+    (λ c. search needs)  -- part-stmt-of-end
+    (λ c κs. search needs)  -- stmt-of-requires
+    (λ c. c .stmt-of .ensures ∙ line-there _ _ _ _ (search needs) (search needs) (c .before .before .line-end .ensures)))  -- returns-3

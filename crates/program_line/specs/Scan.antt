@@ -1,0 +1,119 @@
+-- The fields behind a line's letter, as they are read one by one.
+use Prim.Native.Nat.{ℕ, _+_, _≤_}
+use mathlib.Core.Path.{_≡_}
+use mathlib.Core.List.{List, [], _∷_}
+use mathlib.Core.Bool.{Bool, true, false}
+use lib.Dec.{ltb}
+use lib.ListN.{length, drop}
+use Rattle.definition.specs.Limits.{width, maxField, badForm, badRange}
+use Rattle.definition.specs.Field as def
+use Rattle.definition.specs.Field.{comma, split, Field, Read, malformed, outside, Numbers, wrong, far, are, numbers}
+use Rattle.program_line.specs.declared.Pos.{Pos}
+use Rattle.program_line.specs.declared.Form.{Form}
+use Rattle.program_line.specs.declared.Form.the-variants.{Good, Far, Wrong}
+use Rattle.program_line.specs.declared.Kind.{Kind}
+use Rattle.program_line.specs.declared.Kind.the-variants.{UpTo, Below, Value}
+use Rattle.program_line.specs.declared.Scan.{Scan}
+
+abbrev pub kindOf : Kind → Field
+kindOf (UpTo m) = def.upTo m
+kindOf (Below m) = def.below m
+kindOf Value = def.value width
+
+-- the fields from a place on
+unfoldable pub restFrom : Bool → ℕ → List ℕ → List (List ℕ)
+restFrom true at line = split comma (drop at line)
+restFrom false at line = []
+
+abbrev pub rest : List ℕ → Scan → List (List ℕ)
+rest line s = restFrom (s .more) (s .at) line
+
+unfoldable pub behindIf : Bool → ℕ → Form → Scan
+behindIf true end f = record { at = end + 1; more = true; form = f }
+behindIf false end f = record { at = end; more = false; form = f }
+
+-- the place behind the field that ends at `end`
+abbrev pub behind : List ℕ → ℕ → Form → Scan
+behind line end f = behindIf (ltb end (length line)) end f
+
+-- 2 wins over 3
+unfoldable pub farther : Form → Form
+farther Good = Far
+farther Far = Far
+farther Wrong = Wrong
+
+unfoldable pub worse : Form → Read → Form
+worse f malformed = Wrong
+worse f outside = farther f
+worse f (def.is n) = f
+
+unfoldable pub numberIn : Read → ℕ
+numberIn malformed = 0
+numberIn outside = 0
+numberIn (def.is n) = n
+
+-- the numbers that follow, after fields that stand so
+unfoldable pub held : Form → Numbers → Numbers
+held Good x = x
+held Far wrong = wrong
+held Far far = far
+held Far (are ns) = far
+held Wrong x = wrong
+
+-- one number more in front
+unfoldable pub push : ℕ → Numbers → Numbers
+push n wrong = wrong
+push n far = far
+push n (are ns) = are (n ∷ ns)
+
+-- the numbers from a place on, by their fields
+abbrev pub left : List ℕ → List Field → Scan → Numbers
+left line fs s = held (s .form) (numbers fs (rest line s))
+
+-- a bound of what a field that has no sign may hold
+abbrev pub Bounded : Field → ℕ → Type 0
+Bounded (def.upTo m) n = n ≤ m
+Bounded (def.below m) n = n ≤ m
+Bounded (def.value w) n = Unit {0}
+
+-- one field was read: a number, and the place behind it
+pub record Took (f : Field) (line : List ℕ) (s : Scan) (n : ℕ) (t : Scan) : Type 0 where
+  pub is : (fs : List Field) → left line (f ∷ fs) s ≡ push n (left line fs t)
+  pub within : t .at ≤ length line
+  pub bound : Bounded f n
+
+-- two fields were read: a position
+pub record TookPos (line : List ℕ) (s : Scan) (p : Pos) (t : Scan) : Type 0 where
+  pub is : (fs : List Field) → left line (def.upTo maxField ∷ def.upTo maxField ∷ fs) s ≡ push (p .line) (push (p .column) (left line fs t))
+  pub within : t .at ≤ length line
+
+-- the place behind the letter
+pub record Fresh (line : List ℕ) (s : Scan) : Type 0 where
+  pub good : s .form ≡ Good
+  pub within : s .at ≤ length line
+
+-- field 0 where it is one byte, else 0, which is no letter
+unfoldable pub letterOf : List (List ℕ) → ℕ
+letterOf [] = 0
+letterOf ([] ∷ fs) = 0
+letterOf ((b ∷ []) ∷ fs) = b
+letterOf ((b ∷ c ∷ bs) ∷ fs) = 0
+
+unfoldable pub behindLetter : List (List ℕ) → List (List ℕ)
+behindLetter [] = []
+behindLetter (x ∷ fs) = fs
+
+pub record Opened (line : List ℕ) (b : ℕ) (s : Scan) : Type 0 where
+  pub is : b ≡ letterOf (split comma line)
+  pub others : rest line s ≡ behindLetter (split comma line)
+  pub fresh : Fresh line s
+
+unfoldable pub refusalIf : Bool → Form → ℕ
+refusalIf true f = badForm
+refusalIf false Good = 0
+refusalIf false Far = badRange
+refusalIf false Wrong = badForm
+
+-- the refusal of a line whose fields end here: 0 if there is none
+abbrev pub refusalAt : Scan → ℕ
+refusalAt s = refusalIf (s .more) (s .form)

@@ -1,0 +1,154 @@
+-- A rule file, read line by line.
+use mathlib.Core.Path.{_≡_, refl, ap, sym, _∙_}
+use mathlib.Core.Bool.{Bool, true, false}
+use mathlib.Core.Option.{Option, some, none}
+use mathlib.Core.List.{List, [], _∷_, _++_, append-assoc, append-nil}
+use Prim.Native.Nat.{ℕ, zero, suc, _+_, _-_, _*_, _≤_, _<_}
+use native.Mathlib.Omega.{arith}
+use borrow.Author.Tests.{le-leb, lt-leb}
+use lib.Dec.{leb}
+use lib.ListN.{length, take, drop, length-append, length-drop, drop-of-length-le}
+use lib.Seq.{paste, length-take-le}
+use Rattle.definition.specs.Limits.{maxRules, badRule}
+use Rattle.definition.specs.Res.{Res, ok, refuse, _>>=_, _>>_, demand, given}
+use Rattle.definition.specs.Field.{lf, split, firstLine}
+use Rattle.definition.specs.Lent.{zeros}
+use Rattle.definition.specs.Rules.{Rule, readRule, isEmpty, rulesFrom, readRules}
+use Rattle.field.specs.View.{Ends}
+use Rattle.field.proofs.Parts.{Some, some-part, split-some, line-part, parts-last, parts-more}
+use Rattle.rules.specs.declared.Line.{Line}
+use Rattle.rules.specs.declared.RuleAnswer.{RuleAnswer}
+use Rattle.rules.specs.declared.RuleAnswer.the-variants.{Rules, Refused}
+use Rattle.rules.specs.View.{rowSize, tableSize, rowOf, tableOf, answerOf, tableFor, Answered, lineOf}
+use Rattle.rules.proofs.Table.{table-long, table-none, table-more}
+
+-- ---- the definition, one line at a time
+
+-- rules with those of earlier lines before them
+unfoldable pub prepended : List Rule → Res (List Rule) → Res (List Rule)
+prepended rs (ok qs) = ok (rs ++ qs)
+prepended rs (refuse n p) = refuse n p
+
+prepended-nil : (x : Res (List Rule)) → x ≡ prepended [] x
+unfolding prepended
+prepended-nil (ok qs) = refl
+prepended-nil (refuse n p) = refl
+
+prepended-more : (rs : List Rule) (r : Rule) (x : Res (List Rule)) → prepended rs (x >>= (λ qs. ok (r ∷ qs))) ≡ prepended (rs ++ (r ∷ [])) x
+unfolding prepended _>>=_
+prepended-more rs r (ok qs) = ap ok (sym (append-assoc rs (r ∷ []) qs))
+prepended-more rs r (refuse n p) = refl
+
+not-empty : (l : List ℕ) → 0 < length l → isEmpty l ≡ false
+unfolding isEmpty
+not-empty [] h = absurd (omega arith)
+not-empty (b ∷ l) h = refl
+
+rules-unended : (n : ℕ) (l : List ℕ) → 0 < length l → rulesFrom n (l ∷ []) ≡ refuse badRule n
+unfolding rulesFrom _>>_ demand
+rules-unended n l h = rw (not-empty l h)
+
+module _ (n : ℕ) (l : List ℕ) where
+  rules-full : {xs : List (List ℕ)} → Some xs → maxRules < n → rulesFrom n (l ∷ xs) ≡ refuse badRule n
+  unfolding rulesFrom _>>_ demand
+  rules-full some-part h = rw (lt-leb n maxRules h)
+
+  rules-bad : {xs : List (List ℕ)} → Some xs → n ≤ maxRules → readRule l ≡ none → rulesFrom n (l ∷ xs) ≡ refuse badRule n
+  unfolding rulesFrom _>>=_ _>>_ demand given
+  rules-bad some-part h e = rw (le-leb n maxRules h, e)
+
+  rules-good : {xs : List (List ℕ)} → Some xs → n ≤ maxRules → {r : Rule} → readRule l ≡ some r → rulesFrom n (l ∷ xs) ≡ rulesFrom (n + 1) xs >>= (λ qs. ok (r ∷ qs))
+  unfolding rulesFrom _>>=_ _>>_ demand given
+  rules-good some-part h e = rw (le-leb n maxRules h, e)
+
+-- ---- what a line's answer says
+
+line-none : (o : Option Rule) {l : Line} → l ≡ lineOf o → l .good ≡ false → o ≡ none
+unfolding lineOf
+line-none none e g = refl
+line-none (some r) e g = absurd (let t : true ≡ false = sym (ap (λ (x : Line). x .good) e) ∙ g in let z : _≡_ {A = ℕ} 0 1 = cc in omega arith)
+
+line-some : (o : Option Rule) {l : Line} → l ≡ lineOf o → l .good ≡ true → (r : Rule) × (o ≡ some r) × (l .numbers ≡ rowOf r)
+unfolding lineOf
+line-some none e g = absurd (let t : false ≡ true = sym (ap (λ (x : Line). x .good) e) ∙ g in let z : _≡_ {A = ℕ} 0 1 = cc in omega arith)
+line-some (some r) e g = (r, refl, ap (λ (x : Line). x .numbers) e)
+
+-- ---- the walk over the lines
+
+-- `count` lines are read, and their rules are in the table; the next line starts at `at`
+pub record FileRead (text table : List ℕ) (at count : ℕ) : Type 0 where
+  pub rules : List Rule
+  pub holds : table ≡ tableOf rules
+  pub many : count ≡ length rules
+  pub few : count ≤ maxRules
+  pub near : at ≤ length text
+  pub long : length table ≡ tableSize
+  pub more : readRules text ≡ prepended rules (rulesFrom (count + 1) (split lf (drop at text)))
+
+pub file-starts : (text : List ℕ) {n : ℕ} {table : List ℕ} → n ≡ tableSize → table ≡ zeros n → FileRead text table 0 0
+unfolding readRules
+file-starts text k e =
+    let is : _≡_ {A = List ℕ} _ (tableOf []) = e ∙ ap zeros k ∙ sym table-none in
+    record {
+      rules = [];
+      holds = is;
+      many = refl;
+      few = omega arith;
+      near = omega arith;
+      long = ap length is ∙ table-long [] (omega arith);
+      more = prepended-nil _;
+    }
+
+module _ {text table : List ℕ} {at count : ℕ} (f : FileRead text table at count) where
+  module _ {r : ℕ} (e : Ends firstLine text at r) where
+    pub file-unended : at < length text → length text ≤ r → readRules text ≡ refuse badRule (count + 1)
+    unfolding prepended
+    file-unended h last =
+        let line = take (r - at) (drop at text) in
+        let long : length line ≡ r - at = length-take-le (r - at) (drop at text) (omega (arith, length-drop at text, e .high)) in
+        f .more ∙ rw (parts-last lf (line-part e) last, rules-unended (count + 1) line (omega arith))
+
+    module _ (inside : r < length text) where
+      next : split lf (drop at text) ≡ take (r - at) (drop at text) ∷ split lf (drop (r + 1) text)
+      next = parts-more lf (line-part e) inside
+
+      pub file-full : maxRules ≤ count → readRules text ≡ refuse badRule (count + 1)
+      unfolding prepended
+      file-full h = f .more ∙ rw (next, rules-full (count + 1) (take (r - at) (drop at text)) (split-some lf (drop (r + 1) text)) (omega arith))
+
+      module _ (room : count < maxRules) {l : Line} (is : l ≡ lineOf (readRule (take (r - at) (drop at text)))) where
+        pub file-bad : l .good ≡ false → readRules text ≡ refuse badRule (count + 1)
+        unfolding prepended
+        file-bad g =
+            f .more ∙ rw (next, rules-bad (count + 1) (take (r - at) (drop at text)) (split-some lf (drop (r + 1) text)) (omega arith) (line-none _ is g))
+
+        pub file-next : l .good ≡ true → {table′ : List ℕ} → table′ ≡ paste table (count * rowSize) (l .numbers) rowSize → FileRead text table′ (r + 1) (count + 1)
+        file-next g {table′} put =
+            let (q, o, n) = line-some _ is g in
+            let held : table′ ≡ tableOf (f .rules ++ (q ∷ [])) = put
+            ∙ ap (λ (ns : List ℕ). paste table (count * rowSize) ns rowSize) n
+            ∙ ap (λ (t : List ℕ). paste t (count * rowSize) (rowOf q) rowSize) (f .holds)
+            ∙ table-more (f .rules) q (f .many) room in
+            let counted : count + 1 ≡ length (f .rules ++ (q ∷ [])) = omega (arith, f .many, length-append (f .rules) (q ∷ [])) in
+            record {
+              rules = f .rules ++ (q ∷ []);
+              holds = held;
+              many = counted;
+              few = omega arith;
+              near = omega arith;
+              long = ap length held ∙ table-long (f .rules ++ (q ∷ [])) (omega arith);
+              more = f .more ∙ rw (next, rules-good (count + 1) (take (r - at) (drop at text)) (split-some lf (drop (r + 1) text)) (omega arith) o) (prepended-more (f .rules) q _);
+            }
+
+  pub file-done : length text ≤ at → Answered (readRules text) (Rules count) table
+  unfolding prepended rulesFrom split isEmpty _>>_ demand answerOf tableFor
+  file-done h =
+      let is : readRules text ≡ ok (f .rules) = f .more ∙ rw (drop-of-length-le text h) (ap ok (append-nil (f .rules))) in
+      rw is (record { is = ap Rules (f .many); holds = f .holds })
+
+pub file-refused : {x y : Res (List Rule)} {a : RuleAnswer} {table : List ℕ} → x ≡ y → Answered y a table → Answered x a table
+file-refused e d = rw e d
+
+pub refused-is : {n line : ℕ} {table : List ℕ} → n ≡ tableSize → table ≡ zeros n → Answered (refuse badRule line) (Refused 9 line) table
+unfolding answerOf tableFor
+refused-is k e = record { is = refl; holds = e ∙ ap zeros k }

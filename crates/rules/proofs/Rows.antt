@@ -1,0 +1,177 @@
+-- Roles, tests and actions by their numbers, and a rule by its row.
+use mathlib.Core.Path.{_≡_, refl, ap, sym, _∙_}
+use mathlib.Core.Bool.{Bool, true, false, _&&_}
+use mathlib.Core.Logic.{_⊎_, inl, inr, ⊎-elim}
+use mathlib.Core.Option.{Option, some, none}
+use mathlib.Core.List.{List, [], _∷_, map}
+use Prim.Native.Nat.{ℕ, zero, suc, _+_, _≤_, _<_}
+use native.Mathlib.Omega.{arith}
+use borrow.Author.Tests.{ne-eqb, eqb-true}
+use lib.Dec.{leb, eqb}
+use lib.ListN.{length, getD, getElem?}
+use Rattle.definition.specs.Opcode.{Role, dup, pop, loadVar, storeVar, loadConst, loadTrue, loadFalse, binary, unary, compare, jmp, jmpIfNot, cmpBr, ret, Add, Sub, Mul, Div, Mod, BoolAnd, BoolOr, BoolXor, Neg, BoolNot, Eq, Ne, Lt, Le, Gt, Ge, number, roles}
+use Rattle.definition.specs.Rules as def
+use Rattle.definition.specs.Rules.{Rule, Test, always, operandsEqual, firstIs, secondIs, keep, remove, rewriteOperand, roleNumbered, testNumbered, actionNumbered, nameable, ruleOf, hasRole}
+use Rattle.rules.specs.View.{used, testTag, testNumber, actionTag, actionOperand, rowOf, Bounded}
+
+-- ---- roles
+
+-- every role stands at its number
+pub role-there : (r : Role) → getElem? roles (number r) ≡ some r
+unfolding roles number
+role-there dup = refl
+role-there pop = refl
+role-there loadVar = refl
+role-there storeVar = refl
+role-there loadConst = refl
+role-there loadTrue = refl
+role-there loadFalse = refl
+role-there (binary Add) = refl
+role-there (binary Sub) = refl
+role-there (binary Mul) = refl
+role-there (binary Div) = refl
+role-there (binary Mod) = refl
+role-there (binary BoolAnd) = refl
+role-there (binary BoolOr) = refl
+role-there (binary BoolXor) = refl
+role-there (unary Neg) = refl
+role-there (unary BoolNot) = refl
+role-there (compare Eq) = refl
+role-there (compare Ne) = refl
+role-there (compare Lt) = refl
+role-there (compare Le) = refl
+role-there (compare Gt) = refl
+role-there (compare Ge) = refl
+role-there jmp = refl
+role-there jmpIfNot = refl
+role-there cmpBr = refl
+role-there ret = refl
+
+element-there : {A : Type 0} (l : List A) (n : ℕ) (d x : A) → getElem? l n ≡ some x → (n < length l) × (getD l n d ≡ x)
+element-there [] n d x e = absurd (let z : _≡_ {A = ℕ} 0 1 = cc in omega arith)
+element-there (y ∷ l) zero d x e = (omega arith, (cc))
+element-there (y ∷ l) (suc n) d x e = let p = element-there l n d x e in (omega (arith, p .0), p .1)
+
+pub number-small : (r : Role) → number r < length roles
+number-small r = element-there roles (number r) ret r (role-there r) .0
+
+pub role-back : (r : Role) → roleNumbered (number r) ≡ r
+unfolding roleNumbered
+role-back r = element-there roles (number r) ret r (role-there r) .1
+
+-- do the roles of a list have the numbers from k on?
+unfoldable numbered : ℕ → List Role → Bool
+numbered k [] = true
+numbered k (r ∷ rs) = elim (eqb (number r) k) [ true ↦ numbered (suc k) rs | false ↦ false ]
+
+numbered-at : (rs : List Role) (k : ℕ) → numbered k rs ≡ true → (n : ℕ) → n < length rs → (number (getD rs n ret) ≡ k + n) × (getElem? rs n ≡ some (getD rs n ret))
+unfolding numbered
+numbered-at [] k e n h = absurd (omega arith)
+numbered-at (r ∷ rs) k e n h = go (eqb (number r) k) refl e (λ f. numbered-at rs (suc k) f) n h
+  where
+    go : (t : Bool) → eqb (number r) k ≡ t → elim t [ true ↦ numbered (suc k) rs | false ↦ false ] ≡ true
+        → (numbered (suc k) rs ≡ true → (n : ℕ) → n < length rs → (number (getD rs n ret) ≡ suc k + n) × (getElem? rs n ≡ some (getD rs n ret)))
+        → (n : ℕ) → n < suc (length rs) → (number (getD (r ∷ rs) n ret) ≡ k + n) × (getElem? (r ∷ rs) n ≡ some (getD (r ∷ rs) n ret))
+    go true q f i zero h = (omega (arith, eqb-true (number r) k q), refl)
+    go true q f i (suc n) h = let p = i f n (omega arith) in (omega (arith, p .0), p .1)
+    go false q f i n h = absurd (let z : _≡_ {A = ℕ} 0 1 = cc in omega arith)
+
+all-numbered : numbered 0 roles ≡ true
+unfolding numbered roles number
+all-numbered = refl
+
+pub number-back : (n : ℕ) → n < length roles → number (roleNumbered n) ≡ n
+unfolding roleNumbered
+number-back n h = numbered-at roles 0 all-numbered n h .0 ∙ omega arith
+
+pub small : {n : ℕ} → n < nameable → n < length roles
+unfolding roles
+small h = omega arith
+
+at-or-past : (l n : ℕ) → (l ≤ n) ⊎ (n < l)
+at-or-past zero n = inl (omega arith)
+at-or-past (suc l) zero = inr (omega arith)
+at-or-past (suc l) (suc n) = ⊎-elim (λ h. inl (omega arith)) (λ h. inr (omega arith)) (at-or-past l n)
+
+none-past : {A : Type 0} (l : List A) (n : ℕ) → length l ≤ n → getElem? l n ≡ none
+none-past [] n h = refl
+none-past (x ∷ l) zero h = absurd (omega arith)
+none-past (x ∷ l) (suc n) h = none-past l n (omega arith)
+
+-- an instruction has a rule's role where the numbers are equal
+pub has-number : (r : Role) (n : ℕ) → hasRole r (getElem? roles n) ≡ eqb (number r) n
+unfolding hasRole
+has-number r n =
+    ⊎-elim
+    (λ h. rw (none-past roles n h) (sym (ne-eqb (number r) n (λ e. let b = number-small r in omega arith))))
+    (λ h. let p = numbered-at roles 0 all-numbered n h in let e : number (getD roles n ret) ≡ n = omega (arith, p .0) in rw (p .1, e))
+    (at-or-past (length roles) n)
+
+-- ---- tests and actions
+
+pub test-tag : (t n : ℕ) → t < 4 → testTag (testNumbered t n) ≡ t
+unfolding testTag testNumbered
+test-tag zero n h = refl
+test-tag (suc zero) n h = refl
+test-tag (suc (suc zero)) n h = refl
+test-tag (suc (suc (suc zero))) n h = refl
+test-tag (suc (suc (suc (suc t)))) n h = absurd (omega arith)
+
+pub test-number : (t n : ℕ) → t < 4 → testNumber (testNumbered t n) ≡ used (leb 2 t) n
+unfolding testNumber testNumbered used
+test-number zero n h = refl
+test-number (suc zero) n h = refl
+test-number (suc (suc zero)) n h = refl
+test-number (suc (suc (suc zero))) n h = refl
+test-number (suc (suc (suc (suc t)))) n h = absurd (omega arith)
+
+pub action-tag : (t n : ℕ) → t < 3 → actionTag (actionNumbered t n) ≡ t
+unfolding actionTag actionNumbered
+action-tag zero n h = refl
+action-tag (suc zero) n h = refl
+action-tag (suc (suc zero)) n h = refl
+action-tag (suc (suc (suc t))) n h = absurd (omega arith)
+
+pub action-operand : (t n : ℕ) → t < 3 → actionOperand (actionNumbered t n) ≡ used (eqb t 2) n
+unfolding actionOperand actionNumbered used
+action-operand zero n h = refl
+action-operand (suc zero) n h = refl
+action-operand (suc (suc zero)) n h = refl
+action-operand (suc (suc (suc t))) n h = absurd (omega arith)
+
+test-back : (t : Test) → testNumbered (testTag t) (testNumber t) ≡ t
+unfolding testNumbered testTag testNumber
+test-back always = refl
+test-back operandsEqual = refl
+test-back (firstIs n) = refl
+test-back (secondIs n) = refl
+
+action-back : (a : def.Action) → actionNumbered (actionTag a) (actionOperand a) ≡ a
+unfolding actionNumbered actionTag actionOperand
+action-back keep = refl
+action-back remove = refl
+action-back (rewriteOperand n) = refl
+
+-- ---- rows
+
+pub rule-back : (r : Rule) → ruleOf (rowOf r) ≡ r
+unfolding ruleOf rowOf
+rule-back r = rw (role-back (r .first), role-back (r .second), test-back (r .test), action-back (r .one), action-back (r .two))
+
+-- the row of a line's numbers
+pub row-is : (ns : List ℕ) → Bounded ns → {n a b : ℕ} → n ≡ used (leb 2 (getD ns 3 0)) (getD ns 4 0) → a ≡ used (eqb (getD ns 5 0) 2) (getD ns 6 0) → b ≡ used (eqb (getD ns 7 0) 2) (getD ns 8 0)
+    → getD ns 0 0 ∷ getD ns 1 0 ∷ getD ns 2 0 ∷ getD ns 3 0 ∷ n ∷ getD ns 5 0 ∷ a ∷ getD ns 7 0 ∷ b ∷ [] ≡ rowOf (ruleOf ns)
+unfolding rowOf ruleOf
+row-is ns f x y z = rw (
+  number-back (getD ns 1 0) (small (f .first)),
+  number-back (getD ns 2 0) (small (f .second)),
+  test-tag (getD ns 3 0) (getD ns 4 0) (f .test),
+  test-number (getD ns 3 0) (getD ns 4 0) (f .test),
+  action-tag (getD ns 5 0) (getD ns 6 0) (f .one),
+  action-operand (getD ns 5 0) (getD ns 6 0) (f .one),
+  action-tag (getD ns 7 0) (getD ns 8 0) (f .two),
+  action-operand (getD ns 7 0) (getD ns 8 0) (f .two),
+  x,
+  y,
+  z,
+)

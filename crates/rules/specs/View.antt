@@ -1,0 +1,157 @@
+-- Rules in a lent table: nine numbers each, in the order of a rule line, with 0 for a number or an operand that no test or action reads.
+use mathlib.Core.Path.{_≡_}
+use mathlib.Core.Bool.{Bool, true, false}
+use mathlib.Core.Option.{Option, some, none}
+use mathlib.Core.List.{List, [], _∷_, _++_}
+use Prim.Native.Nat.{ℕ, zero, suc, _+_, _*_, _≤_, _<_}
+use lib.ListN.{length, getD, take, drop, getElem?}
+use Rattle.definition.specs.Limits.{maxRules}
+use Rattle.definition.specs.Res.{Res, ok, refuse}
+use Rattle.definition.specs.Field.{Numbers, are}
+use Rattle.definition.specs.Opcode.{number, roles}
+use Rattle.definition.specs.Lent.{zeros, filled}
+use Rattle.definition.specs.Rules as def
+use Rattle.definition.specs.Rules.{Rule, Test, always, operandsEqual, firstIs, secondIs, keep, remove, rewriteOperand, nameable, goodRule, ruleOf, ruleFrom}
+use Rattle.rules.specs.declared.Action.{Action}
+use Rattle.rules.specs.declared.Action.the-variants.{Keep, Remove, RewriteOperand}
+use Rattle.rules.specs.declared.Instruction.{Instruction}
+use Rattle.rules.specs.declared.RuleAnswer.{RuleAnswer}
+use Rattle.rules.specs.declared.RuleAnswer.the-variants.{Rules, Refused}
+use Rattle.rules.specs.declared.Found.{Found}
+use Rattle.rules.specs.declared.Found.the-variants.{At, Nothing}
+use Rattle.rules.specs.declared.Line.{Line}
+
+abbrev pub actionView : Action → def.Action
+actionView Keep = keep
+actionView Remove = remove
+actionView (RewriteOperand n) = rewriteOperand n
+
+-- a number over the last role's stands for no role
+abbrev pub instructionView : Instruction → def.Instruction
+instructionView i = record { role = getElem? roles (i .role); operand = i .operand }
+
+-- ---- a rule's row
+
+abbrev pub rowSize : ℕ
+rowSize = 9
+
+abbrev pub tableSize : ℕ
+tableSize = maxRules * rowSize
+
+unfoldable pub testTag : Test → ℕ
+testTag always = 0
+testTag operandsEqual = 1
+testTag (firstIs n) = 2
+testTag (secondIs n) = 3
+
+unfoldable pub testNumber : Test → ℕ
+testNumber always = 0
+testNumber operandsEqual = 0
+testNumber (firstIs n) = n
+testNumber (secondIs n) = n
+
+unfoldable pub actionTag : def.Action → ℕ
+actionTag keep = 0
+actionTag remove = 1
+actionTag (rewriteOperand n) = 2
+
+unfoldable pub actionOperand : def.Action → ℕ
+actionOperand keep = 0
+actionOperand remove = 0
+actionOperand (rewriteOperand n) = n
+
+unfoldable pub rowOf : Rule → List ℕ
+rowOf r = r .pass ∷ number (r .first) ∷ number (r .second) ∷ testTag (r .test) ∷ testNumber (r .test)
+    ∷ actionTag (r .one) ∷ actionOperand (r .one) ∷ actionTag (r .two) ∷ actionOperand (r .two) ∷ []
+
+unfoldable pub rowsOf : List Rule → List ℕ
+rowsOf [] = []
+rowsOf (r ∷ rs) = rowOf r ++ rowsOf rs
+
+-- the whole table: the rows, and 0 behind them
+unfoldable pub tableOf : List Rule → List ℕ
+tableOf rs = filled tableSize (rowsOf rs)
+
+-- ---- what reading answers
+
+unfoldable pub answerOf : Res (List Rule) → RuleAnswer
+answerOf (ok rs) = Rules (length rs)
+answerOf (refuse n p) = Refused n p
+
+unfoldable pub tableFor : Res (List Rule) → List ℕ
+tableFor (ok rs) = tableOf rs
+tableFor (refuse n p) = zeros tableSize
+
+pub record Answered (x : Res (List Rule)) (r : RuleAnswer) (table : List ℕ) : Type 0 where
+  pub is : r ≡ answerOf x
+  pub holds : table ≡ tableFor x
+
+-- one line: its row, or that it is bad and no numbers
+unfoldable pub lineOf : Option Rule → Line
+lineOf none = record { good = false; numbers = zeros rowSize }
+lineOf (some r) = record { good = true; numbers = rowOf r }
+
+-- what the fields' ranges say of a line's numbers
+pub record Bounded (ns : List ℕ) : Type 0 where
+  pub first : getD ns 1 0 < nameable
+  pub second : getD ns 2 0 < nameable
+  pub test : getD ns 3 0 < 4
+  pub one : getD ns 5 0 < 3
+  pub two : getD ns 7 0 < 3
+
+-- a number that is read, or 0
+unfoldable pub used : Bool → ℕ → ℕ
+used true n = n
+used false n = 0
+
+-- a line's nine numbers, or that no rule is made of what the line holds
+unfoldable pub Numbered : Bool → List ℕ → Numbers → Type 0
+Numbered true ns x = x ≡ are ns
+Numbered false ns x = ruleFrom x ≡ none
+
+-- ---- the rules of a table
+
+unfoldable pub ruleAt : List ℕ → ℕ → Rule
+ruleAt table i = ruleOf (take rowSize (drop (i * rowSize) table))
+
+-- the first n
+unfoldable pub rulesIn : List ℕ → ℕ → List Rule
+rulesIn table zero = []
+rulesIn table (suc n) = ruleOf (take rowSize table) ∷ rulesIn (drop rowSize table) n
+
+-- a rule that 9 accepts
+pub record Accepted (r : Rule) : Type 0 where
+  pub good : goodRule r ≡ true
+  pub first : number (r .first) < nameable
+  pub second : number (r .second) < nameable
+
+unfoldable pub Each : List Rule → Type 0
+Each [] = Unit {0}
+Each (r ∷ rs) = Accepted r × Each rs
+
+-- a table that holds this many rules, as reading leaves it
+pub record IsRules (table : List ℕ) (count : ℕ) : Type 0 where
+  pub few : count ≤ maxRules
+  pub is : table ≡ tableOf (rulesIn table count)
+  pub accepted : Each (rulesIn table count)
+
+-- a row that the lookup reads: it is there, and its roles are roles
+pub record RowAt (table : List ℕ) (at : ℕ) : Type 0 where
+  pub there : at < maxRules
+  pub long : length table ≡ tableSize
+  pub first : getD table (at * rowSize + 1) 0 < length roles
+  pub second : getD table (at * rowSize + 2) 0 < length roles
+
+-- ---- the lookup
+
+unfoldable pub Inside : ℕ → Found → Type 0
+Inside count (At i) = i < count
+Inside count Nothing = Unit {0}
+
+unfoldable pub pairAt : List ℕ → Found → Option (def.Action × def.Action)
+pairAt table Nothing = none
+pairAt table (At i) = some (ruleAt table i .one, ruleAt table i .two)
+
+pub record Finds (table : List ℕ) (count pass : ℕ) (a b : Instruction) (r : Found) : Type 0 where
+  pub inside : Inside count r
+  pub is : pairAt table r ≡ def.matches pass (rulesIn table count) (instructionView a) (instructionView b)

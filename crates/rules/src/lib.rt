@@ -1,0 +1,373 @@
+// Pair rules: reading a rule file from any bytes into a lent table, and the lookup that the rewriter asks.
+// The table is a buffer of our own crates: 64 rows of nine numbers, no more and no less, which they can show.
+ghost use mathlib.Core.Path.{_≡_};
+ghost use mathlib.Core.Option.{none};
+ghost use mathlib.Core.List.{_∷_, [], map};
+ghost use Prim.Native.Nat.{ℕ, _≤_, _<_, _+_};
+ghost use lib.ListN.{length};
+ghost use lib.Seq.{paste};
+ghost use Rattle.definition.specs.Limits.{maxRules, badRule};
+ghost use Rattle.definition.specs.Res.{refuse};
+ghost use Rattle.definition.specs.Field.{comma, split, numbers};
+ghost use Rattle.definition.specs.Lent.{zeros};
+ghost use Rattle.definition.specs.Rules.{ruleFields, ruleOf, testNumbered, actionNumbered, testable, allowed, removed, cancel, hasOperand, isVariable, goodRule, readRule, readRules, passes, fits};
+ghost use Rattle.opcode.specs.View.{roleView, effectView};
+ghost use Rattle.rules.specs.View.{actionView, instructionView, rowSize, tableSize, Answered, Numbered, Bounded, used, rowOf, lineOf, RowAt, ruleAt, IsRules, Finds};
+use definition::MAX_FIELD;
+use definition::MAX_RULES;
+use definition::MAX_VARIABLES;
+use definition::PASS_COUNT;
+use field::Read;
+use opcode::Effect;
+use opcode::Role;
+
+// What is done with one instruction of a matched pair.
+pub enum Action {
+    Keep,
+    Remove,
+    RewriteOperand(u16),
+}
+
+// An instruction as a rule sees it. A number over the last role's stands for no role.
+pub struct Instruction {
+    pub role: u8,
+    pub operand: u16,
+}
+
+// How many rules there are, or a refusal's number and place.
+pub enum RuleAnswer {
+    Rules(usize),
+    Refused(u8, u32),
+}
+
+// Which rule of a table fits.
+pub enum Found {
+    At(usize),
+    Nothing,
+}
+
+// A rule line's numbers, if it is good.
+struct Line {
+    good: bool,
+    numbers: [u16; 9],
+}
+
+// Numbers of a rule.
+const ROW: usize = 9;
+
+// The largest number of each field.
+const MAXIMA: [u32; 9] = [PASS_COUNT, 22, 22, 3, MAX_FIELD, 2, MAX_FIELD, 2, MAX_FIELD];
+
+fn bad_line() -> Line
+    ensures { λ r. ⌜ r ≡ lineOf none ⌝ }
+{
+    Line {
+        good: false,
+        numbers: [0; 9],
+    }
+}
+
+// The nine numbers that a line spells.
+fn line_numbers(line: &[u8]) -> Line
+    ensures { λ r. ⌜ Numbered (r .good) (r .numbers) (numbers ruleFields (split comma (now (line .entry)))) ⌝ }
+{
+    let mut numbers = [0u16; 9];
+    let mut at = 0;
+    let mut k = 0;
+    while k < ROW {
+        if at > line.len() {
+            return bad_line();
+        }
+        let end = field::field_end(line, at);
+        let read = field::up_to(&line[at..end], MAXIMA[k]);
+        match read {
+            Read::Is(n) => {
+                numbers[k] = n as u16;
+            }
+            Read::Malformed => return bad_line(),
+            Read::Outside => return bad_line(),
+        }
+        at = end + 1;
+        k += 1;
+    }
+    if at <= line.len() {
+        return bad_line();
+    }
+    Line {
+        good: true,
+        numbers: numbers,
+    }
+}
+
+// ---- what makes a rule good
+
+fn has_operand(role: Role) -> bool
+    ensures { λ r. ⌜ r ≡ hasOperand (roleView role) ⌝ }
+{
+    let t = role.traits();
+    t.size == 3
+}
+
+// Has each operand that the test reads a role that has one?
+fn is_testable(test: u16, first: Role, second: Role) -> bool
+    ensures { λ r. ⌜ ((n : ℕ) → r ≡ testable (testNumbered test n) (roleView first) (roleView second)) ⌝ }
+{
+    match test {
+        1 => {
+            if !has_operand(first) {
+                return false;
+            }
+            has_operand(second)
+        }
+        2 => has_operand(first),
+        3 => has_operand(second),
+        _ => true,
+    }
+}
+
+fn is_variable(role: Role) -> bool
+    ensures { λ r. ⌜ r ≡ isVariable (roleView role) ⌝ }
+{
+    match role {
+        Role::Dup => false,
+        Role::Pop => false,
+        Role::LoadVar => true,
+        Role::StoreVar => true,
+        Role::LoadConst => false,
+        Role::LoadTrue => false,
+        Role::LoadFalse => false,
+        Role::Binary(_) => false,
+        Role::Unary(_) => false,
+        Role::Compare(_) => false,
+        Role::Jmp => false,
+        Role::JmpIfNot => false,
+        Role::CmpBr => false,
+        Role::Ret => false,
+    }
+}
+
+fn is_allowed(action: u16, operand: u16, role: Role) -> bool
+    ensures { λ r. ⌜ r ≡ allowed (actionNumbered action operand) (roleView role) ⌝ }
+{
+    if action != 2 {
+        return true;
+    }
+    if !is_variable(role) {
+        return false;
+    }
+    (operand as u32) < MAX_VARIABLES
+}
+
+// The height change that an action takes out of the code.
+fn removed(action: u16, role: Role) -> Effect
+    ensures { λ r. ⌜ ((n : ℕ) → effectView r ≡ removed (actionNumbered action n) (roleView role)) ⌝ }
+{
+    if action != 1 {
+        return Effect::Same;
+    }
+    let t = role.traits();
+    t.effect
+}
+
+fn cancel(a: Effect, b: Effect) -> bool
+    ensures { λ r. ⌜ r ≡ cancel (effectView a) (effectView b) ⌝ }
+{
+    match a {
+        Effect::Up => match b {
+            Effect::Up => false,
+            Effect::Down => true,
+            Effect::Same => false,
+        },
+        Effect::Down => match b {
+            Effect::Up => true,
+            Effect::Down => false,
+            Effect::Same => false,
+        },
+        Effect::Same => match b {
+            Effect::Up => false,
+            Effect::Down => false,
+            Effect::Same => true,
+        },
+    }
+}
+
+fn is_good(ns: [u16; 9]) -> bool
+    requires { ⌜ Bounded ns ⌝ }
+    ensures { λ r. ⌜ r ≡ goodRule (ruleOf ns) ⌝ }
+{
+    if ns[0] < 1 {
+        return false;
+    }
+    let first = Role::numbered(ns[1] as u8);
+    let second = Role::numbered(ns[2] as u8);
+    if !is_testable(ns[3], first, second) {
+        return false;
+    }
+    if !is_allowed(ns[5], ns[6], first) {
+        return false;
+    }
+    if !is_allowed(ns[7], ns[8], second) {
+        return false;
+    }
+    cancel(removed(ns[5], first), removed(ns[7], second))
+}
+
+// A number that is read, 0 for one that is not.
+fn used(yes: bool, n: u16) -> u16
+    ensures { λ r. ⌜ r ≡ used yes n ⌝ }
+{
+    if yes { n } else { 0 }
+}
+
+fn row(ns: [u16; 9]) -> [u16; 9]
+    requires { ⌜ Bounded ns ⌝ }
+    ensures { λ r. ⌜ r ≡ rowOf (ruleOf ns) ⌝ }
+{
+    let number = used(ns[3] >= 2, ns[4]);
+    let one = used(ns[5] == 2, ns[6]);
+    let two = used(ns[7] == 2, ns[8]);
+    [ns[0], ns[1], ns[2], ns[3], number, ns[5], one, ns[7], two]
+}
+
+fn read_line(line: &[u8]) -> Line
+    ensures { λ r. ⌜ r ≡ lineOf (readRule (now (line .entry))) ⌝ }
+{
+    let l = line_numbers(line);
+    if !l.good {
+        return bad_line();
+    }
+    let ns = l.numbers;
+    if !is_good(ns) {
+        return bad_line();
+    }
+    let numbers = row(ns);
+    Line {
+        good: true,
+        numbers: numbers,
+    }
+}
+
+// ---- the file
+
+fn clear(table: &mut [u16])
+    ensures { λ r. ⌜ now (table .exit) ≡ zeros (length (now (table .entry))) ⌝ }
+{
+    let mut i = 0;
+    while i < table.len() {
+        table[i] = 0;
+        i += 1;
+    }
+}
+
+fn put(table: &mut [u16], at: usize, row: [u16; 9])
+    requires { ⌜ at + rowSize ≤ length (now table) ⌝ }
+    ensures { λ r. ⌜ now (table .exit) ≡ paste (now (table .entry)) at row rowSize ⌝ }
+{
+    let mut k = 0;
+    while k < ROW {
+        table[at + k] = row[k];
+        k += 1;
+    }
+}
+
+fn refuse(table: &mut [u16], line: usize) -> RuleAnswer
+    requires { ⌜ (length (now table) ≡ tableSize) × (line ≤ tableSize) ⌝ }
+    ensures { λ r. ⌜ Answered (refuse badRule line) r (now (table .exit)) ⌝ }
+{
+    clear(table);
+    RuleAnswer::Refused(9, line as u32)
+}
+
+// The rules of a file, from any bytes.
+pub fn read_rules(text: &[u8], table: &mut [u16]) -> RuleAnswer
+    requires { ⌜ length (now table) ≡ tableSize ⌝ }
+    ensures { λ r. ⌜ Answered (readRules (now (text .entry))) r (now (table .exit)) ⌝ }
+{
+    clear(table);
+    let mut at = 0;
+    let mut count = 0;
+    while at < text.len() {
+        let end = field::line_end(text, at);
+        if end >= text.len() {
+            return refuse(table, count + 1);
+        }
+        if count >= MAX_RULES {
+            return refuse(table, count + 1);
+        }
+        let line = read_line(&text[at..end]);
+        if !line.good {
+            return refuse(table, count + 1);
+        }
+        let row = line.numbers;
+        put(table, count * ROW, row);
+        count += 1;
+        at = end + 1;
+    }
+    RuleAnswer::Rules(count)
+}
+
+// ---- the lookup
+
+fn action_of(tag: u16, operand: u16) -> Action
+    ensures { λ r. ⌜ actionView r ≡ actionNumbered tag operand ⌝ }
+{
+    match tag {
+        1 => Action::Remove,
+        2 => Action::RewriteOperand(operand),
+        _ => Action::Keep,
+    }
+}
+
+fn passes(test: u16, n: u16, a: u16, b: u16) -> bool
+    ensures { λ r. ⌜ r ≡ passes (testNumbered test n) a b ⌝ }
+{
+    match test {
+        1 => a == b,
+        2 => a == n,
+        3 => b == n,
+        _ => true,
+    }
+}
+
+fn fits(table: &[u16], at: usize, pass: u8, a: Instruction, b: Instruction) -> bool
+    requires { ⌜ RowAt (now table) at ⌝ }
+    ensures { λ r. ⌜ r ≡ fits pass (ruleAt (now (table .entry)) at) (instructionView a) (instructionView b) ⌝ }
+{
+    let row = at * ROW;
+    if table[row] != pass as u16 {
+        return false;
+    }
+    if table[row + 1] != a.role as u16 {
+        return false;
+    }
+    if table[row + 2] != b.role as u16 {
+        return false;
+    }
+    passes(table[row + 3], table[row + 4], a.operand, b.operand)
+}
+
+// The first rule of a pass that fits two instructions.
+pub fn find(table: &[u16], count: usize, pass: u8, a: Instruction, b: Instruction) -> Found
+    requires { ⌜ IsRules (now table) count ⌝ }
+    ensures { λ r. ⌜ Finds (now (table .entry)) count pass a b r ⌝ }
+{
+    let mut i = 0;
+    while i < count {
+        if fits(table, i, pass, a, b) {
+            return Found::At(i);
+        }
+        i += 1;
+    }
+    Found::Nothing
+}
+
+// The pair of actions of a rule that was found.
+pub fn actions(table: &[u16], at: usize) -> [Action; 2]
+    requires { ⌜ (length (now table) ≡ tableSize) × (at < maxRules) ⌝ }
+    ensures { λ r. ⌜ map actionView r ≡ ruleAt (now (table .entry)) at .one ∷ ruleAt (now (table .entry)) at .two ∷ [] ⌝ }
+{
+    let row = at * ROW;
+    let one = action_of(table[row + 5], table[row + 6]);
+    let two = action_of(table[row + 7], table[row + 8]);
+    [one, two]
+}

@@ -1,0 +1,89 @@
+-- What demand 3 claims of finished code, in document 01's words: how a run may stand, and where the branches are and lead.
+use Prim.Native.Nat.{ℕ, _+_, _≤_}
+use mathlib.Core.Path.{_≡_}
+use mathlib.Core.List.{List, [], _∷_, map}
+use mathlib.Core.Bool.{Bool, true, false}
+use mathlib.Core.Option.{Option, some, none}
+use lib.ListN.{length, getD}
+use Rattle.definition.specs.Field.{has}
+use Rattle.definition.specs.Opcode.{Role, Sheet, roleOf, size, flow}
+use Rattle.definition.specs.Rules.{Rule, matches}
+use Rattle.definition.specs.Rewrite.{Bytes, opcodeOf, decode, startsFrom, OffsetMap, movedTo, applyPeephole}
+use Rattle.definition.specs.Optimize.{Pipeline, run, identity}
+use Rattle.definition.specs.Emit.{Emitter, PendingPatch}
+use Rattle.definition.specs.Compile.{jumpTargets}
+use Rattle.definition.specs.Runs.{Break, finishes, breaks, Stand, target}
+use Rattle.runs.specs.Heights.{Either, branches}
+
+-- ---- runs
+
+-- a run stands at an instruction's start or at the end, has not broken off (so it never popped an empty stack), is at most `depth` high,
+-- and is at height 0 if it has finished
+pub record Fine (s : Sheet) (code : List ℕ) (depth : ℕ) (y : Stand) : Type 0 where
+  pub place : Either (has (startsFrom 0 (decode s code)) (y .state .place) ≡ true) (y .state .place ≡ length code)
+  pub whole : (b : Break) → y .how ≡ breaks b → ⊥
+  pub low : y .state .height ≤ depth
+  pub empty : y .how ≡ finishes → y .state .height ≡ 0
+
+-- ---- branches
+
+unfoldable pub isBranch : Option Role → Bool
+isBranch none = false
+isBranch (some r) = branches (flow r)
+
+-- the starts of branches among instructions of which the first starts at `at`
+unfoldable pub branchesFrom : Sheet → ℕ → List Bytes → List ℕ
+branchesFrom s at [] = []
+branchesFrom s at (i ∷ is) = elim (isBranch (roleOf s (opcodeOf i))) [
+  | true ↦ at ∷ branchesFrom s (at + length i) is
+  | false ↦ branchesFrom s (at + length i) is
+]
+
+-- the branches of some code, by place
+unfoldable pub branchPlaces : Sheet → List ℕ → List ℕ
+branchPlaces s code = branchesFrom s 0 (decode s code)
+
+-- ---- the maps of the three passes
+
+-- the code before the first pass
+unfoldable pub unmoved : Sheet → List ℕ → List ℕ → Pipeline
+unmoved s code protected = record { bytecode = code; protected = protected; map = identity s code }
+
+-- a pass's own map
+unfoldable pub passMap : Sheet → List Rule → ℕ → Pipeline → OffsetMap
+passMap s rules pass p = applyPeephole s (λ a b. matches pass rules a b) (p .protected) (p .bytecode) .1
+
+-- where the maps of the three passes, in turn, move a place of emitted code
+unfoldable pub inTurn : Sheet → List Rule → List ℕ → List ℕ → ℕ → ℕ
+inTurn s rules code protected x =
+    let p₀ = unmoved s code protected in
+    let p₁ = run s rules 1 p₀ in
+    let p₂ = run s rules 2 p₁ in
+    movedTo (passMap s rules 3 p₂) (movedTo (passMap s rules 2 p₁) (movedTo (passMap s rules 1 p₀) x))
+
+-- the instruction at a place is a branch, and leads to another place
+pub record LeadsTo (s : Sheet) (code : List ℕ) (place goal : ℕ) : Type 0 where
+  pub role : Role
+  pub here : roleOf s (getD code place 0) ≡ some role
+  pub branch : branches (flow role) ≡ true
+  pub there : target code (place + size role) ≡ some goal
+
+infixr 20 _also_
+-- P holds of each
+pub data Each {A : Type 0} (P : A → Type 0) : List A → Type 0 where
+  empty : Each P []
+  _also_ : {x : A} {xs : List A} → P x → Each P xs → Each P (x ∷ xs)
+
+-- a branch of emitted code, known by its patch: its label is bound at a place, and in finished code it leads, from where the three maps
+-- move it, to where they move that place
+pub record BranchLeads (s : Sheet) (rules : List Rule) (e : Emitter) (code : List ℕ) (p : PendingPatch) : Type 0 where
+  pub bound : ℕ
+  pub binds : getD (e .labels) (p .label) none ≡ some bound
+  pub leads : LeadsTo s code (inTurn s rules (e .bytecode) (jumpTargets e) (p .instructionOffset)) (inTurn s rules (e .bytecode) (jumpTargets e) bound)
+
+-- the branches of emitted code by place are those that have patches, in their order; those of finished code are the same ones, in the
+-- same order, where the three maps move them
+pub record Branches (s : Sheet) (rules : List Rule) (e : Emitter) (code : List ℕ) : Type 0 where
+  pub emitted : branchPlaces s (e .bytecode) ≡ map (λ (p : PendingPatch). p .instructionOffset) (e .patches)
+  pub finished : branchPlaces s code ≡ map (λ x. inTurn s rules (e .bytecode) (jumpTargets e) x) (branchPlaces s (e .bytecode))
+  pub leads : Each (λ p. BranchLeads s rules e code p) (e .patches)

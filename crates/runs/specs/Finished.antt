@@ -1,0 +1,333 @@
+-- Finished code: every run of it over any outcomes is fine, and every branch of it, reached or not, leads where the three maps move its
+-- label's place. The two theorems are `runs` and `branches`, at the end.
+use Prim.Native.Nat.{ℕ, _+_, _-_, suc, zero, _≤_, zero-le}
+use mathlib.Core.Path.{_≡_, refl, sym, _∙_, ap, subst}
+use mathlib.Core.List.{List, [], _∷_, _++_, map, map-map, map-append}
+use mathlib.Core.Bool.{Bool, true}
+use mathlib.Core.Option.{Option, some, none}
+use lib.ListN.{length, take}
+use lib.Seq.{take-append-seam}
+use native.Mathlib.Omega.{arith}
+use native.Mathlib.Nat.{le-trans}
+use Rattle.definition.specs.Limits.{maxCode}
+use Rattle.definition.specs.Res.{ok}
+use Rattle.definition.specs.Field.{has}
+use Rattle.definition.specs.Opcode.{Sheet}
+use Rattle.definition.specs.Sheet.{readSheet}
+use Rattle.definition.specs.Rules.{Rule, readRules, matches}
+use Rattle.definition.specs.Tree.{Program}
+use Rattle.definition.specs.Program.{readProgram}
+use Rattle.definition.specs.Emit.{Emitter, PendingPatch, Call}
+use Rattle.definition.specs.Stmt.{emitStmts}
+use Rattle.definition.specs.Rewrite.{OffsetMap, movedTo}
+use Rattle.definition.specs.Optimize.{optimize}
+use Rattle.definition.specs.Compile.{boundOr0, boundLabel, FinalizedFunction, jumpTargets, finalizeFunction, emitProgram, compileProgram, compileFiles, Room, compileInto, answer}
+use Rattle.definition.specs.Lent.{zeros, filled}
+use Rattle.definition.specs.Runs.{target, run, start}
+use Rattle.opcode.proofs.Faults.{good}
+use Rattle.opcode.proofs.Sheets.{role-of-opcode}
+use Rattle.runs.specs.Results.{never, ok-demand, ok-bind, ok-is, ok-given, some-is}
+use Rattle.runs.specs.Heights.{Bound}
+use Rattle.runs.specs.Claims.{Fine, branchPlaces, inTurn, LeadsTo, Each, empty, _also_, BranchLeads, Branches}
+use Rattle.runs.specs.Rows.{Row, bytes-of, place-at, height-first, place-first, place-end, place-within, patchHere, patchesBy, patches-same, Linked}
+use Rattle.runs.specs.Emitted.{Stands, Placed, Acted, created, emitted}
+use Rattle.runs.specs.Passes.{Reads, Fine as FineMatcher, rules-fine, looked-moved, Piped, optimize-piped, moved-in-turn}
+use Rattle.runs.specs.Patched.{aimedRows, aimed-first, aimed-heights, aimed-count, aimed-linked, aimed-places, aimed-patches, aim-at, aimed-aims, patchWith, movedPatch, patchJumps-with, patched-rows, row-target}
+use Rattle.runs.specs.Running.{has-first, has-later, run-fine, row-leads, branch-places, each-patch}
+
+-- ---- patches and what holds of each
+
+map-patches : (m : OffsetMap) (f : ℕ → ℕ) (rs : List Row) → map (movedPatch m) (patchesBy f rs) ≡ patchesBy (λ i. movedTo m (f i)) rs
+unfolding patchesBy patchHere movedPatch
+map-patches m f [] = refl
+map-patches m f (r ∷ rs) = map-append (movedPatch m) (patchHere (r .aim) (f 0) (r .operand)) (patchesBy (λ i. f (suc i)) rs)
+    ∙ (ap (λ x. x ++ map (movedPatch m) (patchesBy (λ i. f (suc i)) rs)) (here (r .aim)) ∙ ap (λ x. patchHere (r .aim) (movedTo m (f 0)) (r .operand) ++ x) (map-patches m (λ i. f (suc i)) rs))
+  where
+    here : (a : Option ℕ) → map (movedPatch m) (patchHere a (f 0) (r .operand)) ≡ patchHere a (movedTo m (f 0)) (r .operand)
+    here none = refl
+    here (some l) = refl
+
+each-map : {A B : Type 0} {P : B → Type 0} (f : A → B) (xs : List A) → Each P (map f xs) → Each (λ x. P (f x)) xs
+each-map f [] e = empty
+each-map f (x ∷ xs) (p also ps) = p also each-map f xs ps
+
+map-same : {A : Type 0} (f g : A → ℕ) {xs : List A} → Each (λ x. f x ≡ g x) xs → map f xs ≡ map g xs
+map-same f g empty = refl
+map-same f g (_also_ {x = x} {xs = xs} p ps) = ap (λ y. y ∷ map f xs) p ∙ ap (λ ys. g x ∷ ys) (map-same f g ps)
+
+-- what holds of each patch's label holds of each row's
+each-aim : (Q : ℕ → Type 0) (f : ℕ → ℕ) (rs : List Row) → Each (λ (p : PendingPatch). Q (p .label)) (patchesBy f rs) → (i l : ℕ) → aim-at rs i ≡ some l → Q l
+unfolding patchesBy patchHere aim-at
+each-aim Q f [] e i l a = never (cc)
+each-aim Q f (r ∷ rs) e zero l a = first (r .aim) e a
+  where
+    first : (x : Option ℕ) → Each (λ (p : PendingPatch). Q (p .label)) (patchHere x (f 0) (r .operand) ++ patchesBy (λ i. f (suc i)) rs) → x ≡ some l → Q l
+    first none e a = never (cc)
+    first (some m) (q also qs) a = subst Q (let w : m ≡ l = cc in w) q
+each-aim Q f (r ∷ rs) e (suc i) l a = each-aim Q (λ j. f (suc j)) rs (rest (r .aim) e) i l a
+  where
+    rest : (x : Option ℕ) → Each (λ (p : PendingPatch). Q (p .label)) (patchHere x (f 0) (r .operand) ++ patchesBy (λ i. f (suc i)) rs) → Each (λ (p : PendingPatch). Q (p .label)) (patchesBy (λ i. f (suc i)) rs)
+    rest none e = e
+    rest (some m) (q also qs) = qs
+
+-- a patch's label is protected
+each-has : (B : ℕ → ℕ) (ps : List PendingPatch) → Each (λ (p : PendingPatch). has (map (λ (p : PendingPatch). B (p .label)) ps) (B (p .label)) ≡ true) ps
+each-has B ps = go ps (λ x e. e)
+  where
+    targets : List ℕ
+    targets = map (λ (p : PendingPatch). B (p .label)) ps
+
+    go : (qs : List PendingPatch) → ((x : ℕ) → has (map (λ (p : PendingPatch). B (p .label)) qs) x ≡ true → has targets x ≡ true) → Each (λ (p : PendingPatch). has targets (B (p .label)) ≡ true) qs
+    go [] f = empty
+    go (q ∷ qs) f = f _ (has-first _ _ _ refl) also go qs (λ x e. f x (has-later _ _ _ e))
+
+-- ---- the rows of finished code
+
+module _ (s : Sheet) (back : Reads s) (rules : List Rule) (fine : (pass : ℕ) → FineMatcher s (λ a b. matches pass rules a b)) (p : Program) (e : Emitter) (q : emitProgram s p ≡ ok e) where
+  abbrev calls : List Call
+  calls = emitStmts (p .body) 0 .1
+
+  abbrev Λ : ℕ → ℕ
+  Λ = created calls
+
+  acted : Acted Λ (λ l. Bound l 0 calls) s calls 0 [] e
+  unfolding emitProgram
+  acted = emitted s (p .body) (p .pos) e q
+
+  rows₀ : List Row
+  rows₀ = acted .inv .rows
+
+  abbrev code₀ : List ℕ
+  code₀ = e .bytecode
+
+  abbrev protected : List ℕ
+  protected = jumpTargets e
+
+  piped : Piped Λ (e .maxDepth) s rows₀ protected (optimize s rules code₀ protected)
+  unfolding rows₀
+  piped = optimize-piped s back protected rules fine code₀ (acted .inv .bytes) (acted .inv .linked)
+
+  abbrev moves : OffsetMap
+  moves = optimize s rules code₀ protected .map
+
+  -- where a label's branches must lead
+  abbrev T : ℕ → ℕ
+  T l = movedTo moves (boundLabel (e .labels) l)
+
+  rows : List Row
+  rows = aimedRows T 0 (piped .rows)
+
+  linked : Linked Λ (e .maxDepth) rows 0
+  unfolding rows
+  linked = aimed-linked T 0 (piped .linked)
+
+  patches-moved : map (movedPatch moves) (e .patches) ≡ patchesBy (λ i. place-at (piped .rows) i) (piped .rows)
+  unfolding rows₀
+  patches-moved = ap (λ x. map (movedPatch moves) x) (acted .inv .patches) ∙ (map-patches moves (λ i. place-at rows₀ i) rows₀
+      ∙ (patches-same (λ i. movedTo moves (place-at rows₀ i)) (λ i. place-at (piped .rows) (piped .go i)) rows₀ (λ i le. looked-moved moves _ _ (piped .maps i (omega arith)))
+      ∙ sym (piped .branches (λ i. place-at (piped .rows) i))))
+
+  code-rows : finalizeFunction s rules e .bytecode ≡ bytes-of s rows
+  unfolding finalizeFunction rows
+  code-rows = patchJumps-with (e .labels) moves (e .patches) (optimize s rules code₀ protected .bytecode)
+      ∙ (ap (λ x. patchWith T x (optimize s rules code₀ protected .bytecode)) (patches-moved
+      ∙ patches-same (λ i. place-at (piped .rows) i) (λ i. 0 + place-at (piped .rows) i) (piped .rows) (λ i le. let n : place-at (piped .rows) i ≡ 0 + place-at (piped .rows) i = omega arith in n))
+      ∙ (ap (λ x. patchWith T (patchesBy (λ i. 0 + place-at (piped .rows) i) (piped .rows)) x) (piped .bytes) ∙ patched-rows s T [] (piped .linked)))
+
+  -- ---- the labels of branches
+
+  -- a label that some branch has is bound, at a protected place
+  pub record Used (l : ℕ) : Type 0 where
+    pub placed : Placed (e .labels) l
+    pub kept : has protected (boundLabel (e .labels) l) ≡ true
+
+  each-used : Each (λ (x : PendingPatch). Used (x .label)) (e .patches)
+  unfolding jumpTargets
+  each-used = both (e .patches) (acted .jumps) (each-has (λ l. boundLabel (e .labels) l) (e .patches))
+    where
+      both : (xs : List PendingPatch) → Each (λ (x : PendingPatch). Bound (x .label) 0 calls) xs → Each (λ (x : PendingPatch). has protected (boundLabel (e .labels) (x .label)) ≡ true) xs → Each (λ (x : PendingPatch). Used (x .label)) xs
+      both [] empty empty = empty
+      both (x ∷ xs) (b also bs) (h also hs) = record { placed = acted .binds (x .label) b; kept = h } also both xs bs hs
+
+  bound-is : {l : ℕ} (u : Used l) → boundLabel (e .labels) l ≡ u .placed .place
+  unfolding boundLabel boundOr0
+  bound-is u = ap boundOr0 (u .placed .is)
+
+  -- the places of labels in emitted code
+  label-row : (l : ℕ) → Used l → Stands rows₀ 0 (boundLabel (e .labels) l) (Λ l)
+  unfolding rows₀
+  label-row l u = subst (λ x. Stands rows₀ 0 x (Λ l)) (sym (bound-is u)) (acted .inv .labels .stands l (u .placed .place) (u .placed .is))
+
+  aim-used : (i l : ℕ) → aim-at rows i ≡ some l → Used l
+  unfolding rows rows₀ movedPatch
+  aim-used i l a = each-aim Used (λ j. place-at (piped .rows) j) (piped .rows)
+      (subst (λ x. Each (λ (y : PendingPatch). Used (y .label)) x) patches-moved (each-moved (e .patches) each-used)) i l (sym (aimed-aims T 0 (piped .rows) i) ∙ a)
+    where
+      each-moved : (xs : List PendingPatch) → Each (λ (y : PendingPatch). Used (y .label)) xs → Each (λ (y : PendingPatch). Used (y .label)) (map (movedPatch moves) xs)
+      each-moved [] empty = empty
+      each-moved (x ∷ xs) (u also us) = u also each-moved xs us
+
+  target-row : (l : ℕ) → Used l → Stands rows 0 (T l) (Λ l)
+  unfolding rows
+  target-row l u =
+      let r = label-row l u in
+      let m : T l ≡ place-at (piped .rows) (piped .go (r .index)) = ap (λ x. movedTo moves x) (r .place) ∙ looked-moved moves _ _ (piped .maps (r .index) (r .within)) in
+      record {
+        index = piped .go (r .index);
+        within = subst (λ x. piped .go (r .index) ≤ x) (sym (aimed-count T 0 (piped .rows))) (piped .within (r .index) (r .within));
+        place = m ∙ sym (aimed-places T 0 (piped .linked) (piped .go (r .index)));
+        height = aimed-heights T 0 (piped .rows) 0 (piped .go (r .index)) ∙ (piped .heights (r .index) (r .within) (subst (λ x. has protected x ≡ true) (r .place) (u .kept)) ∙ r .height);
+      }
+
+  same-length : length (bytes-of s rows) ≡ length (bytes-of s (piped .rows))
+  unfolding rows
+  same-length = place-end s rows ∙ (aimed-places T 0 (piped .linked) (length rows) ∙ (ap (λ n. place-at (piped .rows) n) (aimed-count T 0 (piped .rows)) ∙ sym (place-end s (piped .rows))))
+
+  short : length (bytes-of s rows) ≤ maxCode
+  unfolding rows₀
+  short = let a = same-length in let b = piped .short in let c = acted .inv .short in let d = ap length (acted .inv .bytes) in let f = ap length (piped .bytes) in omega arith
+
+  leads : (i l : ℕ) → aim-at rows i ≡ some l → (target (bytes-of s rows) (place-at rows (suc i)) ≡ some (T l)) × Stands rows 0 (T l) (Λ l)
+  unfolding rows
+  leads i l a =
+      let u = aim-used i l a in
+      let t = target-row l u in
+      let n : T l ≤ maxCode = subst (λ x. x ≤ maxCode) (sym (t .place)) (le-trans (place-within s rows (t .index)) short) in (
+        ap (λ x. target (bytes-of s rows) x) (let z = aimed-places T 0 (piped .linked) (suc i) in let w : place-at rows (suc i) ≡ 0 + place-at (piped .rows) (suc i) = omega arith in w)
+            ∙ row-target s T [] (piped .linked) i l (sym (aimed-aims T 0 (piped .rows) i) ∙ a) n short,
+        t,
+      )
+
+  begins : (os : List Bool) → Stands rows 0 (start os .place) (start os .height)
+  unfolding rows rows₀ start
+  begins os = record { index = 0; within = zero-le; place = sym (place-first rows); height = height-first rows 0 ∙ (aimed-first T 0 (piped .rows) 0 ∙ (piped .first ∙ acted .inv .first)) }
+
+  -- ---- the two claims, of one program
+
+  program-runs : (os : List Bool) (n : ℕ) → Fine s (finalizeFunction s rules e .bytecode) (finalizeFunction s rules e .depth) (run s (finalizeFunction s rules e .bytecode) n (start os))
+  unfolding finalizeFunction start
+  program-runs os n = subst (λ c. Fine s c (e .maxDepth) (run s c n (start os))) (sym code-rows) (run-fine s rows linked T leads back n (start os) (begins os) zero-le)
+
+  program-short : length (finalizeFunction s rules e .bytecode) ≤ maxCode
+  program-short = subst (λ c. length c ≤ maxCode) (sym code-rows) short
+
+  place-in-turn : (i : ℕ) → i ≤ length rows₀ → movedTo moves (place-at rows₀ i) ≡ inTurn s rules code₀ protected (place-at rows₀ i)
+  unfolding rows₀
+  place-in-turn i le = moved-in-turn s back protected rules fine code₀ (acted .inv .bytes) (acted .inv .linked) i le
+
+  -- a branch's own place, and its label's
+  offsets-in-turn : Each (λ (x : PendingPatch). movedTo moves (x .instructionOffset) ≡ inTurn s rules code₀ protected (x .instructionOffset)) (e .patches)
+  unfolding rows₀
+  offsets-in-turn = subst (λ xs. Each (λ (x : PendingPatch). movedTo moves (x .instructionOffset) ≡ inTurn s rules code₀ protected (x .instructionOffset)) xs) (sym (acted .inv .patches))
+      (each-patch (λ y l. movedTo moves y ≡ inTurn s rules code₀ protected y) (λ i. place-at rows₀ i) rows₀ (λ i l lt a. place-in-turn i (omega arith)))
+
+  target-in-turn : (l : ℕ) → Used l → T l ≡ inTurn s rules code₀ protected (boundLabel (e .labels) l)
+  target-in-turn l u =
+      let r = label-row l u in
+      ap (λ y. movedTo moves y) (r .place) ∙ (place-in-turn (r .index) (r .within) ∙ ap (λ y. inTurn s rules code₀ protected y) (sym (r .place)))
+
+  emitted-places : branchPlaces s code₀ ≡ map (λ (x : PendingPatch). x .instructionOffset) (e .patches)
+  unfolding rows₀
+  emitted-places = ap (λ c. branchPlaces s c) (acted .inv .bytes) ∙ (branch-places s back (acted .inv .linked) ∙ ap (λ xs. map (λ (x : PendingPatch). x .instructionOffset) xs) (sym (acted .inv .patches)))
+
+  finished-patches : patchesBy (λ i. place-at rows i) rows ≡ map (movedPatch moves) (e .patches)
+  unfolding rows
+  finished-patches = patches-same (λ i. place-at rows i) (λ i. place-at (piped .rows) i) rows (λ i le. aimed-places T 0 (piped .linked) i)
+      ∙ (aimed-patches T 0 (λ i. place-at (piped .rows) i) (piped .linked) ∙ sym patches-moved)
+
+  finished-places : branchPlaces s (finalizeFunction s rules e .bytecode) ≡ map (λ y. inTurn s rules code₀ protected y) (branchPlaces s code₀)
+  unfolding movedPatch
+  finished-places = ap (λ c. branchPlaces s c) code-rows ∙ (branch-places s back linked ∙ (ap (λ xs. map (λ (x : PendingPatch). x .instructionOffset) xs) finished-patches
+      ∙ (map-map (λ (x : PendingPatch). x .instructionOffset) (movedPatch moves) (e .patches)
+      ∙ (map-same (λ (x : PendingPatch). movedTo moves (x .instructionOffset)) (λ (x : PendingPatch). inTurn s rules code₀ protected (x .instructionOffset)) offsets-in-turn
+      ∙ (sym (map-map (λ y. inTurn s rules code₀ protected y) (λ (x : PendingPatch). x .instructionOffset) (e .patches)) ∙ ap (λ xs. map (λ y. inTurn s rules code₀ protected y) xs) (sym emitted-places))))))
+
+  each-leads : Each (λ (x : PendingPatch). BranchLeads s rules e (finalizeFunction s rules e .bytecode) x) (e .patches)
+  unfolding movedPatch
+  each-leads = together (e .patches) (each-map (movedPatch moves) (e .patches) (subst (λ xs. Each (λ (x : PendingPatch). LeadsTo s (bytes-of s rows) (x .instructionOffset) (T (x .label))) xs) finished-patches
+      (each-patch (λ y l. LeadsTo s (bytes-of s rows) y (T l)) (λ i. place-at rows i) rows (λ i l lt a. row-leads s rows linked T leads back i l lt a)))) offsets-in-turn each-used
+    where
+      together : (xs : List PendingPatch) → Each (λ (x : PendingPatch). LeadsTo s (bytes-of s rows) (movedTo moves (x .instructionOffset)) (T (x .label))) xs
+          → Each (λ (x : PendingPatch). movedTo moves (x .instructionOffset) ≡ inTurn s rules code₀ protected (x .instructionOffset)) xs → Each (λ (x : PendingPatch). Used (x .label)) xs
+          → Each (λ (x : PendingPatch). BranchLeads s rules e (finalizeFunction s rules e .bytecode) x) xs
+      together [] empty empty empty = empty
+      together (x ∷ xs) (a also as′) (b also bs) (u also us) = record {
+        bound = u .placed .place;
+        binds = u .placed .is;
+        leads = subst (λ c. LeadsTo s c (inTurn s rules code₀ protected (x .instructionOffset)) (inTurn s rules code₀ protected (u .placed .place))) (sym code-rows)
+            (subst (λ y. LeadsTo s (bytes-of s rows) (inTurn s rules code₀ protected (x .instructionOffset)) y) (target-in-turn (x .label) u ∙ ap (λ y. inTurn s rules code₀ protected y) (bound-is u))
+            (subst (λ y. LeadsTo s (bytes-of s rows) y (T (x .label))) b a));
+      } also together xs as′ bs us
+
+-- ---- the two theorems
+
+-- what the call read and emitted, where it gave back f
+pub record Compiled (sheet rules program : List ℕ) (f : FinalizedFunction) : Type 0 where
+  pub s : Sheet
+  pub rs : List Rule
+  pub p : Program
+  pub e : Emitter
+  pub sheetRead : readSheet sheet ≡ some s
+  pub rulesRead : readRules rules ≡ ok rs
+  pub programRead : readProgram program ≡ ok p
+  pub emission : emitProgram s p ≡ ok e
+  pub finish : f ≡ finalizeFunction s rs e
+
+pub compiled : (place : ℕ) (sheet rules program : List ℕ) (f : FinalizedFunction) → compileFiles place sheet rules program ≡ ok f → Compiled sheet rules program f
+unfolding compileFiles compileProgram
+compiled place sheet rules program f q =
+    let a = ok-bind _ _ f q in
+    let b = ok-bind _ _ f (a .2) in
+    let c = ok-bind _ _ f (b .2) in
+    let d = ok-bind _ _ f (c .2) in
+    record {
+      s = a .0;
+      rs = b .0;
+      p = c .0;
+      e = d .0;
+      sheetRead = ok-given (readSheet sheet) _ _ (a .0) (a .1);
+      rulesRead = b .1;
+      programRead = c .1;
+      emission = d .1;
+      finish = ok-is (d .2);
+    }
+
+-- with lent outputs that are long enough, the call is the same; and finished code is what its code output starts with
+pub into : (place : ℕ) (room : Room) (sheet rules program : List ℕ) (f : FinalizedFunction) → compileInto place room sheet rules program ≡ ok f → compileFiles place sheet rules program ≡ ok f
+unfolding compileInto
+into place room sheet rules program f q = ok-demand _ _ _ _ f q .1
+
+pub lent : (room : Room) (f : FinalizedFunction) → take (answer room (ok f) .codeLength) (answer room (ok f) .code) ≡ f .bytecode
+unfolding answer filled
+lent room f = take-append-seam (f .bytecode) (zeros (room .code - length (f .bytecode)))
+
+module _ (place : ℕ) (sheet rules program : List ℕ) (f : FinalizedFunction) (q : compileFiles place sheet rules program ≡ ok f) where
+  abbrev made : Compiled sheet rules program f
+  made = compiled place sheet rules program f q
+
+  back : Reads (made .s)
+  back = role-of-opcode (good sheet (made .s) (made .sheetRead))
+
+  fine : (pass : ℕ) → FineMatcher (made .s) (λ a b. matches pass (made .rs) a b)
+  fine = rules-fine (made .s) back rules (made .rulesRead)
+
+  -- Whoever runs finished code from place 0 with an empty stack, over any outcomes and for any number of steps, stands at an
+  -- instruction's start or at the end, has never popped an empty stack, is (and so was at every step before) at most the depth high,
+  -- and has height 0 if the run has finished.
+  pub runs : (s : Sheet) → readSheet sheet ≡ some s → (outcomes : List Bool) (n : ℕ) → Fine s (f .bytecode) (f .depth) (run s (f .bytecode) n (start outcomes))
+  runs s r os n = subst (λ t. Fine t (f .bytecode) (f .depth) (run t (f .bytecode) n (start os))) (let w : made .s ≡ s = some-is (sym (made .sheetRead) ∙ r) in w)
+      (subst (λ g. Fine (made .s) (g .bytecode) (g .depth) (run (made .s) (g .bytecode) n (start os))) (sym (made .finish))
+      (program-runs (made .s) back (made .rs) fine (made .p) (made .e) (made .emission) os n))
+
+  -- Every branch of finished code, reached or not: the nth by place is the nth in emitted code, and it leads to exactly the place to
+  -- which the three maps, in turn, move the place where its label is bound.
+  pub branches : Branches (made .s) (made .rs) (made .e) (f .bytecode)
+  branches = subst (λ g. Branches (made .s) (made .rs) (made .e) (g .bytecode)) (sym (made .finish)) (record {
+    emitted = emitted-places (made .s) back (made .rs) fine (made .p) (made .e) (made .emission);
+    finished = finished-places (made .s) back (made .rs) fine (made .p) (made .e) (made .emission);
+    leads = each-leads (made .s) back (made .rs) fine (made .p) (made .e) (made .emission);
+  })
+
+  -- Finished code is at most as long as code may be.
+  pub fits : length (f .bytecode) ≤ maxCode
+  fits = subst (λ g. length (g .bytecode) ≤ maxCode) (sym (made .finish)) (program-short (made .s) back (made .rs) fine (made .p) (made .e) (made .emission))

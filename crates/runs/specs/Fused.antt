@@ -1,0 +1,214 @@
+-- Fused comparisons: a condition that is fused branches exactly as IEC 61131-3's comparison of it, as it is written, says. One law over the
+-- condition, `fused`; then where each of the four places, IF, WHILE, REPEAT and FOR's end test, emits it.
+use Prim.Native.Nat.{ℕ, suc, _<_, zero-le, suc-le-suc}
+use mathlib.Core.Path.{_≡_, refl, sym, _∙_, ap, subst}
+use mathlib.Core.List.{List, [], _∷_, _++_}
+use mathlib.Core.Bool.{Bool, true, false, not}
+use mathlib.Core.Option.{Option, some, none}
+use lib.Dec.{eqb, ltb}
+use lib.ListN.{length, getD}
+use borrow.Author.Tests.{eqb-true, eq-eqb, ltb-true}
+use native.Mathlib.Nat.{le-of-suc-le-suc, not-suc-le-zero}
+use Rattle.definition.specs.Res.{ok}
+use Rattle.definition.specs.Limits.{width}
+use Rattle.definition.specs.Opcode.{CompareOp, negate, commute, cmpBr, Sheet, opcode, comparisonByte}
+use Rattle.definition.specs.Iec.{signedOf, iec, taken}
+use Rattle.definition.specs.Sheet.{readSheet}
+use Rattle.definition.specs.Tree.{Expr, const, bool, read, binary, unary, compare, shortCircuit, bad}
+use Rattle.definition.specs.Emit.{Emitter, PendingPatch, other, le16, indexOf, withConstant, pooledIf, pooled, added, patched, branch, act, emitCmpBr, addConstant, bindLabel}
+use Rattle.definition.specs.Walk.{Calls, _>>=_, _>>_, say, newLabel}
+use Rattle.definition.specs.CompileExpr.{ClassifiedCmp, readOf, constantOf, zip, orClassified, classify, emitClassifiedCmpBr}
+use Rattle.definition.specs.Stmt.{Loops, branchUnlessBy, branchUnless, loopBody, endTestBy, whileBy, repeatBy}
+use Rattle.opcode.proofs.Faults.{good}
+use Rattle.opcode.proofs.Branches.{iec-negate, iec-commute, taken-iec}
+use Rattle.runs.specs.Results.{never, ok-demand, ok-bind, ok-is}
+use Rattle.runs.specs.Emitted.{add-ok}
+
+-- ---- what a condition says
+
+-- the bits of a side that is a variable or a constant, where the variables hold these
+unfoldable pub side : (ℕ → ℕ) → Expr → ℕ
+side values (const k) = k
+side values (bool b) = 0
+side values (read v) = values v
+side values (binary o a b) = 0
+side values (unary o a) = 0
+side values (compare c a b) = 0
+side values (shortCircuit o a b) = 0
+side values (bad f) = 0
+
+-- IEC's comparison of the two sides, in the order in which they are written
+unfoldable pub holds : (ℕ → ℕ) → Expr → Bool
+holds values (const k) = false
+holds values (bool b) = false
+holds values (read v) = false
+holds values (binary o a b) = false
+holds values (unary o a) = false
+holds values (compare c a b) = iec c (signedOf width (side values a)) (signedOf width (side values b))
+holds values (shortCircuit o a b) = false
+holds values (bad f) = false
+
+read-side : (values : ℕ → ℕ) (a : Expr) (v : ℕ) → readOf a ≡ some v → side values a ≡ values v
+unfolding readOf side
+read-side values (const k) v e = never (cc)
+read-side values (bool b) v e = never (cc)
+read-side values (read w) v e = cc
+read-side values (binary o a b) v e = never (cc)
+read-side values (unary o a) v e = never (cc)
+read-side values (compare c a b) v e = never (cc)
+read-side values (shortCircuit o a b) v e = never (cc)
+read-side values (bad f) v e = never (cc)
+
+constant-side : (values : ℕ → ℕ) (a : Expr) (k : ℕ) → constantOf a ≡ some k → side values a ≡ k
+unfolding constantOf side
+constant-side values (const j) k e = cc
+constant-side values (bool b) k e = never (cc)
+constant-side values (read w) k e = never (cc)
+constant-side values (binary o a b) k e = never (cc)
+constant-side values (unary o a) k e = never (cc)
+constant-side values (compare c a b) k e = never (cc)
+constant-side values (shortCircuit o a b) k e = never (cc)
+constant-side values (bad f) k e = never (cc)
+
+-- ---- classification keeps what the condition says
+
+unfoldable pub asks : (ℕ → ℕ) → ClassifiedCmp → Bool
+asks values f = iec (f .op) (signedOf width (values (f .variable))) (signedOf width (f .constant))
+
+module _ (values : ℕ → ℕ) (c : CompareOp) (a b : Expr) (f : ClassifiedCmp) where
+  abbrev Goal : Type 0
+  Goal = asks values f ≡ iec c (signedOf width (side values a)) (signedOf width (side values b))
+
+  straight : (v k : ℕ) → readOf a ≡ some v → constantOf b ≡ some k → some (record { op = c; variable = v; constant = k }) ≡ some f → Goal
+  unfolding asks
+  straight v k p q e =
+      let g : f ≡ record { op = c; variable = v; constant = k } = cc in
+      ap (λ x. asks values x) g ∙ (ap (λ x. iec c (signedOf width x) (signedOf width k)) (sym (read-side values a v p)) ∙ ap (λ x. iec c (signedOf width (side values a)) (signedOf width x)) (sym (constant-side values b k q)))
+
+  mirrored : (v k : ℕ) → readOf b ≡ some v → constantOf a ≡ some k → some (record { op = commute c; variable = v; constant = k }) ≡ some f → Goal
+  unfolding asks
+  mirrored v k p q e =
+      let g : f ≡ record { op = commute c; variable = v; constant = k } = cc in
+      ap (λ x. asks values x) g ∙ (iec-commute c (signedOf width (values v)) (signedOf width k)
+      ∙ (ap (λ x. iec c (signedOf width k) (signedOf width x)) (sym (read-side values b v p)) ∙ ap (λ x. iec c (signedOf width x) (signedOf width (side values b))) (sym (constant-side values a k q))))
+
+  by-sides : (x y z u : Option ℕ) → readOf a ≡ x → constantOf b ≡ y → readOf b ≡ z → constantOf a ≡ u → orClassified (zip c x y) (zip (commute c) z u) ≡ some f → Goal
+  unfolding orClassified zip
+  by-sides (some v) (some k) z u p q r t e = straight v k p q e
+  by-sides (some v) none (some w) (some j) p q r t e = mirrored w j r t e
+  by-sides (some v) none (some w) none p q r t e = never (cc)
+  by-sides (some v) none none u p q r t e = never (cc)
+  by-sides none y (some w) (some j) p q r t e = mirrored w j r t e
+  by-sides none y (some w) none p q r t e = never (cc)
+  by-sides none y none u p q r t e = never (cc)
+
+classified : (values : ℕ → ℕ) (c : Expr) (f : ClassifiedCmp) → classify c ≡ some f → asks values f ≡ holds values c
+unfolding classify holds
+classified values (const k) f e = never (cc)
+classified values (bool b) f e = never (cc)
+classified values (read v) f e = never (cc)
+classified values (binary o a b) f e = never (cc)
+classified values (unary o a) f e = never (cc)
+classified values (compare c a b) f e = by-sides values c a b f (readOf a) (constantOf b) (readOf b) (constantOf a) refl refl refl refl e
+classified values (shortCircuit o a b) f e = never (cc)
+classified values (bad g) f e = never (cc)
+
+-- ---- the law
+
+-- the comparison of the branch that is emitted, on true or on false
+unfoldable pub emittedOp : ClassifiedCmp → Bool → CompareOp
+emittedOp f true = f .op
+emittedOp f false = negate (f .op)
+
+pub emits : (f : ClassifiedCmp) (on : Bool) (target : ℕ) → emitClassifiedCmpBr f on target ≡ say (emitCmpBr (emittedOp f on) (f .variable) (f .constant) target)
+unfolding emitClassifiedCmpBr emittedOp
+emits f true target = refl
+emits f false target = refl
+
+-- does a branch on `on` go, where the condition is as said?
+unfoldable pub goes : Bool → Bool → Bool
+goes true says = says
+goes false says = not says
+
+-- For a condition that is fused, the branch, with the comparison byte that is emitted for it, is taken exactly when IEC's comparison of
+-- the condition as it is written holds, branching on true, or does not hold, branching on false.
+pub fused : (sheet : List ℕ) (s : Sheet) → readSheet sheet ≡ some s → (c : Expr) (f : ClassifiedCmp) → classify c ≡ some f → (values : ℕ → ℕ) (on : Bool)
+    → taken s width (comparisonByte s (emittedOp f on)) (values (f .variable)) (f .constant) ≡ goes on (holds values c)
+unfolding emittedOp goes asks
+fused sheet s r c f e values true = taken-iec (good sheet s r) (f .op) width (values (f .variable)) (f .constant) ∙ classified values c f e
+fused sheet s r c f e values false = taken-iec (good sheet s r) (negate (f .op)) width (values (f .variable)) (f .constant)
+    ∙ (iec-negate (f .op) (signedOf width (values (f .variable))) (signedOf width (f .constant)) ∙ ap not (classified values c f e))
+
+-- ---- the branch in the code: comparison byte, variable, and an index at which the pool holds the constant
+
+indexed : (k : ℕ) (xs : List ℕ) → indexOf k xs < length xs → getD xs (indexOf k xs) 0 ≡ k
+unfolding indexOf
+indexed k [] lt = absurd (not-suc-le-zero lt)
+indexed k (x ∷ xs) lt = by (eqb x k) refl lt (indexed k xs)
+  where
+    by : (b : Bool) → eqb x k ≡ b → elim b [ true ↦ 0 | false ↦ suc (indexOf k xs) ] < length (x ∷ xs) → (indexOf k xs < length xs → getD xs (indexOf k xs) 0 ≡ k)
+        → getD (x ∷ xs) (elim b [ true ↦ 0 | false ↦ suc (indexOf k xs) ]) 0 ≡ k
+    by true p l f = eqb-true x k p
+    by false p l f = f (le-of-suc-le-suc l)
+
+index-last : (k : ℕ) (xs : List ℕ) → indexOf k (xs ++ (k ∷ [])) < length (xs ++ (k ∷ []))
+unfolding indexOf
+index-last k [] = subst (λ b. elim b as (λ c. ℕ) [ true ↦ 0 | false ↦ 1 ] < 1) (sym (eq-eqb k k refl)) (suc-le-suc zero-le)
+index-last k (x ∷ xs) = by (eqb x k) (index-last k xs)
+  where
+    by : (b : Bool) → indexOf k (xs ++ (k ∷ [])) < length (xs ++ (k ∷ [])) → elim b [ true ↦ 0 | false ↦ suc (indexOf k (xs ++ (k ∷ []))) ] < suc (length (xs ++ (k ∷ [])))
+    by true l = suc-le-suc zero-le
+    by false l = suc-le-suc l
+
+pooled-index : (b : Bool) (k : ℕ) (e e′ : Emitter) → ltb (indexOf k (e .constants)) (length (e .constants)) ≡ b → pooledIf b k e ≡ ok e′
+    → (e′ .bytecode ≡ e .bytecode) × (indexOf k (e′ .constants) < length (e′ .constants))
+unfolding pooledIf withConstant
+pooled-index true k e e′ t p = subst (λ x. (x .bytecode ≡ e .bytecode) × (indexOf k (x .constants) < length (x .constants))) (sym (ok-is p)) (refl, ltb-true _ _ t)
+pooled-index false k e e′ t p = subst (λ x. (x .bytecode ≡ e .bytecode) × (indexOf k (x .constants) < length (x .constants))) (sym (ok-is (ok-demand _ _ _ _ e′ p .1))) (refl, index-last k (e .constants))
+
+pub record Coded (s : Sheet) (op : CompareOp) (variable constant : ℕ) (e e′ : Emitter) : Type 0 where
+  pub index : ℕ
+  pub pool : getD (e′ .constants) index 0 ≡ constant
+  pub bytes : e′ .bytecode ≡ e .bytecode ++ (opcode s cmpBr ∷ comparisonByte s op ∷ ((le16 variable ++ le16 index) ++ le16 0))
+
+pub coded : (s : Sheet) (op : CompareOp) (v k target : ℕ) (e e′ : Emitter) → act s (emitCmpBr op v k target) e ≡ ok e′ → Coded s op v k e e′
+unfolding act branch pooled patched added
+coded s op v k target e e′ p =
+    let a = ok-bind _ _ e′ p in
+    let i = pooled-index _ k e (a .0) refl (a .1) in
+    let b = ok-bind _ _ e′ (a .2) in
+    let q = add-ok s cmpBr _ other (a .0) (b .0) (b .1) in
+    let P : PendingPatch = record { instructionOffset = length (a .0 .bytecode); operandDelta = 6; label = target } in
+    let w : e′ ≡ patched P (added s cmpBr _ other (q .0) (a .0)) = ok-is (b .2) ∙ ap (λ x. patched P x) (q .1) in
+    record {
+      index = indexOf k (a .0 .constants);
+      pool = ap (λ (x : Emitter). getD (x .constants) (indexOf k (a .0 .constants)) 0) w ∙ indexed k (a .0 .constants) (i .1);
+      bytes = ap (λ (x : Emitter). x .bytecode) w ∙ ap (λ x. x ++ (opcode s cmpBr ∷ comparisonByte s op ∷ ((le16 v ++ le16 (indexOf k (a .0 .constants))) ++ le16 0))) (i .0);
+    }
+
+-- ---- the four places
+
+-- IF: next is jumped to unless the condition holds
+pub in-if : (c : Expr) (f : ClassifiedCmp) (next : ℕ) → classify c ≡ some f → branchUnless c next ≡ emitClassifiedCmpBr f false next
+unfolding branchUnless branchUnlessBy
+in-if c f next e = ap (λ x. branchUnlessBy x c next) e
+
+-- WHILE: out of the loop unless the condition holds, and back to its start if it does
+pub in-while : (i : ℕ) (c : Expr) (f : ClassifiedCmp) (end : ℕ) (nextUsed : Bool) (body : Loops → Calls) (loops : Loops) → classify c ≡ some f
+    → whileBy (classify c) i c end nextUsed body loops ≡ (say (addConstant (f .constant)) >> (newLabel 0 >>= λ start.
+    emitClassifiedCmpBr f false end >> (say (bindLabel start) >> (loopBody i end nextUsed body loops >> emitClassifiedCmpBr f true start))))
+unfolding whileBy
+in-while i c f end nextUsed body loops e = ap (λ x. whileBy x i c end nextUsed body loops) e
+
+-- REPEAT: back to the head unless the condition holds
+pub in-repeat : (i : ℕ) (c : Expr) (f : ClassifiedCmp) (head end : ℕ) (nextUsed : Bool) (body : Loops → Calls) (loops : Loops) → classify c ≡ some f
+    → repeatBy (classify c) i c head end nextUsed body loops ≡ (say (addConstant (f .constant)) >> (say (bindLabel head) >> (loopBody i end nextUsed body loops >> emitClassifiedCmpBr f false head)))
+unfolding repeatBy
+in-repeat i c f head end nextUsed body loops e = ap (λ x. repeatBy x i c head end nextUsed body loops) e
+
+-- FOR: out of the loop unless the control is within the end; the condition is that comparison, the control on the left
+pub in-for : (within : CompareOp) (v k : ℕ) (to : Expr) (end : ℕ) → constantOf to ≡ some k
+    → (classify (compare within (read v) to) ≡ some (record { op = within; variable = v; constant = k }))
+    × (endTestBy (constantOf to) within v to end ≡ emitClassifiedCmpBr (record { op = within; variable = v; constant = k }) false end)
+unfolding classify readOf constantOf orClassified zip endTestBy
+in-for within v k to end e = (ap (λ x. orClassified (zip within (some v) x) (zip (commute within) (readOf to) none)) e, ap (λ x. endTestBy x within v to end) e)

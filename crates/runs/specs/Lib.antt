@@ -1,0 +1,13 @@
+pub mod Results
+pub mod Heights
+pub mod Emission
+pub mod Claims
+pub mod Roles
+pub mod Rows
+pub mod Emitted
+pub mod Rewritten
+pub mod Passes
+pub mod Patched
+pub mod Running
+pub mod Finished
+pub mod Fused

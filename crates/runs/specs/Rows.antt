@@ -1,0 +1,177 @@
+-- Code as rows: an instruction with the height at which it stands and, for a branch, its label.
+use Prim.Native.Nat.{ℕ, _+_, _-_, suc, zero, _≤_, _<_, zero-le, suc-le-suc}
+use mathlib.Core.Path.{_≡_, refl, sym, _∙_, ap}
+use mathlib.Core.List.{List, [], _∷_, _++_, append-assoc, append-nil}
+use mathlib.Core.Bool.{Bool, true, false}
+use mathlib.Core.Option.{Option, some, none}
+use lib.ListN.{length, length-append}
+use native.Mathlib.Omega.{arith}
+use native.Mathlib.Nat.{le-trans, le-of-suc-le-suc, not-suc-le-zero}
+use Rattle.definition.specs.Opcode.{Role, Sheet, opcode, size, needs, effect, flow, shift}
+use Rattle.definition.specs.Emit.{PendingPatch}
+use Rattle.runs.specs.Results.{never}
+use Rattle.runs.specs.Heights.{falls, branches, Stops}
+
+pub record Row : Type 0 where
+  pub role : Role
+  pub operand : List ℕ
+  pub height : ℕ
+  pub aim : Option ℕ
+
+unfoldable pub next-height : Row → ℕ
+next-height r = shift (effect (r .role)) (r .height)
+
+-- the bytes of rows
+unfoldable pub bytes-of : Sheet → List Row → List ℕ
+bytes-of s [] = []
+bytes-of s (r ∷ rs) = (opcode s (r .role) ∷ r .operand) ++ bytes-of s rs
+
+-- of row i, the place and the height; past the last, the end's
+unfoldable pub place-at : List Row → ℕ → ℕ
+place-at [] i = 0
+place-at (r ∷ rs) zero = 0
+place-at (r ∷ rs) (suc i) = suc (length (r .operand)) + place-at rs i
+
+unfoldable pub height-at : List Row → ℕ → ℕ → ℕ
+height-at [] e i = e
+height-at (r ∷ rs) e zero = r .height
+height-at (r ∷ rs) e (suc i) = height-at rs e i
+
+unfoldable pub first-height : List Row → ℕ → ℕ
+first-height [] e = e
+first-height (r ∷ rs) e = r .height
+
+-- the branches' patches, where row i stands at f i
+unfoldable pub patchHere : Option ℕ → ℕ → List ℕ → List PendingPatch
+patchHere none at o = []
+patchHere (some l) at o = record { instructionOffset = at; operandDelta = length o - 1; label = l } ∷ []
+
+unfoldable pub patchesBy : (ℕ → ℕ) → List Row → List PendingPatch
+patchesBy f [] = []
+patchesBy f (r ∷ rs) = patchHere (r .aim) (f 0) (r .operand) ++ patchesBy (λ i. f (suc i)) rs
+
+-- ---- rows that may stand as they do
+
+-- a branch, and nothing else, has a label, whose height is where it leads
+pub data Leads (Λ : ℕ → ℕ) (g : ℕ) : Bool → Option ℕ → Type 0 where
+  nowhere : Leads Λ g false none
+  to : {l : ℕ} → Λ l ≡ g → Leads Λ g true (some l)
+
+pub leads-to : {Λ : ℕ → ℕ} {g : ℕ} {b : Bool} {a : Option ℕ} → Leads Λ g b a → b ≡ true → (l : ℕ) × (a ≡ some l) × (Λ l ≡ g)
+leads-to nowhere e = never (cc)
+leads-to (to {l = l} p) e = (l, refl, p)
+
+pub leads-nowhere : {Λ : ℕ → ℕ} {g : ℕ} {b : Bool} {a : Option ℕ} → Leads Λ g b a → b ≡ false → a ≡ none
+leads-nowhere nowhere e = refl
+leads-nowhere (to p) e = never (cc)
+
+pub record RowOk (Λ : ℕ → ℕ) (D : ℕ) (r : Row) : Type 0 where
+  pub sized : suc (length (r .operand)) ≡ size (r .role)
+  pub enough : needs (r .role) ≤ r .height
+  pub low : next-height r ≤ D
+  pub leads : Leads Λ (next-height r) (branches (flow (r .role))) (r .aim)
+  pub stops : Stops (flow (r .role)) → r .height ≡ 0
+
+-- each row is in order, and the next one, or the end, stands at the height to which it leads
+pub data Linked (Λ : ℕ → ℕ) (D : ℕ) : List Row → ℕ → Type 0 where
+  finished : {e : ℕ} → Linked Λ D [] e
+  follows : {r : Row} {rs : List Row} {e : ℕ} → RowOk Λ D r → (falls (flow (r .role)) ≡ true → first-height rs e ≡ next-height r) → Linked Λ D rs e → Linked Λ D (r ∷ rs) e
+
+-- ---- one more row
+
+bytes-append : (s : Sheet) (xs ys : List Row) → bytes-of s (xs ++ ys) ≡ bytes-of s xs ++ bytes-of s ys
+unfolding bytes-of
+bytes-append s [] ys = refl
+bytes-append s (x ∷ xs) ys =
+    ap (λ t. (opcode s (x .role) ∷ x .operand) ++ t) (bytes-append s xs ys) ∙ sym (append-assoc (opcode s (x .role) ∷ x .operand) (bytes-of s xs) (bytes-of s ys))
+
+pub bytes-snoc : (s : Sheet) (rs : List Row) (r : Row) → bytes-of s (rs ++ (r ∷ [])) ≡ bytes-of s rs ++ (opcode s (r .role) ∷ r .operand)
+unfolding bytes-of
+bytes-snoc s rs r = bytes-append s rs (r ∷ []) ∙ ap (λ x. bytes-of s rs ++ x) (append-nil (opcode s (r .role) ∷ r .operand))
+
+pub place-first : (rs : List Row) → place-at rs 0 ≡ 0
+unfolding place-at
+place-first [] = refl
+place-first (r ∷ rs) = refl
+
+pub place-end : (s : Sheet) (rs : List Row) → length (bytes-of s rs) ≡ place-at rs (length rs)
+unfolding bytes-of place-at
+place-end s [] = refl
+place-end s (r ∷ rs) =
+    let q = place-end s rs in
+    let n : suc (length (r .operand ++ bytes-of s rs)) ≡ suc (length (r .operand)) + place-at rs (length rs) = omega (arith, length-append (r .operand) (bytes-of s rs)) in
+    n
+
+pub place-within : (s : Sheet) (rs : List Row) (i : ℕ) → place-at rs i ≤ length (bytes-of s rs)
+unfolding bytes-of place-at
+place-within s [] i = zero-le
+place-within s (r ∷ rs) zero = zero-le
+place-within s (r ∷ rs) (suc i) =
+    let q = place-within s rs i in
+    let n : suc (length (r .operand)) + place-at rs i ≤ suc (length (r .operand ++ bytes-of s rs)) = omega (arith, length-append (r .operand) (bytes-of s rs)) in
+    n
+
+pub height-end : (rs : List Row) (e : ℕ) → height-at rs e (length rs) ≡ e
+unfolding height-at
+height-end [] e = refl
+height-end (r ∷ rs) e = height-end rs e
+
+pub height-first : (rs : List Row) (e : ℕ) → height-at rs e 0 ≡ first-height rs e
+unfolding height-at first-height
+height-first [] e = refl
+height-first (r ∷ rs) e = refl
+
+pub place-snoc : (rs : List Row) (r : Row) (i : ℕ) → i ≤ length rs → place-at (rs ++ (r ∷ [])) i ≡ place-at rs i
+unfolding place-at
+place-snoc [] r zero le = refl
+place-snoc [] r (suc i) le = absurd (not-suc-le-zero le)
+place-snoc (x ∷ xs) r zero le = refl
+place-snoc (x ∷ xs) r (suc i) le = ap (λ t. suc (length (x .operand)) + t) (place-snoc xs r i (le-of-suc-le-suc le))
+
+pub height-snoc : (rs : List Row) (r : Row) (h i : ℕ) → i ≤ length rs → height-at (rs ++ (r ∷ [])) h i ≡ height-at rs (r .height) i
+unfolding height-at
+height-snoc [] r h zero le = refl
+height-snoc [] r h (suc i) le = absurd (not-suc-le-zero le)
+height-snoc (x ∷ xs) r h zero le = refl
+height-snoc (x ∷ xs) r h (suc i) le = height-snoc xs r h i (le-of-suc-le-suc le)
+
+pub patches-same : (f g : ℕ → ℕ) (rs : List Row) → ((i : ℕ) → i < length rs → f i ≡ g i) → patchesBy f rs ≡ patchesBy g rs
+unfolding patchesBy
+patches-same f g [] e = refl
+patches-same f g (r ∷ rs) e = ap (λ x. patchHere (r .aim) x (r .operand) ++ patchesBy (λ i. f (suc i)) rs) (e 0 (suc-le-suc zero-le))
+    ∙ ap (λ x. patchHere (r .aim) (g 0) (r .operand) ++ x) (patches-same (λ i. f (suc i)) (λ i. g (suc i)) rs (λ i le. e (suc i) (suc-le-suc le)))
+
+patches-append : (f : ℕ → ℕ) (rs : List Row) (r : Row) → patchesBy f (rs ++ (r ∷ [])) ≡ patchesBy f rs ++ patchHere (r .aim) (f (length rs)) (r .operand)
+unfolding patchesBy
+patches-append f [] r = append-nil (patchHere (r .aim) (f 0) (r .operand))
+patches-append f (x ∷ xs) r = ap (λ y. patchHere (x .aim) (f 0) (x .operand) ++ y) (patches-append (λ i. f (suc i)) xs r)
+    ∙ sym (append-assoc (patchHere (x .aim) (f 0) (x .operand)) (patchesBy (λ i. f (suc i)) xs) (patchHere (r .aim) (f (suc (length xs))) (r .operand)))
+
+pub patches-snoc : (s : Sheet) (rs : List Row) (r : Row)
+    → patchesBy (λ i. place-at (rs ++ (r ∷ [])) i) (rs ++ (r ∷ [])) ≡ patchesBy (λ i. place-at rs i) rs ++ patchHere (r .aim) (length (bytes-of s rs)) (r .operand)
+patches-snoc s rs r = patches-append (λ i. place-at (rs ++ (r ∷ [])) i) rs r
+    ∙ (ap (λ x. x ++ patchHere (r .aim) (place-at (rs ++ (r ∷ [])) (length rs)) (r .operand)) (patches-same (λ i. place-at (rs ++ (r ∷ [])) i) (λ i. place-at rs i) rs (λ i le. place-snoc rs r i (omega arith)))
+    ∙ ap (λ x. patchesBy (λ i. place-at rs i) rs ++ patchHere (r .aim) x (r .operand)) (place-snoc rs r (length rs) (omega arith) ∙ sym (place-end s rs)))
+
+pub first-snoc : (rs : List Row) (r : Row) (e : ℕ) → first-height (rs ++ (r ∷ [])) e ≡ first-height rs (r .height)
+unfolding first-height
+first-snoc [] r e = refl
+first-snoc (x ∷ xs) r e = refl
+
+module _ {Λ : ℕ → ℕ} where
+  pub linked-snoc : {D : ℕ} {rs : List Row} (r : Row) (e : ℕ) → Linked Λ D rs (r .height) → RowOk Λ D r → (falls (flow (r .role)) ≡ true → e ≡ next-height r) → Linked Λ D (rs ++ (r ∷ [])) e
+  unfolding first-height
+  linked-snoc r e finished k f = follows k f finished
+  linked-snoc r e (follows {rs = rs} j g l) k f = follows j (λ t. first-snoc rs r e ∙ g t) (linked-snoc r e l k f)
+
+  -- where a row is taken off the end, what is left leads to its height
+  pub linked-init : {D : ℕ} (rs : List Row) (r : Row) (e : ℕ) → Linked Λ D (rs ++ (r ∷ [])) e → Linked Λ D rs (r .height) × RowOk Λ D r × (falls (flow (r .role)) ≡ true → e ≡ next-height r)
+  unfolding first-height
+  linked-init [] r e (follows k f l) = (finished, k, f)
+  linked-init (x ∷ xs) r e (follows k f l) = let i = linked-init xs r e l in (follows k (λ t. sym (first-snoc xs r e) ∙ f t) (i .0), i .1, i .2)
+
+  -- the depth may grow
+  pub linked-mono : {D D′ : ℕ} → D ≤ D′ → {rs : List Row} {h : ℕ} → Linked Λ D rs h → Linked Λ D′ rs h
+  linked-mono le finished = finished
+  linked-mono le (follows k f l) =
+      follows (record { sized = k .sized; enough = k .enough; low = le-trans (k .low) le; leads = k .leads; stops = k .stops }) f (linked-mono le l)
