@@ -1,14 +1,12 @@
 -- A CMP_BR decides as IEC's comparison does: branching on false negates the comparison, a constant on the left mirrors it.
 use mathlib.Core.Path.{_≡_, refl, ap, sym, _∙_}
 use mathlib.Core.Bool.{Bool, true, false, not}
-use mathlib.Core.Option.{some}
 use Prim.Native.Nat.{ℕ}
 use borrow.Author.Tests.{eq-eqb, ne-eqb, eqb-true, eqb-false, le-leb, lt-leb, ltb-true, ltb-false}
 use lib.Dec.{eqb, leb, ltb}
 use lib.IntN.{ℤ, pos, negsuc}
 use lib.Signed.{ltZ, leZ}
-use Rattle.definition.specs.Opcode.{CompareOp, Eq, Ne, Lt, Le, Gt, Ge, negate, commute, Sheet, comparisonByte, comparisonOf}
-use Rattle.definition.specs.Sheet.{readSheet}
+use Rattle.definition.specs.Opcode.{CompareOp, Eq, Ne, Lt, Le, Gt, Ge, negate, commute, Sheet, comparisonByte}
 use Rattle.definition.specs.Iec.{signedOf, equal, iec, decides, taken}
 use Rattle.opcode.specs.Table.{Good}
 use Rattle.opcode.proofs.Sheets.{comparison-of-byte}

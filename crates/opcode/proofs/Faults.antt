@@ -7,15 +7,15 @@ use mathlib.Core.List.{List, [], _∷_, map}
 use Prim.Native.Nat.{ℕ, zero, suc, _+_, _<_, _≤_}
 use native.Mathlib.Omega.{arith}
 use native.Mathlib.Decide.{ℕ-discrete}
-use borrow.Author.Tests.{eq-eqb, ne-eqb, eqb-true, eqb-false, lt-leb, le-leb, ltb-true, lt-ltb, le-ltb}
-use lib.Dec.{eqb, leb, ltb}
+use borrow.Author.Tests.{eq-eqb, ne-eqb, eqb-true, lt-leb, le-leb, ltb-true, lt-ltb, le-ltb}
+use lib.Dec.{eqb, ltb}
 use lib.ListN.{length, getD, take, drop, length-take, length-drop, length-map}
 use lib.Seq.{getD-drop, getD-take}
 use Rattle.definition.specs.Field.{lf, split, Read, malformed, outside, is, field, Numbers, wrong, far, are, andThese, numbers, has}
 use Rattle.definition.specs.Opcode.{Sheet}
 use Rattle.definition.specs.Sheet.{byte, counted, sheetFields, distinct, sheetOf, repeated, readFields, readSheet, isNumber, times, readAtFault, groupOf, fieldAtFault, faultAt, sheetFault, onlyLine}
 use Rattle.field.proofs.Numbers.{up-to-bound}
-use Rattle.opcode.specs.Table.{Bytes, Good, sheetBy}
+use Rattle.opcode.specs.Table.{Good, sheetBy}
 use Rattle.opcode.proofs.Roles.{seen-at}
 use Rattle.opcode.proofs.Sheets.{and-left, and-right, has-cons, distinct-cons}
 

@@ -1,29 +1,29 @@
 -- Reading a sheet: its one line, its 33 fields, and the place at fault.
 use mathlib.Core.Path.{_≡_, refl, ap, ap₂, sym, _∙_}
-use mathlib.Core.Bool.{Bool, true, false, not, _&&_}
-use mathlib.Core.Option.{Option, some, none}
+use mathlib.Core.Bool.{Bool, true, false, not}
+use mathlib.Core.Option.{some, none}
 use mathlib.Core.List.{List, [], _∷_, _++_, map, map-append}
 use Prim.Native.Nat.{ℕ, zero, suc, _+_, _-_, _<_, _≤_}
 use native.Mathlib.Omega.{arith}
 use native.Mathlib.Numerals.{add-one}
-use native.Mathlib.Decide.{decLt, ℕ-discrete}
+use native.Mathlib.Decide.{decLt}
 use borrow.Author.Tests.{eq-eqb, ne-eqb, lt-ltb, le-ltb, le-leb, ltb-true, ltb-false}
-use lib.Dec.{eqb, ltb, leb}
-use lib.ListN.{length, getD, take, drop, set, length-drop, length-take, length-set, length-map, length-append, drop-of-length-le}
-use lib.Seq.{drop-cons, drop-drop, getD-drop, getD-take, take-nil, take-suc, take-suc-set, take-take, take-append-le, take-all, take-at, drop-at, length-take-le, split-at, drop-append-le}
+use lib.Dec.{eqb, ltb}
+use lib.ListN.{length, getD, take, drop, set, length-drop, length-set, length-map, length-append, drop-of-length-le}
+use lib.Seq.{drop-cons, drop-drop, getD-drop, getD-take, take-nil, take-suc, take-suc-set, take-take, take-append-le, take-all, length-take-le, split-at, drop-append-le}
 use Rattle.definition.specs.Limits.{badSheet}
 use Rattle.definition.specs.Res.{Res, refuse}
 use Rattle.definition.specs.Lent.{zeros}
 use Rattle.definition.specs.Field.{lf, comma, onto, split, firstLine, Read, malformed, outside, is, field, has}
-use Rattle.definition.specs.Sheet.{byte, onlyLine, counted, sheetFields, distinct, isNumber, times, readAtFault, groupOf, fieldAtFault, faultAt, sheetFault, readSheet}
+use Rattle.definition.specs.Sheet.{byte, onlyLine, counted, sheetFields, distinct, times, readAtFault, groupOf, fieldAtFault, faultAt, sheetFault, readSheet}
 use Rattle.field.specs.View.{before, Ends}
 use Rattle.field.proofs.Numbers.{up-to-bound}
 use Rattle.field.proofs.Parts.{parts-last, parts-more, line-part}
 use Rattle.opcode.specs.Table.{sheetIn, Listed, groupStart}
-use Rattle.opcode.specs.Reading.{byteOr, Spelled, Accepts, Refuses, Answers}
+use Rattle.opcode.specs.Reading.{byteOr, Spelled, Accepts, Answers}
 use Rattle.opcode.proofs.Roles.{seen-at}
 use Rattle.opcode.proofs.Sheets.{has-cons, distinct-cons}
-use Rattle.opcode.proofs.Faults.{spelled, fault-refused, times-same, times-has, take-map, drop-map}
+use Rattle.opcode.proofs.Faults.{spelled, fault-refused, times-same, times-has, drop-map}
 
 -- ---- is a byte one of these?
 

@@ -1,19 +1,19 @@
 -- Laws of sheets, over the definition: what an accepted one is, and that an opcode has its role and a role its opcode.
 use mathlib.Core.Path.{_≡_, refl, ap, sym, _∙_}
 use mathlib.Core.Bool.{Bool, true, false, not, _&&_}
-use mathlib.Core.Option.{Option, some, none}
-use mathlib.Core.List.{List, [], _∷_, map}
+use mathlib.Core.Option.{Option, some}
+use mathlib.Core.List.{List, [], _∷_}
 use Prim.Native.Nat.{ℕ, zero, suc, _+_, _<_, _≤_}
 use native.Mathlib.Omega.{arith}
 use borrow.Author.Tests.{eq-eqb, ne-eqb, eqb-true, eqb-false, not-true}
 use native.Mathlib.Decide.{decLt}
 use lib.Dec.{eqb}
-use lib.ListN.{length, getD, take, drop}
+use lib.ListN.{length, getD}
 use Rattle.definition.specs.Field.{has}
-use Rattle.definition.specs.Opcode.{CompareOp, Eq, Ne, Lt, Le, Gt, Ge, BinaryOp, Add, Sub, Mul, Div, Mod, BoolAnd, BoolOr, BoolXor, UnaryOp, Neg, BoolNot, Role, dup, pop, loadVar, storeVar, loadConst, loadTrue, loadFalse, binary, unary, compare, jmp, jmpIfNot, cmpBr, ret, roles, number, compareIndex, Sheet, opcode, comparisonByte, beside, roleOf, comparisonOf}
+use Rattle.definition.specs.Opcode.{CompareOp, Eq, Ne, Lt, Le, Gt, Ge, Add, Sub, Mul, Div, Mod, BoolAnd, BoolOr, BoolXor, Neg, BoolNot, Role, dup, pop, loadVar, storeVar, loadConst, loadTrue, loadFalse, binary, unary, compare, jmp, jmpIfNot, cmpBr, ret, roles, number, compareIndex, Sheet, opcode, comparisonByte, beside, roleOf, comparisonOf}
 use Rattle.definition.specs.Rules.{roleNumbered}
-use Rattle.definition.specs.Sheet.{distinct, readSheet}
-use Rattle.opcode.specs.Table.{Bytes, Good, upFrom}
+use Rattle.definition.specs.Sheet.{distinct}
+use Rattle.opcode.specs.Table.{Good, upFrom}
 use Rattle.opcode.proofs.Roles.{compare-index, past-roles, seen-at}
 
 -- ---- Booleans

@@ -1,19 +1,19 @@
 -- A table: what it holds of its sheet, and how the role numbers come into it.
 use mathlib.Core.Path.{_≡_, refl, ap, sym, _∙_}
-use mathlib.Core.Option.{Option, some, none}
-use mathlib.Core.List.{List, [], _∷_, _++_, map, append-nil}
+use mathlib.Core.Option.{some}
+use mathlib.Core.List.{List, _∷_, _++_, map, append-nil}
 use Prim.Native.Nat.{ℕ, zero, suc, _+_, _-_, _<_, _≤_}
 use native.Mathlib.Omega.{arith}
 use native.Mathlib.Decide.{ℕ-discrete}
 use borrow.Author.Tests.{eq-eqb, ne-eqb}
 use borrow.Author.Fill.{fill-none, fill-more}
 use borrow.Rule.Slice.PartMut.{midOf, postOf, putMid, same-len-mid}
-use lib.ListN.{length, getD, take, drop, set, replicate, take-append-drop, length-take, length-drop, length-set, length-map, length-append, length-replicate, getD-replicate, drop-of-length-le, List·getD-append}
-use lib.Seq.{getD-take, getD-drop, getD-append-add, getD-set-same, getD-set-other, take-set-le, drop-cons, slice-empty, ext-getD, length-take-le, take-at, drop-length}
+use lib.ListN.{length, getD, take, drop, set, replicate, take-append-drop, length-drop, length-set, length-map, length-replicate, getD-replicate, List·getD-append}
+use lib.Seq.{getD-take, getD-drop, getD-append-add, getD-set-same, getD-set-other, take-set-le, drop-cons, slice-empty, ext-getD, length-take-le, drop-length}
 use Rattle.definition.specs.Opcode.{Role, CompareOp, number, compareIndex, ret, roles, beside, roleOf, opcode, comparisonByte, Sheet}
 use Rattle.definition.specs.Rules.{roleNumbered}
 use Rattle.definition.specs.Lent.{zeros}
-use Rattle.opcode.specs.Table.{sheetBy, sheetIn, IsTable, Listed, numberOr, tableOf, upFrom}
+use Rattle.opcode.specs.Table.{sheetIn, IsTable, numberOr, tableOf, upFrom}
 use Rattle.opcode.proofs.Roles.{compare-index, seen-at}
 use Rattle.opcode.proofs.Sheets.{number-below, number-role, up-from}
 
@@ -141,9 +141,6 @@ module _ {t u : List ℕ} {i : ℕ} (p : Listing t u i) where
     back = λ b k. rw (drop-before (take 27 (take 33 t)) i 0 h (omega (arith, p .low, front-long)), drop-before roles i ret h (p .low), front-at (i - 1) (omega (arith, p .low)), ← ex) (go b k (ℕ-discrete x b));
   }
     where
-      xs : List ℕ
-      xs = drop i (take 27 (take 33 t))
-
       go : (b : ℕ) → b < 256 → Dec (x ≡ b) → getD (set u (33 + x) j) (33 + b) 0 ≡ numberOr (beside b (x ∷ drop i (take 27 (take 33 t))) (roleNumbered (i - 1) ∷ drop i roles))
       go b k (yes q) =
           let e : number (roleNumbered (i - 1)) ≡ j = number-role (i - 1) (omega (arith, p .low)) ∙ sym ej in

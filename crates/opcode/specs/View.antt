@@ -1,6 +1,5 @@
 -- What this crate's types stand for in the definition.
 use mathlib.Core.Path.{_≡_}
-use Prim.Native.Nat.{ℕ}
 use Rattle.definition.specs.Opcode as def
 use Rattle.opcode.specs.declared.BinaryOp.{BinaryOp}
 use Rattle.opcode.specs.declared.BinaryOp.the-variants.{Add, Sub, Mul, Div, Mod, BoolAnd, BoolOr, BoolXor}

@@ -1,4 +1,4 @@
-// Roles and comparisons: the stand-in for the source's `opcode` and `cmp_op`.
+// Roles and comparisons: the stand-in for the source's `opcode` and `cmp_op` (document 01, 'Sheet').
 ghost use mathlib.Core.Path.{_≡_};
 ghost use Prim.Native.Nat.{_<_};
 ghost use Rattle.definition.specs.Opcode.{binary, unary, size, number, traits, shift, negate, commute, compareIndex};
@@ -182,6 +182,7 @@ impl UnaryOp {
 }
 
 impl Role {
+    // Its number in the sheet and in rules.
     pub fn number(self) -> u8
         ensures { λ r. ⌜ r ≡ number (roleView self) ⌝ }
     {
@@ -210,6 +211,7 @@ impl Role {
         if n < 27 { ROLES[n as usize] } else { Role::Ret }
     }
 
+    // Its row: one for a class.
     pub fn traits(self) -> Traits
         ensures { λ r. ⌜ IsRow (traits (roleView self)) r ⌝ }
     {

@@ -1,7 +1,7 @@
 // An opcode sheet, read from any bytes into a lent table: the 27 opcodes by role, the six comparison bytes, and for each byte the number of
 // its role. The table is filled once and then lent as one slice, so that nothing of it is copied at a call.
 ghost use mathlib.Core.Path.{_≡_};
-ghost use Prim.Native.Nat.{ℕ, _≤_, _<_};
+ghost use Prim.Native.Nat.{_<_};
 ghost use lib.ListN.{length, replicate};
 ghost use Rattle.definition.specs.Limits.{badSheet};
 ghost use Rattle.definition.specs.Res.{refuse};

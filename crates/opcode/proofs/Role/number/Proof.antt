@@ -1,5 +1,5 @@
 -- Made by `answers` from crates/opcode/answers/Role/number.txt: edit that file, not this one.
-use mathlib.Core.Path.{_≡_, ap, _∙_, sym}
+use mathlib.Core.Path.{sym}
 use native.Mathlib.Omega.{arith}
 use Rattle.definition.specs.Opcode.{number}
 use Rattle.opcode.specs.View.{compareView}

@@ -1,6 +1,5 @@
 -- Made by `answers` from crates/opcode/answers/Role/numbered.txt: edit that file, not this one.
 use mathlib.Core.Path.{sym}
-use native.Mathlib.Omega.{arith}
 use Rattle.definition.specs.Opcode.{roles}
 use Rattle.definition.specs.Rules.{roleNumbered}
 use Rattle.opcode.specs.View.{roleView}
