@@ -36,6 +36,7 @@ move [] i = i
 move (a ∷ xs) zero = zero
 move (a ∷ xs) (suc i) = past a (move xs i)
 
+-- actions for rows: one row is kept alone, or two are a pair that a rule may match
 pub data Fits : List Action → List Row → Type 0 where
   over : Fits [] []
   alone : {xs : List Action} {r : Row} {rs : List Row} → Fits xs rs → Fits (keep ∷ xs) (r ∷ rs)
