@@ -15,7 +15,8 @@ use Rattle.definition.specs.Opcode.{Role, dup, pop, loadVar, storeVar, loadCons
 use Rattle.definition.specs.Rules.{Action, keep, remove, rewriteOperand, Rule, Instruction, nameable, ruleFields, ruleOf, isVariable, allowed, removed, cancel, testable, goodRule, goodOnly, ruleFrom, readRule, isEmpty, rulesFrom, readRules, roleNumbered, hasRole, passes, fits, matches}
 use Rattle.rules.specs.View.{Accepted, Each, Bounded, tableOf, rulesIn, IsRules}
 use Rattle.rules.proofs.Lines.{bounded}
-use Rattle.rules.proofs.Rows.{role-back, number-back, small}
+use Rattle.opcode.proofs.Sheets.{role-number}
+use Rattle.rules.proofs.Rows.{number-back, small}
 use Rattle.rules.proofs.Table.{is-rules, rules-back}
 
 never : {A : Type 0} → false ≡ true → A
@@ -154,7 +155,7 @@ accepted-pair r a =
 role-is : (r : Role) (o : Option Role) → hasRole r o ≡ true → o ≡ some r
 unfolding hasRole
 role-is r none e = never e
-role-is r (some q) e = ap some (sym (role-back q) ∙ ap roleNumbered (sym (eqb-true (number r) (number q) e)) ∙ role-back r)
+role-is r (some q) e = ap some (sym (role-number q) ∙ ap roleNumbered (sym (eqb-true (number r) (number q) e)) ∙ role-number r)
 
 -- the pair of actions that the lookup gives two instructions, and their roles
 pub record Matched (a b : Instruction) (two : Action × Action) : Type 0 where

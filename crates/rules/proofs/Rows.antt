@@ -9,55 +9,27 @@ use native.Mathlib.Omega.{arith}
 use borrow.Author.Tests.{ne-eqb, eqb-true}
 use lib.Dec.{leb, eqb}
 use lib.ListN.{length, getD, getElem?}
-use Rattle.definition.specs.Opcode.{Role, dup, pop, loadVar, storeVar, loadConst, loadTrue, loadFalse, binary, unary, compare, jmp, jmpIfNot, cmpBr, ret, Add, Sub, Mul, Div, Mod, BoolAnd, BoolOr, BoolXor, Neg, BoolNot, Eq, Ne, Lt, Le, Gt, Ge, number, roles}
+use Rattle.definition.specs.Opcode.{Role, ret, number, roles}
 use Rattle.definition.specs.Rules as def
 use Rattle.definition.specs.Rules.{Rule, Test, always, operandsEqual, firstIs, secondIs, keep, remove, rewriteOperand, roleNumbered, testNumbered, actionNumbered, nameable, ruleOf, hasRole}
+use Rattle.opcode.proofs.Sheets.{role-number, number-below}
 use Rattle.rules.specs.View.{used, testTag, testNumber, actionTag, actionOperand, rowOf, Bounded}
 
 -- ---- roles
 
+element : {A : Type 0} (l : List A) (n : ℕ) (d : A) → n < length l → getElem? l n ≡ some (getD l n d)
+element [] n d h = absurd (omega arith)
+element (y ∷ l) zero d h = refl
+element (y ∷ l) (suc n) d h = element l n d (omega arith)
+
 -- every role stands at its number
 pub role-there : (r : Role) → getElem? roles (number r) ≡ some r
-unfolding roles number
-role-there dup = refl
-role-there pop = refl
-role-there loadVar = refl
-role-there storeVar = refl
-role-there loadConst = refl
-role-there loadTrue = refl
-role-there loadFalse = refl
-role-there (binary Add) = refl
-role-there (binary Sub) = refl
-role-there (binary Mul) = refl
-role-there (binary Div) = refl
-role-there (binary Mod) = refl
-role-there (binary BoolAnd) = refl
-role-there (binary BoolOr) = refl
-role-there (binary BoolXor) = refl
-role-there (unary Neg) = refl
-role-there (unary BoolNot) = refl
-role-there (compare Eq) = refl
-role-there (compare Ne) = refl
-role-there (compare Lt) = refl
-role-there (compare Le) = refl
-role-there (compare Gt) = refl
-role-there (compare Ge) = refl
-role-there jmp = refl
-role-there jmpIfNot = refl
-role-there cmpBr = refl
-role-there ret = refl
-
-element-there : {A : Type 0} (l : List A) (n : ℕ) (d x : A) → getElem? l n ≡ some x → (n < length l) × (getD l n d ≡ x)
-element-there [] n d x e = absurd (let z : _≡_ {A = ℕ} 0 1 = cc in omega arith)
-element-there (y ∷ l) zero d x e = (omega arith, (cc))
-element-there (y ∷ l) (suc n) d x e = let p = element-there l n d x e in (omega (arith, p .0), p .1)
+unfolding roleNumbered roles
+role-there r = element roles (number r) ret (number-below r) ∙ ap some (role-number r)
 
 pub number-small : (r : Role) → number r < length roles
-number-small r = element-there roles (number r) ret r (role-there r) .0
-
-pub role-back : (r : Role) → roleNumbered (number r) ≡ r
-unfolding roleNumbered
-role-back r = element-there roles (number r) ret r (role-there r) .1
+unfolding roles
+number-small r = number-below r
 
 -- do the roles of a list have the numbers from k on?
 unfoldable numbered : ℕ → List Role → Bool
@@ -156,7 +128,7 @@ action-back (rewriteOperand n) = refl
 
 pub rule-back : (r : Rule) → ruleOf (rowOf r) ≡ r
 unfolding ruleOf rowOf
-rule-back r = rw (role-back (r .first), role-back (r .second), test-back (r .test), action-back (r .one), action-back (r .two))
+rule-back r = rw (role-number (r .first), role-number (r .second), test-back (r .test), action-back (r .one), action-back (r .two))
 
 -- the row of a line's numbers
 pub row-is : (ns : List ℕ) → Bounded ns → {n a b : ℕ} → n ≡ used (leb 2 (getD ns 3 0)) (getD ns 4 0) → a ≡ used (eqb (getD ns 5 0) 2) (getD ns 6 0) → b ≡ used (eqb (getD ns 7 0) 2) (getD ns 8 0)
