@@ -1,0 +1,288 @@
+-- With no rules the passes change nothing, and patching writes each branch's own offset: finished code, row by row.
+use Prim.Native.Nat.{ℕ, _+_, _-_, _*_, _/_, _%_, suc, zero, _≤_, _<_}
+use mathlib.Core.Path.{_≡_, refl, sym, _∙_, ap, subst}
+use mathlib.Core.List.{List, [], _∷_, _++_, map, append-assoc, append-nil}
+use mathlib.Core.Bool.{Bool, true, false, not, _||_}
+use mathlib.Core.Option.{Option, some, none}
+use native.Mathlib.Omega.{arith}
+use native.Mathlib.Nat.{add-assoc}
+use lib.Dec.{eqb, leb, ltb}
+use lib.ListN.{length, getD, take, drop, length-append}
+use lib.Seq.{take-append-seam, drop-append-add}
+use borrow.Author.Tests.{eq-eqb, ne-eqb, eqb-true, le-leb, leb-true, leb-false, ltb-true, ltb-false}
+use Rattle.definition.specs.Field.{onto, has}
+use Rattle.definition.specs.Opcode.{Role, Sheet, opcode, roleOf, size}
+use Rattle.definition.specs.Rules.{Rule, Action, keep, remove, rewriteOperand, matches, Instruction}
+use Rattle.definition.specs.Emit.{le16, Emitter, PendingPatch}
+use Rattle.definition.specs.Rewrite.{Bytes, ends, sizeOr1, cut, decode, startsFrom, boundariesFrom, instruction, actions, applied, output, OffsetMap, offsets, movedTo, applyPeephole}
+use Rattle.definition.specs.Optimize.{Pipeline, mapThrough, run, identity, optimize}
+use Rattle.definition.specs.Compile.{boundLabel, displacement, overwrite, patchJump, patchJumps, jumpTargets}
+use Rattle.counting.specs.Rows.{Row, rowOf, unpatched, bytesOf, codeOf, patchOf, patchesOf, Sized, code-append}
+
+-- ---- decoding
+
+unfoldable pub joined : List Bytes → List ℕ
+joined [] = []
+joined (i ∷ is) = i ++ joined is
+
+-- an instruction as long as its opcode says
+pub record Whole (s : Sheet) (i : Bytes) : Type 0 where
+  pub role : Role
+  pub first : ℕ
+  pub rest : List ℕ
+  pub is : i ≡ first ∷ rest
+  pub known : roleOf s first ≡ some role
+  pub sized : suc (length rest) ≡ size role
+
+unfoldable pub Wholes : Sheet → List Bytes → Type 0
+Wholes s [] = Unit {0}
+Wholes s (i ∷ is) = Whole s i × Wholes s is
+
+put : List ℕ → List Bytes → List Bytes
+put [] y = y
+put (b ∷ bs) y = onto b (put bs y)
+
+put-nil : (o : List ℕ) (ys : List Bytes) → put o ([] ∷ ys) ≡ o ∷ ys
+unfolding put onto
+put-nil [] ys = refl
+put-nil (b ∷ bs) ys = ap (λ x. onto b x) (put-nil bs ys)
+
+cut-operand : (s : Sheet) (o rest : List ℕ) → cut s (o ++ rest) (length o) ≡ put o (cut s rest 0)
+unfolding cut put
+cut-operand s [] rest = refl
+cut-operand s (b ∷ bs) rest = ap (λ x. onto b x) (cut-operand s bs rest)
+
+cut-one : (s : Sheet) (b : ℕ) (o rest : List ℕ) (r : Role) → roleOf s b ≡ some r → suc (length o) ≡ size r → cut s ((b ∷ o) ++ rest) 0 ≡ [] ∷ put (b ∷ o) (cut s rest 0)
+unfolding cut put ends sizeOr1
+cut-one s b o rest r k z =
+    let e : ends (roleOf s b) (length (o ++ rest)) ≡ true =
+    ap (λ t. ends t (length (o ++ rest))) k ∙ le-leb (size r) (suc (length (o ++ rest))) (omega (arith, length-append o rest)) in
+    let n : sizeOr1 (roleOf s b) - 1 ≡ length o = ap (λ t. sizeOr1 t - 1) k ∙ omega arith in
+    ap (λ t. elim t [ true ↦ [] ∷ onto b (cut s (o ++ rest) (sizeOr1 (roleOf s b) - 1)) | false ↦ [] ∷ [] ]) e
+    ∙ (ap (λ m. [] ∷ onto b (cut s (o ++ rest) m)) n ∙ ap (λ t. [] ∷ onto b t) (cut-operand s o rest))
+
+cut-joined : (s : Sheet) (is : List Bytes) → Wholes s is → cut s (joined is) 0 ≡ [] ∷ is
+unfolding joined Wholes cut
+cut-joined s [] w = refl
+cut-joined s (i ∷ is) w =
+    let h = w .0 in
+    ap (λ t. cut s (t ++ joined is) 0) (h .is)
+    ∙ (cut-one s (h .first) (h .rest) (joined is) (h .role) (h .known) (h .sized)
+    ∙ (ap (λ t. [] ∷ put (h .first ∷ h .rest) t) (cut-joined s is (w .1)) ∙ (ap (λ t. [] ∷ t) (put-nil (h .first ∷ h .rest) is) ∙ ap (λ t. [] ∷ t ∷ is) (sym (h .is)))))
+
+pub decode-joined : (s : Sheet) (is : List Bytes) → Wholes s is → decode s (joined is) ≡ is
+unfolding decode
+decode-joined s is w = ap (λ x. drop 1 x) (cut-joined s is w)
+
+-- ---- no rules: every instruction is kept at its place
+
+unfoldable pub diagonal : List ℕ → OffsetMap
+diagonal [] = []
+diagonal (x ∷ xs) = (x, x) ∷ diagonal xs
+
+unfoldable keeps : List Bytes → List Action
+keeps [] = []
+keeps (i ∷ is) = keep ∷ keeps is
+
+actions-keep : (s : Sheet) (pass : ℕ) (protected : List ℕ) (at : ℕ) (is : List Bytes) → actions s (λ a b. matches pass [] a b) protected at is ≡ keeps is
+unfolding actions keeps matches
+actions-keep s pass protected at [] = refl
+actions-keep s pass protected at (a ∷ []) = refl
+actions-keep s pass protected at (a ∷ b ∷ is) = go (has protected at || has protected (at + length a)) (actions-keep s pass protected (at + length a) (b ∷ is))
+  where
+    go : (t : Bool) → actions s (λ a b. matches pass [] a b) protected (at + length a) (b ∷ is) ≡ keep ∷ keeps is
+        → elim t [ true ↦ keep ∷ actions s (λ a b. matches pass [] a b) protected (at + length a) (b ∷ is) | false ↦ keep ∷ actions s (λ a b. matches pass [] a b) protected (at + length a) (b ∷ is) ] ≡ keep ∷ keep ∷ keeps is
+    go true e = ap (λ x. keep ∷ x) e
+    go false e = ap (λ x. keep ∷ x) e
+
+output-keep : (is : List Bytes) → output (keeps is) is ≡ joined is
+unfolding output keeps joined applied
+output-keep [] = refl
+output-keep (i ∷ is) = ap (λ x. i ++ x) (output-keep is)
+
+offsets-keep : (is : List Bytes) (at : ℕ) → offsets (keeps is) is at at ≡ diagonal (boundariesFrom at is)
+unfolding offsets keeps boundariesFrom diagonal applied
+offsets-keep [] at = refl
+offsets-keep (i ∷ is) at = ap (λ x. (at, at) ∷ x) (offsets-keep is (at + length i))
+
+peephole-keep : (s : Sheet) (pass : ℕ) (protected : List ℕ) (is : List Bytes) → Wholes s is
+    → applyPeephole s (λ a b. matches pass [] a b) protected (joined is) ≡ (joined is, diagonal (boundariesFrom 0 is))
+unfolding applyPeephole
+peephole-keep s pass protected is w =
+    let d = decode-joined s is w in
+    ap (λ xs. (output (actions s (λ a b. matches pass [] a b) protected 0 xs) xs, offsets (actions s (λ a b. matches pass [] a b) protected 0 xs) xs 0 0)) d
+    ∙ (ap (λ acts. (output acts is, offsets acts is 0 0)) (actions-keep s pass protected 0 is)
+    ∙ (ap (λ x. (x, offsets (keeps is) is 0 0)) (output-keep is) ∙ ap (λ x. (joined is, x)) (offsets-keep is 0)))
+
+-- a place of the list is moved to itself
+pub moved-diagonal : (xs : List ℕ) (x : ℕ) → has xs x ≡ true → movedTo (diagonal xs) x ≡ x
+unfolding diagonal movedTo has
+moved-diagonal [] x = λ e. absurd (let z : _≡_ {A = ℕ} 0 1 = cc in omega arith)
+moved-diagonal (y ∷ ys) x = go (eqb x y) (eqb y x) refl refl (moved-diagonal ys x)
+  where
+    go : (a b : Bool) → eqb x y ≡ a → eqb y x ≡ b → (has ys x ≡ true → movedTo (diagonal ys) x ≡ x) → elim a [ true ↦ true | false ↦ has ys x ] ≡ true → elim b [ true ↦ y | false ↦ movedTo (diagonal ys) x ] ≡ x
+    go a true p q f e = eqb-true y x q
+    go true false p q f e = absurd (let z : _≡_ {A = ℕ} 0 1 = let w = sym (eq-eqb y x (sym (eqb-true x y p))) ∙ q in cc in omega arith)
+    go false false p q f e = f e
+
+unfoldable pub Among : List ℕ → List ℕ → Type 0
+Among [] ys = Unit {0}
+Among (x ∷ xs) ys = (has ys x ≡ true) × Among xs ys
+
+has-head : (x : ℕ) (xs : List ℕ) → has (x ∷ xs) x ≡ true
+unfolding has
+has-head x xs = ap (λ b. elim b [ true ↦ true | false ↦ has xs x ]) (eq-eqb x x refl)
+
+has-later : (y x : ℕ) (xs : List ℕ) → has xs x ≡ true → has (y ∷ xs) x ≡ true
+unfolding has
+has-later y x xs e = go (eqb x y)
+  where
+    go : (b : Bool) → elim b [ true ↦ true | false ↦ has xs x ] ≡ true
+    go true = refl
+    go false = e
+
+among-later : (y : ℕ) (xs ys : List ℕ) → Among xs ys → Among xs (y ∷ ys)
+unfolding Among
+among-later y [] ys a = tt
+among-later y (x ∷ xs) ys a = (has-later y x ys (a .0), among-later y xs ys (a .1))
+
+pub among-self : (xs : List ℕ) → Among xs xs
+unfolding Among
+among-self [] = tt
+among-self (x ∷ xs) = (has-head x xs, among-later x xs xs (among-self xs))
+
+through-diagonal : (xs ys : List ℕ) → Among ys xs → mapThrough (diagonal xs) (diagonal ys) ≡ diagonal ys
+unfolding mapThrough diagonal Among
+through-diagonal xs [] a = refl
+through-diagonal xs (y ∷ ys) a = ap (λ z. (y, z) ∷ mapThrough (diagonal xs) (diagonal ys)) (moved-diagonal xs y (a .0)) ∙ ap (λ z. (y, y) ∷ z) (through-diagonal xs ys (a .1))
+
+identity-diagonal : (xs : List ℕ) → map (λ x. (x, x)) xs ≡ diagonal xs
+unfolding diagonal
+identity-diagonal [] = refl
+identity-diagonal (x ∷ xs) = ap (λ z. (x, x) ∷ z) (identity-diagonal xs)
+
+-- the code with the identity map
+pub record Same (code : List ℕ) (places : List ℕ) (p : Pipeline) : Type 0 where
+  pub bytecode : p .bytecode ≡ code
+  pub map : p .map ≡ diagonal places
+
+run-same : (s : Sheet) (pass : ℕ) (is : List Bytes) (p : Pipeline) → Wholes s is → Same (joined is) (boundariesFrom 0 is) p → Same (joined is) (boundariesFrom 0 is) (run s [] pass p)
+unfolding run
+run-same s pass is p w h =
+    let bs = boundariesFrom 0 is in
+    let r = ap (λ c. applyPeephole s (λ a b. matches pass [] a b) (p .protected) c) (h .bytecode) ∙ peephole-keep s pass (p .protected) is w in
+    record {
+      bytecode = ap (λ x. x .0) r;
+      map = ap (λ x. mapThrough (x .1) (p .map)) r ∙ (ap (λ x. mapThrough (diagonal bs) x) (h .map) ∙ through-diagonal bs bs (among-self bs));
+    }
+
+pub optimize-same : (s : Sheet) (is : List Bytes) (protected : List ℕ) → Wholes s is → Same (joined is) (boundariesFrom 0 is) (optimize s [] (joined is) protected)
+unfolding optimize identity
+optimize-same s is protected w =
+    run-same s 3 is _ w (run-same s 2 is _ w (run-same s 1 is _ w (record {
+      bytecode = refl;
+      map = identity-diagonal _ ∙ ap (λ x. diagonal (boundariesFrom 0 x)) (decode-joined s is w);
+    })))
+
+-- ---- patching
+
+-- operand and offset of a row at place p, whose label's goal is known
+unfoldable pub patchedWith : (ℕ → ℕ) → ℕ → Option ℕ → List ℕ → List ℕ
+patchedWith goal p none o = o
+patchedWith goal p (some l) o = o ++ le16 (displacement (goal l) (p + suc (length o) + 2))
+
+unfoldable pub finalBytes : Sheet → (ℕ → ℕ) → ℕ → Row → Bytes
+finalBytes s goal p r = opcode s (r .role) ∷ patchedWith goal p (r .aim) (r .operand)
+
+unfoldable pub finalRows : Sheet → (ℕ → ℕ) → ℕ → List Row → List Bytes
+finalRows s goal p [] = []
+finalRows s goal p (r ∷ rs) = finalBytes s goal p r ∷ finalRows s goal (p + length (bytesOf s r)) rs
+
+pub final-length : (s : Sheet) (goal : ℕ → ℕ) (p : ℕ) (r : Row) → length (finalBytes s goal p r) ≡ length (bytesOf s r)
+unfolding finalBytes bytesOf patchedWith unpatched le16
+final-length s goal p r = ap suc (go (r .aim) (r .operand))
+  where
+    go : (a : Option ℕ) (o : List ℕ) → length (patchedWith goal p a o) ≡ length (unpatched a o)
+    go none o = refl
+    go (some l) o = length-append o _ ∙ sym (length-append o (0 ∷ 0 ∷ []))
+
+-- two bytes written where two stand
+overwritten : (at : ℕ) (A two rest : List ℕ) (x y : ℕ) → at ≡ length A → overwrite at two (A ++ (x ∷ y ∷ rest)) ≡ A ++ (two ++ rest)
+unfolding overwrite
+overwritten at A two rest x y e =
+    let c = A ++ (x ∷ y ∷ rest) in
+    ap (λ n. take n c ++ (two ++ drop (n + 2) c)) e
+    ∙ (ap (λ t. t ++ (two ++ drop (length A + 2) c)) (take-append-seam A (x ∷ y ∷ rest)) ∙ ap (λ t. A ++ (two ++ t)) (drop-append-add A (x ∷ y ∷ rest) 2))
+
+unfoldable pub instructionsOf : Sheet → List Row → List Bytes
+instructionsOf s [] = []
+instructionsOf s (r ∷ rs) = bytesOf s r ∷ instructionsOf s rs
+
+pub code-joined : (s : Sheet) (rs : List Row) → joined (instructionsOf s rs) ≡ codeOf s rs
+unfolding joined instructionsOf codeOf
+code-joined s [] = refl
+code-joined s (r ∷ rs) = ap (λ x. bytesOf s r ++ x) (code-joined s rs)
+
+module _ (s : Sheet) (labels : List (Option ℕ)) (places : List ℕ) where
+  -- where a label's branches lead
+  unfoldable pub goalIn : ℕ → ℕ
+  goalIn l = movedTo (diagonal places) (boundLabel labels l)
+
+  patch-row : (pre rest : List ℕ) (at : ℕ) (r : Row) (ps : List PendingPatch) → at ≡ length pre → has places at ≡ true
+      → patchJumps labels (diagonal places) (patchOf (r .aim) at (r .operand) ++ ps) (pre ++ (bytesOf s r ++ rest)) ≡ patchJumps labels (diagonal places) ps ((pre ++ finalBytes s goalIn at r) ++ rest)
+  unfolding bytesOf finalBytes patchOf unpatched patchedWith patchJumps patchJump goalIn
+  patch-row pre rest at r ps e h = go (r .aim) (r .operand)
+    where
+      op : ℕ
+      op = opcode s (r .role)
+
+      go : (a : Option ℕ) (o : List ℕ)
+          → patchJumps labels (diagonal places) (patchOf a at o ++ ps) (pre ++ ((op ∷ unpatched a o) ++ rest)) ≡ patchJumps labels (diagonal places) ps ((pre ++ (op ∷ patchedWith goalIn at a o)) ++ rest)
+      go none o = ap (λ c. patchJumps labels (diagonal places) ps c) (sym (append-assoc pre (op ∷ o) rest))
+      go (some l) o =
+          let A = pre ++ (op ∷ o) in
+          let two = le16 (displacement (goalIn l) (at + suc (length o) + 2)) in
+          let m = moved-diagonal places at h in
+          let n : at + suc (length o) ≡ length A = omega (arith, length-append pre (op ∷ o)) in
+          let c : pre ++ ((op ∷ (o ++ (0 ∷ 0 ∷ []))) ++ rest) ≡ A ++ (0 ∷ 0 ∷ rest) =
+          ap (λ t. pre ++ (op ∷ t)) (append-assoc o (0 ∷ 0 ∷ []) rest) ∙ sym (append-assoc pre (op ∷ o) (0 ∷ 0 ∷ rest)) in
+          let d : A ++ (two ++ rest) ≡ (pre ++ (op ∷ (o ++ two))) ++ rest =
+          sym (append-assoc A two rest) ∙ ap (λ t. t ++ rest) (append-assoc pre (op ∷ o) two) in
+          ap (λ k. patchJumps labels (diagonal places) ps (overwrite (k + suc (length o)) (le16 (displacement (goalIn l) (k + suc (length o) + 2))) (pre ++ ((op ∷ (o ++ (0 ∷ 0 ∷ []))) ++ rest)))) m
+          ∙ (ap (λ t. patchJumps labels (diagonal places) ps (overwrite (at + suc (length o)) two t)) c
+          ∙ (ap (λ t. patchJumps labels (diagonal places) ps t) (overwritten (at + suc (length o)) A two rest 0 0 n ∙ d)))
+
+  patch-rows : (pre : List ℕ) (at : ℕ) (rs : List Row) → at ≡ length pre → Among (boundariesFrom at (instructionsOf s rs)) places
+      → patchJumps labels (diagonal places) (patchesOf s at rs) (pre ++ codeOf s rs) ≡ pre ++ joined (finalRows s goalIn at rs)
+  unfolding patchesOf codeOf joined finalRows boundariesFrom instructionsOf Among patchJumps
+  patch-rows pre at [] e a = refl
+  patch-rows pre at (r ∷ rs) e a =
+      let f = finalBytes s goalIn at r in
+      let q : at + length (bytesOf s r) ≡ length (pre ++ f) = omega (arith, length-append pre f, final-length s goalIn at r) in
+      patch-row pre (codeOf s rs) at r (patchesOf s (at + length (bytesOf s r)) rs) e (a .0)
+      ∙ (patch-rows (pre ++ f) (at + length (bytesOf s r)) rs q (a .1) ∙ append-assoc pre f (joined (finalRows s goalIn (at + length (bytesOf s r)) rs)))
+
+  pub patched-all : (rs : List Row) → Among (boundariesFrom 0 (instructionsOf s rs)) places → patchJumps labels (diagonal places) (patchesOf s 0 rs) (codeOf s rs) ≡ joined (finalRows s goalIn 0 rs)
+  patched-all rs a = patch-rows [] 0 rs refl a
+
+-- every row is whole, before and after patching, if the sheet knows its opcodes
+module _ (s : Sheet) (known : (r : Role) → roleOf s (opcode s r) ≡ some r) where
+  pub wholes : (rs : List Row) → Sized s rs → Wholes s (instructionsOf s rs)
+  unfolding Wholes instructionsOf Sized bytesOf
+  wholes [] z = tt
+  wholes (r ∷ rs) z = (record { role = r .role; first = opcode s (r .role); rest = unpatched (r .aim) (r .operand); is = refl; known = known (r .role); sized = z .0 }, wholes rs (z .1))
+
+  pub final-wholes : (goal : ℕ → ℕ) (p : ℕ) (rs : List Row) → Sized s rs → Wholes s (finalRows s goal p rs)
+  unfolding Wholes finalRows Sized finalBytes
+  final-wholes goal p [] z = tt
+  final-wholes goal p (r ∷ rs) z = (
+    record {
+      role = r .role;
+      first = opcode s (r .role);
+      rest = patchedWith goal p (r .aim) (r .operand);
+      is = refl;
+      known = known (r .role);
+      sized = final-length s goal p r ∙ z .0;
+    },
+    final-wholes goal (p + length (bytesOf s r)) rs (z .1),
+  )

@@ -1,0 +1,16 @@
+pub mod Machine
+pub mod Pass
+pub mod Laid
+pub mod Stands
+pub mod Numbers
+pub mod Counting
+pub mod Once
+pub mod Rows
+pub mod Emitted
+pub mod Finished
+pub mod Placed
+pub mod ForCalls
+pub mod Layout
+pub mod Found
+pub mod Passes
+pub mod Example

@@ -1,0 +1,170 @@
+-- Code as rows: role, operand without the offset, and a branch's label; and what each call does to them.
+use Prim.Native.Nat.{ℕ, _+_, _-_, suc, zero, _≤_, _<_}
+use mathlib.Core.Path.{_≡_, refl, sym, _∙_, ap, subst}
+use mathlib.Core.List.{List, [], _∷_, _++_, append-assoc, append-nil}
+use mathlib.Core.Bool.{Bool, true, false}
+use mathlib.Core.Option.{Option, some, none}
+use native.Mathlib.Omega.{arith}
+use lib.Dec.{eqb, leb, ltb}
+use lib.ListN.{length, take, drop, set, length-append}
+use lib.Seq.{take-append-seam, drop-append-seam}
+use borrow.Author.Tests.{leb-true, ltb-true, eqb-true, eqb-false, ne-eqb}
+use Rattle.definition.specs.Limits.{maxCode}
+use Rattle.definition.specs.Res.{Res, ok, refuse, _>>=_, _>>_, demand}
+use Rattle.definition.specs.Opcode.{Role, Sheet, opcode, comparisonByte, dup, loadVar, storeVar, loadConst, jmp, jmpIfNot, cmpBr, size, traits, row}
+use Rattle.definition.specs.Emit.{le16, Emitter, Last, other, loaded, stored, LineEntry, PendingPatch, added, add, folded, foldStore, loadAfter, withConstant, pooledIf, pooled, patched, labelled, settled, branch, indexOf, act, acts, Call, createLabel, bindLabel, loadVariable, storeVariable, loadConstant, addConstant, emitOpcode, emitJmp, emitJmpIfNot, emitCmpBr, resetStackDepth, setPosition, refused}
+use Rattle.counting.specs.Once.{OneByte, OneBytes, closes, closed}
+
+-- ---- an answer that is no refusal
+
+pub ok-demand : {A : Type 0} (b : Bool) (n p : ℕ) (m : Res A) (x : A) → (demand b n p >> m) ≡ ok x → (b ≡ true) × (m ≡ ok x)
+unfolding demand _>>_
+ok-demand true n p m x e = (refl, e)
+ok-demand false n p m x e = absurd (let z : _≡_ {A = ℕ} 0 1 = cc in omega arith)
+
+pub ok-bind : {A B : Type 0} (m : Res A) (f : A → Res B) (y : B) → (m >>= f) ≡ ok y → (x : A) × (m ≡ ok x) × (f x ≡ ok y)
+unfolding _>>=_
+ok-bind (ok a) f y e = (a, refl, e)
+ok-bind (refuse n p) f y e = absurd (let z : _≡_ {A = ℕ} 0 1 = cc in omega arith)
+
+pub ok-is : {A : Type 0} {a b : A} → ok a ≡ ok b → b ≡ a
+ok-is e = cc
+
+pub not-ok : {A B : Type 0} {n p : ℕ} {a : A} → refuse n p ≡ ok a → B
+not-ok e = absurd (let z : _≡_ {A = ℕ} 0 1 = cc in omega arith)
+
+-- ---- rows
+
+pub record Row : Type 0 where
+  pub role : Role
+  pub operand : List ℕ
+  pub aim : Option ℕ
+
+unfoldable pub rowOf : Role → List ℕ → Option ℕ → Row
+rowOf r o a = record { role = r; operand = o; aim = a }
+
+-- operand and offset, which is 0 until it is patched
+unfoldable pub unpatched : Option ℕ → List ℕ → List ℕ
+unpatched none o = o
+unpatched (some l) o = o ++ (0 ∷ 0 ∷ [])
+
+unfoldable pub bytesOf : Sheet → Row → List ℕ
+bytesOf s r = opcode s (r .role) ∷ unpatched (r .aim) (r .operand)
+
+unfoldable pub codeOf : Sheet → List Row → List ℕ
+codeOf s [] = []
+codeOf s (r ∷ rs) = bytesOf s r ++ codeOf s rs
+
+unfoldable pub patchOf : Option ℕ → ℕ → List ℕ → List PendingPatch
+patchOf none at o = []
+patchOf (some l) at o = record { instructionOffset = at; operandDelta = suc (length o); label = l } ∷ []
+
+unfoldable pub patchesOf : Sheet → ℕ → List Row → List PendingPatch
+patchesOf s at [] = []
+patchesOf s at (r ∷ rs) = patchOf (r .aim) at (r .operand) ++ patchesOf s (at + length (bytesOf s r)) rs
+
+unfoldable pub Sized : Sheet → List Row → Type 0
+Sized s [] = Unit {0}
+Sized s (r ∷ rs) = (length (bytesOf s r) ≡ size (r .role)) × Sized s rs
+
+pub code-append : (s : Sheet) (xs ys : List Row) → codeOf s (xs ++ ys) ≡ codeOf s xs ++ codeOf s ys
+unfolding codeOf
+code-append s [] ys = refl
+code-append s (x ∷ xs) ys = ap (λ t. bytesOf s x ++ t) (code-append s xs ys) ∙ sym (append-assoc (bytesOf s x) (codeOf s xs) (codeOf s ys))
+
+code-snoc : (s : Sheet) (xs : List Row) (r : Row) → codeOf s (xs ++ (r ∷ [])) ≡ codeOf s xs ++ bytesOf s r
+unfolding codeOf
+code-snoc s xs r = code-append s xs (r ∷ []) ∙ ap (λ t. codeOf s xs ++ t) (append-nil (bytesOf s r))
+
+pub patches-append : (s : Sheet) (at : ℕ) (xs ys : List Row) → patchesOf s at (xs ++ ys) ≡ patchesOf s at xs ++ patchesOf s (at + length (codeOf s xs)) ys
+unfolding patchesOf codeOf
+patches-append s at [] ys = ap (λ n. patchesOf s n ys) (omega arith)
+patches-append s at (x ∷ xs) ys =
+    let n : at + length (bytesOf s x) + length (codeOf s xs) ≡ at + length (bytesOf s x ++ codeOf s xs) = omega (arith, length-append (bytesOf s x) (codeOf s xs)) in
+    ap (λ t. patchOf (x .aim) at (x .operand) ++ t) (patches-append s (at + length (bytesOf s x)) xs ys ∙ ap (λ m. patchesOf s (at + length (bytesOf s x)) xs ++ patchesOf s m ys) n)
+    ∙ sym (append-assoc (patchOf (x .aim) at (x .operand)) (patchesOf s (at + length (bytesOf s x)) xs) (patchesOf s (at + length (bytesOf s x ++ codeOf s xs)) ys))
+
+patches-snoc : (s : Sheet) (xs : List Row) (r : Row) → patchesOf s 0 (xs ++ (r ∷ [])) ≡ patchesOf s 0 xs ++ patchOf (r .aim) (length (codeOf s xs)) (r .operand)
+unfolding patchesOf
+patches-snoc s xs r =
+    patches-append s 0 xs (r ∷ []) ∙ ap (λ t. patchesOf s 0 xs ++ t) (append-nil _ ∙ ap (λ n. patchOf (r .aim) n (r .operand)) (omega arith))
+
+pub sized-append : (s : Sheet) (xs ys : List Row) → Sized s xs → Sized s ys → Sized s (xs ++ ys)
+unfolding Sized
+sized-append s [] ys a b = b
+sized-append s (x ∷ xs) ys a b = (a .0, sized-append s xs ys (a .1) b)
+
+pub sized-left : (s : Sheet) (xs ys : List Row) → Sized s (xs ++ ys) → Sized s xs
+unfolding Sized
+sized-left s [] ys a = tt
+sized-left s (x ∷ xs) ys a = (a .0, sized-left s xs ys (a .1))
+
+pub sized-right : (s : Sheet) (xs ys : List Row) → Sized s (xs ++ ys) → Sized s ys
+unfolding Sized
+sized-right s [] ys a = a
+sized-right s (x ∷ xs) ys a = sized-right s xs ys (a .1)
+
+-- code and patches that are those of some rows
+pub record Formed (s : Sheet) (rows : List Row) (code : List ℕ) (ps : List PendingPatch) : Type 0 where
+  pub is : code ≡ codeOf s rows
+  pub patches : ps ≡ patchesOf s 0 rows
+  pub sized : Sized s rows
+  pub short : length code ≤ maxCode
+
+abbrev pub FormedBy : Sheet → List Row → Emitter → Type 0
+FormedBy s rows e = Formed s rows (e .bytecode) (e .patches)
+
+-- ---- one instruction more
+
+grown : (s : Sheet) (rows : List Row) (code : List ℕ) (ps : List PendingPatch) (r : Row) → Formed s rows code ps → length (bytesOf s r) ≡ size (r .role) → length code + length (bytesOf s r) ≤ maxCode
+    → Formed s (rows ++ (r ∷ [])) (code ++ bytesOf s r) (ps ++ patchOf (r .aim) (length code) (r .operand))
+unfolding Sized
+grown s rows code ps r f z m = record {
+  is = ap (λ c. c ++ bytesOf s r) (f .is) ∙ sym (code-snoc s rows r);
+  patches = ap (λ p. p ++ patchOf (r .aim) (length code) (r .operand)) (f .patches)
+      ∙ (ap (λ c. patchesOf s 0 rows ++ patchOf (r .aim) (length c) (r .operand)) (f .is) ∙ sym (patches-snoc s rows r));
+  sized = sized-append s rows (r ∷ []) (f .sized) (z, tt);
+  short = omega (arith, length-append code (bytesOf s r));
+}
+
+add-ok : (s : Sheet) (r : Role) (o : List ℕ) (l : Last) (e e′ : Emitter) → add s r o l e ≡ ok e′ → (xs : List LineEntry) × (e′ ≡ added s r o l xs e) × (length (e .bytecode) + suc (length o) ≤ maxCode)
+unfolding add
+add-ok s r o l e e′ p =
+    let d = ok-demand _ _ _ _ e′ p in
+    let q = ok-bind _ _ e′ (d .1) in
+    (q .0, ok-is (q .2), leb-true _ _ (d .0))
+
+-- what an added instruction leaves of the emitter
+pub record Adds (s : Sheet) (rows : List Row) (l : Last) (e e′ : Emitter) : Type 0 where
+  pub formed : FormedBy s rows e′
+  pub last : e′ .last ≡ l
+  pub constants : e′ .constants ≡ e .constants
+  pub labels : e′ .labels ≡ e .labels
+
+pub add-adds : (s : Sheet) (rows : List Row) (r : Role) (o : List ℕ) (l : Last) (e e′ : Emitter) → FormedBy s rows e → suc (length o) ≡ size r → add s r o l e ≡ ok e′
+    → Adds s (rows ++ (rowOf r o none ∷ [])) l e e′
+unfolding added rowOf bytesOf unpatched patchOf
+add-adds s rows r o l e e′ f z p =
+    let q = add-ok s r o l e e′ p in
+    subst (λ x. Adds s (rows ++ (rowOf r o none ∷ [])) l e x) (sym (q .1)) (record {
+      formed = subst (λ ps. Formed s (rows ++ (rowOf r o none ∷ [])) (e .bytecode ++ (opcode s r ∷ o)) ps) (append-nil (e .patches)) (grown s rows (e .bytecode) (e .patches) (rowOf r o none) f z (q .2));
+      last = refl;
+      constants = refl;
+      labels = refl;
+    })
+
+pub branch-adds : (s : Sheet) (rows : List Row) (r : Role) (o : List ℕ) (delta l : ℕ) (e e′ : Emitter) → FormedBy s rows e → suc (length (o ++ (0 ∷ 0 ∷ []))) ≡ size r → delta ≡ suc (length o) → branch s r o delta l e ≡ ok e′
+    → Adds s (rows ++ (rowOf r o (some l) ∷ [])) other e e′
+unfolding branch added patched rowOf bytesOf unpatched patchOf le16
+branch-adds s rows r o delta l e e′ f z d p =
+    let a = ok-bind _ _ e′ p in
+    let q = add-ok s r (o ++ (0 ∷ 0 ∷ [])) other e (a .0) (a .1) in
+    let P : ℕ → PendingPatch = λ y. record { instructionOffset = length (e .bytecode); operandDelta = y; label = l } in
+    let g = grown s rows (e .bytecode) (e .patches) (rowOf r o (some l)) f z (q .2) in
+    let same : patched (P delta) (added s r (o ++ (0 ∷ 0 ∷ [])) other (q .0) e) ≡ e′ = sym (ok-is (ap (λ y. ok (patched (P delta) y)) (sym (q .1)) ∙ a .2)) in
+    subst (λ x. Adds s (rows ++ (rowOf r o (some l) ∷ [])) other e x) same (record {
+      formed = subst (λ y. Formed s (rows ++ (rowOf r o (some l) ∷ [])) (e .bytecode ++ (opcode s r ∷ (o ++ (0 ∷ 0 ∷ [])))) (e .patches ++ (P y ∷ []))) (sym d) g;
+      last = refl;
+      constants = refl;
+      labels = refl;
+    })

@@ -1,0 +1,105 @@
+-- Lists of offsets checked one by one.
+use mathlib.Core.Path.{_≡_, refl, ap, sym, _∙_}
+use mathlib.Core.Bool.{Bool, true, false}
+use mathlib.Core.List.{List, [], _∷_, map}
+use Prim.Native.Nat.{ℕ, zero, suc, _+_, _≤_, _<_}
+use native.Mathlib.Numerals.{add-one, add-two, add-three}
+use native.Mathlib.Omega.{arith}
+use lib.ListN.{length, getD, drop, drop-of-length-le, length-drop, List·getD-eq-default}
+use lib.Dec.{leb}
+use borrow.Author.Tests.{leb-true, leb-false}
+use lib.Seq.{drop-cons}
+use Rattle.definition.specs.Limits.{badCode}
+use Rattle.definition.specs.Res.{Res, ok, refuse, _>>_, demand}
+use Rattle.definition.specs.Field.{has}
+use Rattle.definition.specs.Emit as def
+use Rattle.definition.specs.Lent.{entriesOf}
+use Rattle.definition.specs.Alone.{boundaries}
+use Rattle.optimize.specs.declared.Offset.{Offset}
+use Rattle.optimize.specs.declared.Offset.the-variants.{Fine, Bad}
+use Rattle.optimize.specs.View.{Small, fixedIn, entryOffsets, offsetView, Checks}
+use Rattle.optimize.proofs.Tables.{fixed-small}
+
+pub bounds-more : (places : List ℕ) (x : ℕ) (xs : List ℕ) → has places x ≡ true → boundaries places (x ∷ xs) ≡ boundaries places xs
+unfolding boundaries _>>_ demand
+bounds-more places x xs h = ap (λ (t : Bool). demand t badCode x >> boundaries places xs) h
+
+pub bounds-bad : (places : List ℕ) (x : ℕ) (xs : List ℕ) → has places x ≡ false → boundaries places (x ∷ xs) ≡ refuse badCode x
+unfolding boundaries _>>_ demand
+bounds-bad places x xs h = ap (λ (t : Bool). demand t badCode x >> boundaries places xs) h
+
+-- ---- a plain list
+
+pub record Checking (places list : List ℕ) (i : ℕ) : Type 0 where
+  pub left : boundaries places list ≡ boundaries places (drop i list)
+  pub small : (k : ℕ) → k < i → getD list k 0 ≤ 16384
+
+module _ (table list : List ℕ) where
+  pub check-begins : Checking (fixedIn table) list 0
+  check-begins = record { left = refl; small = λ k h. absurd (omega arith) }
+
+  pub check-goes-on : (i : ℕ) → length table ≡ 16385 → Checking (fixedIn table) list i → i < length list → true ≡ has (fixedIn table) (getD list i 0) → Checking (fixedIn table) list (i + 1)
+  check-goes-on i slots c h on = record {
+    left = c .left ∙ rw (drop-cons list i 0 h, add-one i) (bounds-more (fixedIn table) (getD list i 0) (drop (suc i) list) (sym on));
+    small = λ k q. byPlace k q (leb i k) refl;
+  }
+    where
+      byPlace : (k : ℕ) → k < i + 1 → (t : Bool) → leb i k ≡ t → getD list k 0 ≤ 16384
+      byPlace k q true e =
+          let same : k ≡ i = omega (arith, leb-true i k e) in
+          rw same (fixed-small table (getD list i 0) slots (sym on))
+      byPlace k q false e = c .small k (leb-false _ _ e)
+
+  pub check-bad : (i : ℕ) → Checking (fixedIn table) list i → i < length list → false ≡ has (fixedIn table) (getD list i 0)
+      → Checks (boundaries (fixedIn table) list) list (Bad (getD list i 0))
+  check-bad i c h off = record {
+    is = sym (c .left ∙ rw (drop-cons list i 0 h) (bounds-bad (fixedIn table) (getD list i 0) (drop (suc i) list) (sym off)));
+    small = λ e. absurd (let n : _≡_ {A = ℕ} 0 1 = cc in omega arith);
+  }
+
+  pub check-ends : (i : ℕ) → Checking (fixedIn table) list i → length list ≤ i → Checks (boundaries (fixedIn table) list) list Fine
+  unfolding boundaries
+  check-ends i c h = record {
+    is = sym (c .left ∙ rw (drop-of-length-le list h));
+    small = λ _. record { at = λ k. byPlace k (leb (length list) k) refl };
+  }
+    where
+      byPlace : (k : ℕ) (t : Bool) → leb (length list) k ≡ t → getD list k 0 ≤ 16384
+      byPlace k true e = rw (List·getD-eq-default list 0 (leb-true _ _ e)) (omega arith)
+      byPlace k false e = c .small k (omega (arith, leb-false (length list) k e))
+
+-- ---- line entries, three numbers each
+
+pub entry-at : (lines : List ℕ) (i : ℕ) → i + 2 < length lines
+    → entriesOf (drop i lines) ≡ record { offset = getD lines i 0; pos = record { line = getD lines (i + 1) 0; column = getD lines (i + 2) 0 } } ∷ entriesOf (drop (i + 3) lines)
+unfolding entriesOf
+entry-at lines i h =
+    rw (drop-cons lines i 0 (omega arith), drop-cons lines (suc i) 0 (omega arith), drop-cons lines (suc (suc i)) 0 (omega arith), add-one i, add-two i, add-three i)
+
+entries-short : (xs : List ℕ) → length xs ≤ 2 → entriesOf xs ≡ []
+unfolding entriesOf
+entries-short [] h = refl
+entries-short (a ∷ []) h = refl
+entries-short (a ∷ b ∷ []) h = refl
+entries-short (a ∷ b ∷ c ∷ xs) h = absurd (omega arith)
+
+pub entries-none : (lines : List ℕ) (i : ℕ) → length lines ≤ i + 2 → entriesOf (drop i lines) ≡ []
+entries-none lines i h = entries-short (drop i lines) (simp length-drop (omega arith))
+
+pub record CheckingLines (places lines : List ℕ) (i : ℕ) : Type 0 where
+  pub left : boundaries places (entryOffsets lines) ≡ boundaries places (entryOffsets (drop i lines))
+  pub within : i ≤ length lines
+
+module _ (places lines : List ℕ) where
+  pub lines-begin : CheckingLines places lines 0
+  lines-begin = record { left = refl; within = omega arith }
+
+  pub lines-go-on : (i : ℕ) → CheckingLines places lines i → i + 2 < length lines → true ≡ has places (getD lines i 0) → CheckingLines places lines (i + 3)
+  lines-go-on i c h on = record { left = c .left ∙ rw (entry-at lines i h) (bounds-more places (getD lines i 0) (entryOffsets (drop (i + 3) lines)) (sym on)); within = omega arith }
+
+  pub lines-bad : (i : ℕ) → CheckingLines places lines i → i + 2 < length lines → false ≡ has places (getD lines i 0) → refuse badCode (getD lines i 0) ≡ boundaries places (entryOffsets lines)
+  lines-bad i c h off = sym (c .left ∙ rw (entry-at lines i h) (bounds-bad places (getD lines i 0) (entryOffsets (drop (i + 3) lines)) (sym off)))
+
+  pub lines-end : (i : ℕ) → CheckingLines places lines i → length lines ≤ i + 2 → ok tt ≡ boundaries places (entryOffsets lines)
+  unfolding boundaries
+  lines-end i c h = sym (c .left ∙ rw (entries-none lines i h))

@@ -1,0 +1,5 @@
+pub mod Tables
+pub mod Checks
+pub mod Lines
+pub mod Bounds
+pub mod Runs

@@ -1,0 +1,195 @@
+-- Tables by offset: as maps, as sets of marks and of fixed offsets; offsets marked and moved.
+use mathlib.Core.Path.{_≡_, refl, ap, sym, _∙_}
+use mathlib.Core.Bool.{Bool, true, false, not, _||_}
+use mathlib.Core.List.{List, [], _∷_, _++_, map, append-assoc, append-nil}
+use Prim.Native.Nat.{ℕ, zero, suc, _+_, _≤_, _<_}
+use native.Mathlib.Nat.{add-zero}
+use native.Mathlib.Numerals.{add-one}
+use native.Mathlib.Omega.{arith}
+use borrow.Author.Tests.{eq-eqb, ne-eqb, eqb-true, eqb-false, leb-true, leb-false}
+use lib.ListN.{length, getD, set, take, drop, length-set, drop-of-length-le, replicate, length-replicate, List·getD-eq-default}
+use lib.Dec.{eqb, leb}
+use lib.Seq.{getD-set-same, getD-set-other, drop-cons, take-suc-set, drop-set-lt, take-all, append-snoc}
+use Rattle.definition.specs.Field.{has}
+use Rattle.definition.specs.Rewrite.{OffsetMap, movedTo}
+use Rattle.rewrite.specs.View.{marked, Clear}
+use Rattle.rewrite.proofs.Marked.{has-here, has-past, isMark, has-marked}
+use Rattle.rewrite.proofs.Pass.{moved-here, moved-past}
+use Rattle.optimize.specs.View.{Small, Marks, mapFrom, mapIn, fixedFrom, fixedIn}
+
+-- ---- a table as a map
+
+moved-low : (at x : ℕ) (ys : List ℕ) → x < at → movedTo (mapFrom at ys) x ≡ 0
+unfolding mapFrom movedTo
+moved-low at x [] h = refl
+moved-low at x (y ∷ ys) h = moved-past at y x (mapFrom (suc at) ys) (λ e. omega arith) ∙ moved-low (suc at) x ys (omega arith)
+
+moved-from : (at k : ℕ) (ys : List ℕ) → movedTo (mapFrom at ys) (at + k) ≡ getD ys k 0
+unfolding mapFrom movedTo
+moved-from at k [] = refl
+moved-from at zero (y ∷ ys) = rw (add-zero at) (moved-here at y (mapFrom (suc at) ys))
+moved-from at (suc k) (y ∷ ys) =
+    let step : at + suc k ≡ suc at + k = omega arith in
+    moved-past at y (at + suc k) (mapFrom (suc at) ys) (λ e. omega arith) ∙ rw step (moved-from (suc at) k ys)
+
+pub moved-in : (table : List ℕ) (x : ℕ) → movedTo (mapIn table) x ≡ getD table x 0
+unfolding mapIn
+moved-in table x = let z : 0 + x ≡ x = omega arith in rw z at (moved-from 0 x table)
+
+pub moved-at : (table : List ℕ) (x : ℕ) {at : ℕ} → at ≡ x → getD table at 0 ≡ movedTo (mapIn table) x
+moved-at table x e = rw e (sym (moved-in table x))
+
+pub moved-past-end : (table : List ℕ) (x : ℕ) {at : ℕ} → at ≡ x → length table ≤ at → 0 ≡ movedTo (mapIn table) x
+moved-past-end table x e h = sym (moved-in table x ∙ List·getD-eq-default table 0 (rw e at h))
+
+-- ---- a table's fixed offsets
+
+fixed-cons : (at y : ℕ) (ys : List ℕ) (t : Bool) → eqb y at ≡ t → fixedFrom at (y ∷ ys) ≡ elim t [ true ↦ at ∷ fixedFrom (suc at) ys | false ↦ fixedFrom (suc at) ys ]
+unfolding fixedFrom
+fixed-cons at y ys true e = rw (e, fixedFrom)
+fixed-cons at y ys false e = rw (e, fixedFrom)
+
+skip : (at y x : ℕ) (ys : List ℕ) (b : Bool) → (x ≡ at → ⊥) → has (fixedFrom (suc at) ys) x ≡ b → has (fixedFrom at (y ∷ ys)) x ≡ b
+skip at y x ys b h e = byTest (eqb y at) refl
+  where
+    byTest : (t : Bool) → eqb y at ≡ t → has (fixedFrom at (y ∷ ys)) x ≡ b
+    byTest true q = rw (fixed-cons at y ys true q) (has-past x at (fixedFrom (suc at) ys) h ∙ e)
+    byTest false q = rw (fixed-cons at y ys false q) e
+
+has-low : (at x : ℕ) (ys : List ℕ) → x < at → has (fixedFrom at ys) x ≡ false
+unfolding fixedFrom has
+has-low at x [] h = refl
+has-low at x (y ∷ ys) h = skip at y x ys false (λ q. omega arith) (has-low (suc at) x ys (omega arith))
+
+has-at : (at y : ℕ) (ys : List ℕ) → has (fixedFrom at (y ∷ ys)) at ≡ eqb y at
+has-at at y ys = byTest (eqb y at) refl
+  where
+    byTest : (t : Bool) → eqb y at ≡ t → has (fixedFrom at (y ∷ ys)) at ≡ eqb y at
+    byTest true e = rw (e, fixed-cons at y ys true e) (has-here at (fixedFrom (suc at) ys))
+    byTest false e = rw (e, fixed-cons at y ys false e) (has-low (suc at) at ys (omega arith))
+
+has-from : (at k : ℕ) (ys : List ℕ) → k < length ys → has (fixedFrom at ys) (at + k) ≡ eqb (getD ys k 0) (at + k)
+has-from at k [] h = absurd (omega arith)
+has-from at zero (y ∷ ys) h = rw (add-zero at) (has-at at y ys)
+has-from at (suc k) (y ∷ ys) h =
+    let step : at + suc k ≡ suc at + k = omega arith in
+    skip at y (at + suc k) ys _ (λ q. omega arith) (rw step (has-from (suc at) k ys (omega arith)))
+
+has-past-end : (at k : ℕ) (ys : List ℕ) → length ys ≤ k → has (fixedFrom at ys) (at + k) ≡ false
+unfolding fixedFrom has
+has-past-end at k [] h = refl
+has-past-end at zero (y ∷ ys) h = absurd (omega arith)
+has-past-end at (suc k) (y ∷ ys) h =
+    let step : at + suc k ≡ suc at + k = omega arith in
+    skip at y (at + suc k) ys _ (λ q. omega arith) (rw step (has-past-end (suc at) k ys (omega arith)))
+
+pub fixed-past : (table : List ℕ) (x : ℕ) → length table ≤ x → has (fixedIn table) x ≡ false
+unfolding fixedIn
+fixed-past table x far = let z : 0 + x ≡ x = omega arith in rw z at (has-past-end 0 x table far)
+
+fixed-at : (table : List ℕ) (x : ℕ) → x < length table → has (fixedIn table) x ≡ eqb (getD table x 0) x
+unfolding fixedIn
+fixed-at table x near = let z : 0 + x ≡ x = omega arith in rw z at (has-from 0 x table near)
+
+pub has-fixed : (table : List ℕ) (x : ℕ) → 1 ≤ length table → has (fixedIn table) x ≡ eqb (getD table x 0) x
+has-fixed table x full = byPlace (leb (length table) x) refl
+  where
+    byPlace : (t : Bool) → leb (length table) x ≡ t → has (fixedIn table) x ≡ eqb (getD table x 0) x
+    byPlace true h =
+        let far = leb-true _ _ h in
+        rw (List·getD-eq-default table 0 far, ne-eqb 0 x (λ e. omega arith)) (fixed-past table x far)
+    byPlace false h = fixed-at table x (leb-false _ _ h)
+
+-- ---- marks
+
+or-true : (b : Bool) → (b || true) ≡ true
+or-true true = refl
+or-true false = refl
+
+or-false : (b : Bool) → (b || false) ≡ b
+or-false true = refl
+or-false false = refl
+
+-- what is left to mark from the i-th on
+pub record Marking (protected marks : List ℕ) (i : ℕ) : Type 0 where
+  pub slots : length marks ≡ 16385
+  pub left : (x : ℕ) → has protected x ≡ (isMark (getD marks x 0) || has (drop i protected) x)
+
+module _ (protected : List ℕ) where
+  pub mark-begins : (marks : List ℕ) → Clear marks → Marking protected marks 0
+  unfolding isMark
+  mark-begins marks c = record { slots = c .slots; left = λ x. rw (c .none x) }
+
+  pub mark-goes-on : (marks : List ℕ) (i y : ℕ) → Small protected → Marking protected marks i → i < length protected → y ≡ getD protected i 0 → Marking protected (set marks y 1) (i + 1)
+  unfolding isMark
+  mark-goes-on marks i y small m h e =
+      let small-here = small .at i in
+      let inside : y < length marks = omega (arith, m .slots) in
+      let cons : drop i protected ≡ y ∷ drop (suc i) protected = rw e (drop-cons protected i 0 h) in
+      record {
+        slots = length-set marks y 1 ∙ m .slots;
+        left = λ x.
+            let was = rw cons at (m .left x) in
+            let byTest : (t : Bool) → eqb x y ≡ t → has protected x ≡ (isMark (getD (set marks y 1) x 0) || has (drop (suc i) protected) x) = λ t.
+            elim t as (λ t. eqb x y ≡ t → has protected x ≡ (isMark (getD (set marks y 1) x 0) || has (drop (suc i) protected) x)) [
+              | true ↦ λ q.
+                  let same = eqb-true x y q in
+                  rw (same, getD-set-same marks y 1 0 inside) (rw (same, has-here y (drop (suc i) protected)) at was ∙ or-true (isMark (getD marks y 0)))
+              | false ↦ λ q.
+                  let other = eqb-false x y q in
+                  rw (getD-set-other marks y x 1 0 other) (rw (has-past x y (drop (suc i) protected) other) at was)
+            ] in
+            rw (add-one i) (byTest (eqb x y) refl);
+      }
+
+  pub mark-ends : (marks : List ℕ) (i : ℕ) → Marking protected marks i → length protected ≤ i → Marks protected marks
+  unfolding has
+  mark-ends marks i m h = record {
+    slots = m .slots;
+    is = λ x. has-marked marks x ∙ sym (rw (drop-of-length-le protected h, or-false) at (m .left x));
+  }
+
+-- ---- offsets moved
+
+pub record Moving (f : ℕ → ℕ) (list₀ list : List ℕ) (i : ℕ) : Type 0 where
+  pub left : map f list₀ ≡ take i list ++ map f (drop i list)
+  pub room : length list ≡ length list₀
+
+module _ (f : ℕ → ℕ) (list₀ : List ℕ) where
+  pub move-begins : Moving f list₀ list₀ 0
+  move-begins = record { left = refl; room = refl }
+
+  pub move-goes-on : (list : List ℕ) (i v : ℕ) → Moving f list₀ list i → i < length list → v ≡ f (getD list i 0) → Moving f list₀ (set list i v) (i + 1)
+  move-goes-on list i v m h e =
+      let left = rw (drop-cons list i 0 h, ← e) at (m .left) in
+      record {
+        left = rw (add-one i, take-suc-set list i v h, drop-set-lt (suc i) list i v (omega arith), append-snoc) left;
+        room = length-set list i v ∙ m .room;
+      }
+
+  pub move-ends : (list : List ℕ) (i : ℕ) → Moving f list₀ list i → length list ≤ i → list ≡ map f list₀
+  move-ends list i m h = sym (rw (drop-of-length-le list h, take-all i list h, append-nil) at (m .left))
+
+-- ---- a table that is made empty
+
+pub replicate-none : (n x : ℕ) → _≡_ {A = ℕ} (getD (replicate n 0) x 0) 0
+replicate-none zero x = refl
+replicate-none (suc n) zero = refl
+replicate-none (suc n) (suc x) = replicate-none n x
+
+pub clear-table : (n : ℕ) → n ≡ 16385 → Clear (replicate n 0)
+clear-table n e = record { slots = length-replicate n 0 ∙ e; none = replicate-none n }
+
+never : (b : Bool) → b ≡ true → b ≡ false → ⊥
+never b p q = let z : _≡_ {A = ℕ} 0 1 = cc in omega arith
+
+pub fixed-small : (table : List ℕ) (x : ℕ) → length table ≡ 16385 → has (fixedIn table) x ≡ true → x ≤ 16384
+fixed-small table x slots h = byPlace (leb (length table) x) refl
+  where
+    byPlace : (t : Bool) → leb (length table) x ≡ t → x ≤ 16384
+    byPlace true q = absurd (never _ h (fixed-past table x (leb-true _ _ q)))
+    byPlace false q = omega (arith, leb-false (length table) x q)
+
+-- one offset's test in code
+pub is-fixed : (table : List ℕ) (x y : ℕ) → length table ≡ 16385 → y ≡ movedTo (mapIn table) x → eqb y x ≡ has (fixedIn table) x
+is-fixed table x y slots e = rw (e, moved-in table x) (sym (has-fixed table x (omega arith)))

@@ -1,0 +1,273 @@
+// The three passes and line mapping (optimize/mod.rs).
+ghost use mathlib.Core.Path.{_≡_};
+ghost use mathlib.Core.List.{map, [], _∷_, _++_};
+ghost use mathlib.Core.Option.{none};
+ghost use Prim.Native.Nat.{ℕ, _+_, _-_, _≤_};
+ghost use lib.ListN.{length, take};
+ghost use Rattle.definition.specs.Field.{has};
+ghost use Rattle.definition.specs.Rewrite.{movedTo};
+ghost use Rattle.definition.specs.Alone.{boundaries};
+ghost use Rattle.definition.specs.Lent.{entryNumbers, entriesOf, zeros};
+ghost use Rattle.definition.specs.Optimize.{run, remapLineMap};
+ghost use Rattle.opcode.specs.Table.{IsTable, sheetIn};
+ghost use Rattle.rules.specs.View.{rulesIn};
+ghost use Rattle.rewrite.specs.View.{Puts, Clear};
+ghost use Rattle.optimize.specs.View.{Small, Marks, Bounds, Runnable, pipeline, passes, Ran, mapIn, fixedIn, Checks, offsetView, entryOffsets, entryView, keptView, remappedView, lastAfter, Remaps};
+
+// What the check of a list of offsets finds.
+pub enum Offset {
+    Fine,
+    Bad(u16),
+}
+
+// Where the last kept entry lies.
+pub enum Kept {
+    None,
+    At(u16),
+}
+
+pub struct LineEntry {
+    pub offset: u16,
+    pub line: u16,
+    pub column: u16,
+}
+
+pub enum Remapped {
+    Gone,
+    Moved(LineEntry),
+}
+
+fn wide(x: u16) -> usize
+    ensures { λ r. ⌜ r ≡ x ⌝ }
+{
+    x as usize
+}
+
+// The new offset of an old one; 0 past the map's end.
+fn moved_to(moves: &[u16], x: u16) -> u16
+    ensures { λ r. ⌜ r ≡ movedTo (mapIn (now (moves .entry))) x ⌝ }
+{
+    let at = wide(x);
+    if at < moves.len() { moves[at] } else { 0 }
+}
+
+// Each offset of a list moved by a map.
+fn move_all(moves: &[u16], list: &mut [u16])
+    ensures { λ r. ⌜ now (list .exit) ≡ map (movedTo (mapIn (now (moves .entry)))) (now (list .entry)) ⌝ }
+{
+    let mut i = 0;
+    while i < list.len() {
+        let x = list[i];
+        let y = moved_to(moves, x);
+        list[i] = y;
+        i += 1;
+    }
+}
+
+// A mark at each of the offsets, in a table that has none.
+fn mark(protected: &[u16], marks: &mut [u8])
+    requires { ⌜ Small (now protected) ⌝ }
+    requires { ⌜ Clear (now marks) ⌝ }
+    ensures { λ r. ⌜ Marks (now (protected .entry)) (now (marks .exit)) ⌝ }
+{
+    let mut i = 0;
+    while i < protected.len() {
+        let at = wide(protected[i]);
+        marks[at] = 1;
+        i += 1;
+    }
+}
+
+// The starts of the instructions and their end, each listed at its own place of a table.
+fn list_boundaries(sheet: &[u8], code: &[u8], table: &mut [u16]) -> usize
+    requires { ⌜ IsTable (now sheet) ⌝ }
+    requires { ⌜ length (now code) ≤ 16384 ⌝ }
+    requires { ⌜ Clear (now table) ⌝ }
+    ensures { λ r. ⌜ Bounds (sheetIn (now (sheet .entry))) (now (code .entry)) (now (table .exit)) r ⌝ }
+{
+    let mut at = 0;
+    loop {
+        let part = rewrite::decode(sheet, code, at);
+        let size = part.len();
+        table[at] = rewrite::narrow(at);
+        if size == 0 {
+            return at;
+        }
+        at += size;
+    }
+}
+
+// Whether a table of starts and the end leaves an offset where it is.
+fn is_boundary(table: &[u16], x: u16) -> bool
+    requires { ⌜ length (now table) ≡ 16385 ⌝ }
+    ensures { λ r. ⌜ r ≡ has (fixedIn (now (table .entry))) x ⌝ }
+{
+    moved_to(table, x) == x
+}
+
+// The first of the protected offsets that is no boundary.
+fn check_protected(table: &[u16], list: &[u16]) -> Offset
+    requires { ⌜ length (now table) ≡ 16385 ⌝ }
+    ensures { λ r. ⌜ Checks (boundaries (fixedIn (now (table .entry))) (now (list .entry))) (now (list .entry)) r ⌝ }
+{
+    let mut i = 0;
+    while i < list.len() {
+        let x = list[i];
+        if !is_boundary(table, x) {
+            return Offset::Bad(x);
+        }
+        i += 1;
+    }
+    Offset::Fine
+}
+
+// The first of the line entries' offsets that is no boundary.
+fn check_lines(table: &[u16], lines: &[u16]) -> Offset
+    requires { ⌜ length (now table) ≡ 16385 ⌝ }
+    ensures { λ r. ⌜ offsetView r ≡ boundaries (fixedIn (now (table .entry))) (entryOffsets (now (lines .entry))) ⌝ }
+{
+    let mut i = 0;
+    while i + 2 < lines.len() {
+        let x = lines[i];
+        if !is_boundary(table, x) {
+            return Offset::Bad(x);
+        }
+        i += 3;
+    }
+    Offset::Fine
+}
+
+// The covered function for one entry: dropped if it is mapped to or past the end, or to the last kept entry's offset.
+pub fn remap_entry(entry: LineEntry, moves: &[u16], last: Kept, end: usize) -> Remapped
+    ensures { λ r. ⌜ remappedView r ≡ remapLineMap (mapIn (now (moves .entry))) end (keptView last) (entryView entry ∷ []) ⌝ }
+{
+    let to = moved_to(moves, entry.offset);
+    if end <= wide(to) {
+        return Remapped::Gone;
+    }
+    let line = entry.line;
+    let column = entry.column;
+    match last {
+        Kept::At(k) => {
+            if k == to {
+                Remapped::Gone
+            } else {
+                Remapped::Moved(LineEntry {
+                    offset: to,
+                    line: line,
+                    column: column,
+                })
+            }
+        }
+        Kept::None => Remapped::Moved(LineEntry {
+            offset: to,
+            line: line,
+            column: column,
+        }),
+    }
+}
+
+// A kept entry's numbers, put at `to`.
+fn put_entry(out: &mut [u16], to: usize, r: Remapped) -> usize
+    requires { ⌜ to + 3 ≤ length (now out) ⌝ }
+    ensures { λ e. ⌜ Puts (entryNumbers (remappedView r)) (now (out .entry)) (now (out .exit)) to e ⌝ }
+{
+    match r {
+        Remapped::Gone => to,
+        Remapped::Moved(e) => {
+            let offset = e.offset;
+            let line = e.line;
+            let column = e.column;
+            out[to] = offset;
+            out[to + 1] = line;
+            out[to + 2] = column;
+            to + 3
+        }
+    }
+}
+
+fn last_after(r: Remapped, last: Kept) -> Kept
+    ensures { λ k. ⌜ k ≡ lastAfter r last ⌝ }
+{
+    match r {
+        Remapped::Gone => last,
+        Remapped::Moved(e) => {
+            let offset = e.offset;
+            Kept::At(offset)
+        }
+    }
+}
+
+// 0 from a place up to the end.
+fn zero_from(list: &mut [u16], from: usize)
+    requires { ⌜ from ≤ length (now list) ⌝ }
+    ensures { λ r. ⌜ now (list .exit) ≡ take from (now (list .entry)) ++ zeros (length (now (list .entry)) - from) ⌝ }
+{
+    let mut i = from;
+    while i < list.len() {
+        list[i] = 0;
+        i += 1;
+    }
+}
+
+// `remap_line_map` over numbers, three an entry. Our own entry lends an output that holds the whole input.
+pub fn remap_line_map(moves: &[u16], end: usize, lines: &[u16], out: &mut [u16]) -> usize
+    requires { ⌜ length (now lines) ≤ length (now out) ⌝ }
+    ensures { λ r. ⌜ Remaps (remapLineMap (mapIn (now (moves .entry))) end none (entriesOf (now (lines .entry)))) (now (out .entry)) (now (out .exit)) r ⌝ }
+{
+    let mut last = Kept::None;
+    let mut at = 0;
+    let mut to = 0;
+    while at + 2 < lines.len() {
+        let entry = LineEntry {
+            offset: lines[at],
+            line: lines[at + 1],
+            column: lines[at + 2],
+        };
+        let r = remap_entry(entry, moves, last, end);
+        to = put_entry(out, to, r);
+        last = last_after(r, last);
+        at += 3;
+    }
+    zero_from(out, to);
+    to / 3
+}
+
+// One pass, with the protected offsets and the map so far moved with the code. Marks and moves are made anew for each.
+fn run(
+    sheet: &[u8],
+    rules: &[u16],
+    count: usize,
+    pass: u8,
+    code: &mut [u8],
+    protected: &mut [u16],
+    total: &mut [u16],
+) -> usize
+    requires { ⌜ Runnable (now sheet) (now rules) count (now code) (now protected) ⌝ }
+    ensures { λ r. ⌜ Ran (run (sheetIn (now (sheet .entry))) (rulesIn (now (rules .entry)) count) pass (pipeline (now (code .entry)) (now (protected .entry)) (now (total .entry)))) (now (code .entry)) (now (code .exit)) (now (protected .exit)) (now (total .exit)) r ⌝ }
+{
+    let mut marks = [0u8; 16385];
+    mark(protected, &mut marks);
+    let mut moves = [0u16; 16385];
+    let n = rewrite::apply_peephole(sheet, rules, count, pass, &marks, code, &mut moves);
+    move_all(&moves, protected);
+    move_all(&moves, total);
+    n
+}
+
+// The three passes, over the whole of a slice of code.
+pub fn optimize(
+    sheet: &[u8],
+    rules: &[u16],
+    count: usize,
+    code: &mut [u8],
+    protected: &mut [u16],
+    total: &mut [u16],
+) -> usize
+    requires { ⌜ Runnable (now sheet) (now rules) count (now code) (now protected) ⌝ }
+    ensures { λ r. ⌜ Ran (passes (sheetIn (now (sheet .entry))) (rulesIn (now (rules .entry)) count) (pipeline (now (code .entry)) (now (protected .entry)) (now (total .entry)))) (now (code .entry)) (now (code .exit)) (now (protected .exit)) (now (total .exit)) r ⌝ }
+{
+    let one = run(sheet, rules, count, 1, code, protected, total);
+    let two = run(sheet, rules, count, 2, &mut code[..one], protected, total);
+    run(sheet, rules, count, 3, &mut code[..two], protected, total)
+}

@@ -1,0 +1,246 @@
+// One pass of pair rewriting, in place over lent code (optimize/rewrite.rs). Only our own crates call it: they lend tables that were read.
+ghost use mathlib.Core.Path.{_≡_};
+ghost use mathlib.Core.List.{_++_};
+ghost use Prim.Native.Nat.{_+_, _-_, _≤_};
+ghost use lib.ListN.{length, take, drop, getD};
+ghost use Rattle.definition.specs.Rewrite.{decode, operandOf, instruction, applied, applyPeephole};
+ghost use Rattle.definition.specs.Lent.{zeros};
+ghost use Rattle.opcode.specs.Table.{IsTable, sheetIn};
+ghost use Rattle.rules.specs.View.{actionView, instructionView, IsRules};
+ghost use Rattle.rewrite.specs.View.{firstOf, marked, matcher, Looked, Kept, nextView, Fitting, FittingNext, Ready, Planned, Puts, Clear, Peephole};
+use opcode::sheet;
+use rules::Action;
+use rules::Found;
+use rules::Instruction;
+
+// What is known of the next instruction's action: the second of a matched pair is decided with the first.
+pub enum Next {
+    Ask,
+    Do(Action),
+}
+
+// What is decided for one instruction; a size of 0 for none.
+pub struct Plan {
+    pub size: usize,
+    pub action: Action,
+    pub next: Next,
+}
+
+// The size of the instruction at a place; 0 where none can be decoded.
+fn size_at(sheet: &[u8], code: &[u8], at: usize) -> usize
+    requires { ⌜ IsTable (now sheet) ⌝ }
+    ensures { λ r. ⌜ r ≡ length (firstOf (decode (sheetIn (now (sheet .entry))) (drop at (now (code .entry))))) ⌝ }
+{
+    if at >= code.len() {
+        return 0;
+    }
+    let role = sheet::role_number(sheet, code[at]);
+    if role == sheet::UNLISTED {
+        return 0;
+    }
+    let size = opcode::size_numbered(role);
+    if size > code.len() - at {
+        return 0;
+    }
+    size
+}
+
+// The instruction at a place, as its part of the lent code; no bytes where none can be decoded.
+pub fn decode<'a>(sheet: &[u8], code: &'a [u8], at: usize) -> &'a [u8]
+    requires { ⌜ IsTable (now sheet) ⌝ }
+    ensures { λ r. ⌜ now r ≡ firstOf (decode (sheetIn (now (sheet .entry))) (drop at (now (code .entry)))) ⌝ }
+{
+    let size = size_at(sheet, code, at);
+    if size == 0 {
+        return &code[..0];
+    }
+    let end = at + size;
+    &code[at..end]
+}
+
+fn byte_at(bytes: &[u8], i: usize) -> u8
+    ensures { λ r. ⌜ r ≡ getD (now (bytes .entry)) i 0 ⌝ }
+{
+    if i < bytes.len() { bytes[i] } else { 0 }
+}
+
+fn u16_operand(bytes: &[u8]) -> u16
+    ensures { λ r. ⌜ r ≡ operandOf (now (bytes .entry)) ⌝ }
+{
+    let low = byte_at(bytes, 1);
+    let high = byte_at(bytes, 2);
+    low as u16 + 256 * (high as u16)
+}
+
+// An instruction as a rule sees it.
+fn seen(sheet: &[u8], bytes: &[u8]) -> Instruction
+    requires { ⌜ IsTable (now sheet) ⌝ }
+    ensures { λ r. ⌜ instructionView r ≡ instruction (sheetIn (now (sheet .entry))) (now (bytes .entry)) ⌝ }
+{
+    let opcode = byte_at(bytes, 0);
+    let role = sheet::role_number(sheet, opcode);
+    let operand = u16_operand(bytes);
+    Instruction {
+        role: role,
+        operand: operand,
+    }
+}
+
+// The bytes at `from` again at `to`, which is not behind it.
+fn copy_down(code: &mut [u8], from: usize, to: usize, size: usize) -> usize
+    requires { ⌜ (to ≤ from) × (from + size ≤ length (now code)) ⌝ }
+    ensures { λ r. ⌜ Puts (take size (drop from (now (code .entry)))) (now (code .entry)) (now (code .exit)) to r ⌝ }
+{
+    let mut i = 0;
+    while i < size {
+        let b = code[from + i];
+        code[to + i] = b;
+        i += 1;
+    }
+    to + size
+}
+
+// What an action leaves of the instruction of `size` bytes at `from`, put at `to`.
+fn apply(code: &mut [u8], from: usize, to: usize, size: usize, action: Action) -> usize
+    requires { ⌜ (to ≤ from) × (from + size ≤ length (now code)) ⌝ }
+    requires { ⌜ Fitting (actionView action) size ⌝ }
+    ensures { λ r. ⌜ Puts (applied (actionView action) (take size (drop from (now (code .entry))))) (now (code .entry)) (now (code .exit)) to r ⌝ }
+{
+    match action {
+        Action::Keep => copy_down(code, from, to, size),
+        Action::Remove => to,
+        Action::RewriteOperand(n) => {
+            let high = n / 256;
+            let low = n % 256;
+            let opcode = code[from];
+            code[to] = opcode;
+            code[to + 1] = low as u8;
+            code[to + 2] = high as u8;
+            to + 3
+        }
+    }
+}
+
+// Kept, with nothing known of the next one.
+fn keep(size: usize) -> Plan
+    ensures { λ r. ⌜ Kept size r ⌝ }
+{
+    Plan {
+        size: size,
+        action: Action::Keep,
+        next: Next::Ask,
+    }
+}
+
+// Which rule of a pass fits two instructions.
+fn look_up(sheet: &[u8], rules: &[u16], count: usize, pass: u8, a: &[u8], b: &[u8]) -> Found
+    requires { ⌜ IsTable (now sheet) ⌝ }
+    requires { ⌜ IsRules (now rules) count ⌝ }
+    ensures { λ r. ⌜ Looked (now (rules .entry)) count (matcher (now (rules .entry)) count pass (instruction (sheetIn (now (sheet .entry))) (now (a .entry))) (instruction (sheetIn (now (sheet .entry))) (now (b .entry)))) r ⌝ }
+{
+    let first = seen(sheet, a);
+    let second = seen(sheet, b);
+    rules::find(rules, count, pass, first, second)
+}
+
+// What is done with the instruction at a place, and with the next one if the two match.
+fn decide(
+    sheet: &[u8],
+    rules: &[u16],
+    count: usize,
+    pass: u8,
+    marks: &[u8],
+    code: &[u8],
+    at: usize,
+    next: Next,
+) -> Plan
+    requires { ⌜ Ready (now sheet) (now rules) count (now marks) (now code) ⌝ }
+    requires { ⌜ FittingNext (nextView next) (firstOf (decode (sheetIn (now sheet)) (drop at (now code)))) ⌝ }
+    ensures { λ r. ⌜ Planned (sheetIn (now (sheet .entry))) (matcher (now (rules .entry)) count pass) (marked (now (marks .entry))) (now (code .entry)) at (nextView next) (r .size) (actionView (r .action)) (nextView (r .next)) ⌝ }
+{
+    let a = decode(sheet, code, at);
+    let size = a.len();
+    if size == 0 {
+        return keep(size);
+    }
+    if let Next::Do(x) = next {
+        return Plan {
+            size: size,
+            action: x,
+            next: Next::Ask,
+        };
+    }
+    let then = at + size;
+    let b = decode(sheet, code, then);
+    if b.len() == 0 {
+        return keep(size);
+    }
+    if marks[at] != 0 {
+        return keep(size);
+    }
+    if marks[then] != 0 {
+        return keep(size);
+    }
+    let Found::At(i) = look_up(sheet, rules, count, pass, a, b) else {
+        return keep(size);
+    };
+    let pair = rules::actions(rules, i);
+    let one = pair[0];
+    let two = pair[1];
+    Plan {
+        size: size,
+        action: one,
+        next: Next::Do(two),
+    }
+}
+
+// 0 from a place up to the end.
+pub fn zero_from(list: &mut [u8], from: usize)
+    requires { ⌜ from ≤ length (now list) ⌝ }
+    ensures { λ r. ⌜ now (list .exit) ≡ take from (now (list .entry)) ++ zeros (length (now (list .entry)) - from) ⌝ }
+{
+    let mut i = from;
+    while i < list.len() {
+        list[i] = 0;
+        i += 1;
+    }
+}
+
+pub fn narrow(x: usize) -> u16
+    requires { ⌜ x ≤ 16384 ⌝ }
+    ensures { λ r. ⌜ r ≡ x ⌝ }
+{
+    x as u16
+}
+
+// One pass over a whole slice: it holds the rewritten code and then 0, the map leads from old offsets to new ones, and the new length is answered.
+pub fn apply_peephole(
+    sheet: &[u8],
+    rules: &[u16],
+    count: usize,
+    pass: u8,
+    marks: &[u8],
+    code: &mut [u8],
+    moves: &mut [u16],
+) -> usize
+    requires { ⌜ Ready (now sheet) (now rules) count (now marks) (now code) ⌝ }
+    requires { ⌜ Clear (now moves) ⌝ }
+    ensures { λ r. ⌜ Peephole (applyPeephole (sheetIn (now (sheet .entry))) (matcher (now (rules .entry)) count pass) (marked (now (marks .entry))) (now (code .entry))) (now (code .entry)) (now (code .exit)) (now (moves .exit)) r ⌝ }
+{
+    let mut at = 0;
+    let mut to = 0;
+    let mut next = Next::Ask;
+    loop {
+        let plan = decide(sheet, rules, count, pass, marks, code, at, next);
+        let size = plan.size;
+        moves[at] = narrow(to);
+        if size == 0 {
+            zero_from(code, to);
+            return to;
+        }
+        let action = plan.action;
+        to = apply(code, at, to, size, action);
+        at += size;
+        next = plan.next;
+    }
+}
