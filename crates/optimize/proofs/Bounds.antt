@@ -81,6 +81,7 @@ module _ (s : Sheet) (code : List ℕ) (few : length code ≤ 16384) where
               let m = rw d at (g .moved x) in
               sym (m ∙ moved-set table at at x [] (omega (arith, g .slots, g .within)) (g .fresh at (omega arith)) refl ∙ add-zero (getD (set table at at) x 0));
           slots = length-set table at at ∙ g .slots;
+          within = g .within;
         })
 
 -- ---- what the table says of an offset

@@ -3,3 +3,7 @@ pub mod Checks
 pub mod Lines
 pub mod Bounds
 pub mod Runs
+pub mod Filling
+pub mod Alone
+pub mod Whole
+pub mod Entry

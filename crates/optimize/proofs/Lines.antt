@@ -3,7 +3,7 @@ use mathlib.Core.Path.{_≡_, refl, ap, sym, _∙_}
 use mathlib.Core.Bool.{Bool, true, false, _||_}
 use mathlib.Core.Option.{Option, some, none}
 use mathlib.Core.List.{List, [], _∷_, _++_, append-assoc, append-nil}
-use Prim.Native.Nat.{ℕ, zero, suc, _+_, _-_, _*_, _/_, _≤_, _<_}
+use Prim.Native.Nat.{ℕ, zero, suc, _+_, _-_, _*_, _/_, _%_, _≤_, _<_}
 use native.Mathlib.Omega.{arith}
 use lib.ListN.{length, getD, take, drop, set, length-append}
 use lib.Dec.{leb, eqb}
@@ -28,7 +28,7 @@ use Rattle.optimize.proofs.Checks.{entry-at, entries-none}
 -- ---- one entry
 
 module _ (m : OffsetMap) (end : ℕ) where
-  remap-test : (last : Option ℕ) (x : def.LineEntry) (xs : List def.LineEntry) (t : Bool) → (leb end (movedTo m (x .offset)) || isLast last (movedTo m (x .offset))) ≡ t
+  pub remap-test : (last : Option ℕ) (x : def.LineEntry) (xs : List def.LineEntry) (t : Bool) → (leb end (movedTo m (x .offset)) || isLast last (movedTo m (x .offset))) ≡ t
       → remapLineMap m end last (x ∷ xs) ≡ elim t [
         | true ↦ remapLineMap m end last xs
         | false ↦ record { offset = movedTo m (x .offset); pos = x .pos } ∷ remapLineMap m end (some (movedTo m (x .offset))) xs
@@ -115,11 +115,12 @@ pub record Remapping (m : OffsetMap) (end : ℕ) (lines out₀ out : List ℕ) (
   pub left : entryNumbers (remapLineMap m end none (entriesOf lines)) ≡ take to out ++ entryNumbers (remapLineMap m end (keptView last) (entriesOf (drop at lines)))
   pub behind : to ≤ at
   pub within : at ≤ length lines
+  pub threes : at % 3 ≡ 0
   pub room : length out ≡ length out₀
 
-module _ (m : OffsetMap) (end : ℕ) (lines out₀ : List ℕ) (enough : length lines ≤ length out₀) where
+module _ (m : OffsetMap) (end : ℕ) (lines out₀ : List ℕ) (enough : 3 * (length lines / 3) ≤ length out₀) where
   pub remap-begins : Remapping m end lines out₀ out₀ 0 0 None
-  remap-begins = record { left = refl; behind = omega arith; within = omega arith; room = refl }
+  remap-begins = record { left = refl; behind = omega arith; within = omega arith; threes = refl; room = refl }
 
   pub remap-goes-on : {out out′ : List ℕ} {at to to′ : ℕ} {last : Kept} (r : Remapped) (entry : LineEntry) → Remapping m end lines out₀ out at to last → at + 2 < length lines
       → entry .offset ≡ getD lines at 0 → entry .line ≡ getD lines (at + 1) 0 → entry .column ≡ getD lines (at + 2) 0
@@ -128,13 +129,14 @@ module _ (m : OffsetMap) (end : ℕ) (lines out₀ : List ℕ) (enough : length 
   remap-goes-on {out} {out′} {at} {to} {to′} {last} r entry g h eo el ec one p =
       let bytes = entryNumbers (remappedView r) in
       let short = one-entry r in
-      let fits : to + length bytes ≤ length out = omega (arith, g .behind, g .room) in
+      let fits : to + length bytes ≤ length out = omega (arith, g .behind, g .room, g .threes) in
       let here : entriesOf (drop at lines) ≡ entryView entry ∷ entriesOf (drop (at + 3) lines) = rw (eo, el, ec) (entry-at lines at h) in
       rw (p .is, p .end)
       (record {
         left = g .left ∙ rw (take-put out to bytes fits, here, remap-more m end r last (entryView entry) (entriesOf (drop (at + 3) lines)) one, numbers-append, append-assoc);
         behind = omega (arith, g .behind);
         within = omega arith;
+        threes = omega (arith, g .threes);
         room = length-put out to bytes fits ∙ g .room;
       })
 
@@ -147,7 +149,7 @@ module _ (m : OffsetMap) (end : ℕ) (lines out₀ : List ℕ) (enough : length 
   remap-ends {out} {out′} {at} {to} {last} g h z =
       let R = remapLineMap m end none (entriesOf lines) in
       let whole : entryNumbers R ≡ take to out = rw (entries-none lines at h, append-nil) at (g .left) in
-      let long : length (entryNumbers R) ≡ to = rw whole (length-take-le to out (omega (arith, g .behind, g .within, g .room))) in
+      let long : length (entryNumbers R) ≡ to = rw whole (length-take-le to out (omega (arith, g .behind, g .within, g .room, g .threes))) in
       let three = length-numbers R in
       record {
         is = z ∙ rw (whole, ← whole, long, g .room);

@@ -104,11 +104,11 @@ zeros-append zero b = let e : 0 + b ≡ b = omega arith in rw e
 zeros-append (suc a) b = let e : suc a + b ≡ suc (a + b) = omega arith in rw e (ap (λ (l : List ℕ). 0 ∷ l) (zeros-append a b))
 
 -- the front of a slice that holds some bytes and then 0
-front : (room : ℕ) (xs : List ℕ) (n : ℕ) → length xs ≡ n → take n (filled room xs) ≡ xs
+pub front : (room : ℕ) (xs : List ℕ) (n : ℕ) → length xs ≡ n → take n (filled room xs) ≡ xs
 unfolding filled
 front room xs n e = take-at xs (zeros (room - length xs)) n e
 
-refilled : (room : ℕ) (xs ys : List ℕ) (n : ℕ) → length xs ≡ n → n ≤ room → length ys ≤ n → filled n ys ++ drop n (filled room xs) ≡ filled room ys
+pub refilled : (room : ℕ) (xs ys : List ℕ) (n : ℕ) → length xs ≡ n → n ≤ room → length ys ≤ n → filled n ys ++ drop n (filled room xs) ≡ filled room ys
 unfolding filled
 refilled room xs ys n e few short =
     let d : drop n (xs ++ zeros (room - length xs)) ≡ zeros (room - length xs) = drop-at xs (zeros (room - length xs)) n e in

@@ -1,22 +1,25 @@
 -- What this crate's functions give, said of the definition.
-use Prim.Native.Nat.{ℕ, _+_, _≤_, suc, zero}
+use Prim.Native.Nat.{ℕ, _+_, _*_, _/_, _≤_, suc, zero}
 use mathlib.Core.Path.{_≡_}
 use mathlib.Core.Bool.{Bool, true, false}
 use mathlib.Core.List.{List, [], _∷_, map}
 use mathlib.Core.Option.{Option, some, none}
-use lib.Dec.{eqb}
+use lib.Dec.{eqb, leb}
 use lib.ListN.{length, getD}
-use Rattle.definition.specs.Limits.{badCode}
-use Rattle.definition.specs.Res.{Res, ok, refuse}
+use Rattle.definition.specs.Limits.{maxCode, maxProtected, maxLines, entrySize, badCode, codeFull, labelsFull, linesFull}
+use Rattle.definition.specs.Res.{Res, ok, refuse, _>>=_, _>>_, demand}
 use Rattle.definition.specs.Field.{has}
 use Rattle.definition.specs.Emit as def
 use Rattle.definition.specs.Opcode.{Sheet}
 use Rattle.definition.specs.Rewrite.{OffsetMap, decode, endFrom, movedTo}
 use Rattle.definition.specs.Lent.{filled, entryNumbers, entriesOf}
 use Rattle.definition.specs.Optimize.{Pipeline, run, identity, remapLineMap}
-use Rattle.definition.specs.Rules.{Rule}
+use Rattle.definition.specs.Rules.{Rule, readRules}
 use Rattle.opcode.specs.Table.{IsTable}
 use Rattle.rules.specs.View.{IsRules}
+use Rattle.definition.specs.Alone as def-alone
+use Rattle.definition.specs.Alone.{Given, Rewritten, Room, checked, rewritten}
+use Rattle.optimize.specs.declared.Answer.{Answer}
 use Rattle.rewrite.specs.View.{marked}
 use Rattle.optimize.specs.declared.LineEntry.{LineEntry}
 use Rattle.optimize.specs.declared.Kept.{Kept}
@@ -58,6 +61,7 @@ pub record Bounds (s : Sheet) (code table : List ℕ) (r : ℕ) : Type 0 where
   pub end : r ≡ endFrom 0 (decode s code)
   pub moved : (x : ℕ) → getD table x 0 ≡ movedTo (identity s code) x
   pub slots : length table ≡ 16385
+  pub within : r ≤ length code
 
 -- ---- the code between passes
 
@@ -83,6 +87,13 @@ pub record Ran (p : Pipeline) (code code′ protected′ total′ : List ℕ) (r
   pub protected : protected′ ≡ p .protected
   pub map : mapIn total′ ≡ p .map
   pub small : Small protected′
+
+-- the same in outputs that have room for more: 0 up to their ends
+pub record Rewrote (p : Pipeline) (bytes offsets bytes′ offsets′ total′ : List ℕ) (r : ℕ) : Type 0 where
+  pub code : bytes′ ≡ filled (length bytes) (p .bytecode)
+  pub protected : offsets′ ≡ filled (length offsets) (p .protected)
+  pub map : mapIn total′ ≡ p .map
+  pub end : r ≡ length (p .bytecode)
 
 -- ---- the types of this crate
 
@@ -120,3 +131,66 @@ pub record Checks (result : Res (Unit {0})) (list : List ℕ) (r : Offset) : Typ
 pub record Remaps (kept : List def.LineEntry) (out out′ : List ℕ) (r : ℕ) : Type 0 where
   pub is : out′ ≡ filled (length out) (entryNumbers kept)
   pub count : r ≡ length kept
+
+-- ---- called alone
+
+abbrev pub given : List ℕ → List ℕ → List ℕ → Given
+given code protected lines = record { code = code; protected = protected; lines = lines }
+
+-- the check of code, protected offsets and line offsets, and the table of boundaries that it leaves
+pub record Passed (s : Sheet) (g : Given) (table : List ℕ) (r : Offset) : Type 0 where
+  pub is : offsetView r ≡ checked s g
+  pub end : ℕ
+  pub bounds : Bounds s (g .code) table end
+  pub small : r ≡ Fine → Small (g .protected)
+
+abbrev pub room : List ℕ → List ℕ → List ℕ → Room
+room bytes offsets entries = record { code = length bytes; protected = length offsets; lines = length entries }
+
+-- the answer with what the outputs hold
+abbrev pub answerView : Answer → List ℕ → List ℕ → List ℕ → def-alone.Answer
+answerView r bytes offsets entries = record {
+  number = r .number;
+  place = r .place;
+  codeLength = r .bytes;
+  protectedCount = r .protected;
+  entryCount = r .entries;
+  code = bytes;
+  protected = offsets;
+  lines = entries;
+}
+
+-- tables of a sheet and of rules that were accepted
+pub record Tables (sheet rules : List ℕ) (count : ℕ) : Type 0 where
+  pub table : IsTable sheet
+  pub held : IsRules rules count
+
+-- outputs that no result is too long for
+pub record Roomy (r : Room) : Type 0 where
+  pub code : maxCode ≤ r .code
+  pub protected : maxProtected ≤ r .protected
+  pub lines : maxLines * entrySize ≤ r .lines
+
+-- what is handed over is within the limits, and the outputs have room for it
+pub record Within (g : Given) (r : Room) : Type 0 where
+  pub few : length (g .code) ≤ 16384
+  pub code : length (g .code) ≤ r .code
+  pub protected : length (g .protected) ≤ r .protected
+  pub lines : 3 * (length (g .lines) / 3) ≤ r .lines
+
+-- what is left of the call after 10, 11 and 12, and before them
+unfoldable pub afterLimits : Sheet → List Rule → Given → Res Rewritten
+afterLimits s rs g = checked s g >> ok (rewritten s rs g)
+
+unfoldable pub afterRules : Sheet → List Rule → Given → Res Rewritten
+afterRules s rs g = do
+  demand (leb (length (g .code)) maxCode) codeFull 0
+  demand (leb (length (g .protected)) maxProtected) labelsFull 0
+  demand (leb (length (entriesOf (g .lines))) maxLines) linesFull 0
+  afterLimits s rs g
+
+-- and before the rules are read
+unfoldable pub afterSheet : Sheet → List ℕ → Given → Res Rewritten
+afterSheet s rules g = do
+  rs ← readRules rules
+  afterRules s rs g

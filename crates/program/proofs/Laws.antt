@@ -165,7 +165,7 @@ fields-some forms ((b ∷ []) ∷ fs) n e z = letter-some forms b fs n e z
 fields-some forms ((b ∷ c ∷ bs) ∷ fs) n e z = let q : _≡_ {A = ℕ} badForm 0 = cc in omega arith
 
 module _ {P : Type 0} (forms : List (Form P)) (left : ℕ) (text : List ℕ) (at : ℕ) where
-  line-some : (n : ℕ) → lineAt forms left text at ≡ not n → n ≡ 0 → ⊥
+  pub line-some : (n : ℕ) → lineAt forms left text at ≡ not n → n ≡ 0 → ⊥
   unfolding lineAt
   line-some n e z = go (ltb at (length text)) (eqb left 0) e
     where
@@ -189,7 +189,7 @@ module _ {P : Type 0} (forms : List (Form P)) (left : ℕ) (text : List ℕ) (at
 -- ---- the reading at a place
 
 module _ (left v : ℕ) (text : List ℕ) (c : def.Cursor) where
-  expr-bad : (n : ℕ) → lineAt (exprForms v) left text (c .at) ≡ not n → exprAt left v text c ≡ (bad (faultAt c n), c)
+  pub expr-bad : (n : ℕ) → lineAt (exprForms v) left text (c .at) ≡ not n → exprAt left v text c ≡ (bad (faultAt c n), c)
   unfolding exprAt exprBy refusal
   expr-bad n e = go left e
     where
@@ -197,7 +197,7 @@ module _ (left v : ℕ) (text : List ℕ) (c : def.Cursor) where
       go zero e = rw (exprAt, e)
       go (suc k) e = rw (exprAt, e)
 
-  expr-is : (l : ExprLine) → lineAt (exprForms v) left text (c .at) ≡ is l → exprAt left v text c ≡ exprOf (λ d. exprAt (left - 1) v text d) (nextLine text c) l
+  pub expr-is : (l : ExprLine) → lineAt (exprForms v) left text (c .at) ≡ is l → exprAt left v text c ≡ exprOf (λ d. exprAt (left - 1) v text d) (nextLine text c) l
   unfolding exprAt exprBy
   expr-is l e = go left e
     where
@@ -205,7 +205,7 @@ module _ (left v : ℕ) (text : List ℕ) (c : def.Cursor) where
       go zero e = absurd (let h = line-there (exprForms v) 0 text (c .at) l e in omega arith)
       go (suc k) e = rw (sub-one, exprAt, e)
 
-  stmt-bad : (n : ℕ) → lineAt (stmtForms v) left text (c .at) ≡ not n → stmtAt left v text c ≡ (badStmt (faultAt c n), c)
+  pub stmt-bad : (n : ℕ) → lineAt (stmtForms v) left text (c .at) ≡ not n → stmtAt left v text c ≡ (badStmt (faultAt c n), c)
   unfolding stmtAt stmtBy refusal
   stmt-bad n e = go left e
     where
@@ -213,7 +213,7 @@ module _ (left v : ℕ) (text : List ℕ) (c : def.Cursor) where
       go zero e = rw (stmtAt, e)
       go (suc k) e = rw (stmtAt, e)
 
-  stmt-is : (l : StmtLine) → lineAt (stmtForms v) left text (c .at) ≡ is l
+  pub stmt-is : (l : StmtLine) → lineAt (stmtForms v) left text (c .at) ≡ is l
       → stmtAt left v text c ≡ stmtOf (λ d. exprAt (left - 1) v text d) (λ d. stmtAt (left - 1) v text d) (λ n d. armsAt (left - 1) text (λ x. stmtAt (left - 1) v text x) n d) (λ p. record { pos = p; row = c .row }) (nextLine text c) l
   unfolding stmtAt stmtBy
   stmt-is l e = go left e

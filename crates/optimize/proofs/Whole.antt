@@ -1,0 +1,153 @@
+-- The whole of rewriting called alone: the maps of the passes, and what the lent outputs then hold.
+use mathlib.Core.Path.{_≡_, refl, ap, sym, _∙_}
+use mathlib.Core.Bool.{Bool, true, false, _||_}
+use mathlib.Core.Option.{Option, some, none}
+use mathlib.Core.List.{List, [], _∷_, _++_, map}
+use Prim.Native.Nat.{ℕ, zero, suc, _+_, _-_, _*_, _/_, _≤_, _<_}
+use native.Mathlib.Omega.{arith}
+use borrow.Author.Tests.{eqb-true, eqb-false, le-leb, lt-leb}
+use lib.Dec.{eqb, leb}
+use lib.ListN.{length, getD, take}
+use Rattle.definition.specs.Opcode.{Sheet}
+use Rattle.definition.specs.Rules.{Action, Rule, matches}
+use Rattle.definition.specs.Emit as def
+use Rattle.definition.specs.Rewrite.{Bytes, Matcher, OffsetMap, decode, offsets, movedTo, applyPeephole}
+use Rattle.definition.specs.Optimize.{Pipeline, mapThrough, run, identity, optimize, remapLineMap, isLast}
+use Rattle.rewrite.proofs.Pass.{moved-here, moved-past}
+use Rattle.definition.specs.Limits.{maxCode, maxProtected, maxLines, entrySize, badCode, codeFull, labelsFull, linesFull}
+use Rattle.definition.specs.Res.{Res, ok, refuse, _>>_, demand}
+use Rattle.definition.specs.Lent.{zeros, filled, entriesOf, entryNumbers}
+use Rattle.definition.specs.Alone as def-alone
+use Rattle.definition.specs.Alone.{Given, Room, checked, rewritten, answer}
+use Rattle.optimize.specs.declared.Offset.{Offset}
+use Rattle.optimize.specs.declared.Offset.the-variants.{Fine, Bad}
+use Rattle.optimize.specs.View.{pipeline, passes, mapIn, Bounds, given, room, answerView, Passed, Rewrote, Remaps, Roomy, Within, afterLimits, afterRules}
+use Rattle.optimize.proofs.Tables.{moved-in}
+use Rattle.optimize.proofs.Lines.{remap-test}
+use Rattle.optimize.proofs.Filling.{as-many}
+
+-- ---- maps composed
+
+-- a map that leaves 0 where it is leads on from every offset, known or not
+through : (m ps : OffsetMap) (x : ℕ) → movedTo m 0 ≡ 0 → movedTo (mapThrough m ps) x ≡ movedTo m (movedTo ps x)
+unfolding mapThrough movedTo
+through m [] x z = sym z
+through m (p ∷ ps) x z = byTest (through m ps x z) (eqb (p .0) x) refl
+  where
+    byTest : movedTo (mapThrough m ps) x ≡ movedTo m (movedTo ps x) → (t : Bool) → eqb (p .0) x ≡ t → movedTo (mapThrough m (p ∷ ps)) x ≡ movedTo m (movedTo (p ∷ ps) x)
+    byTest more true e = rw (← (eqb-true (p .0) x e)) (moved-here (p .0) (movedTo m (p .1)) (mapThrough m ps) ∙ sym (ap (movedTo m) (moved-here (p .0) (p .1) ps)))
+    byTest more false e =
+        let other = eqb-false (p .0) x e in
+        moved-past (p .0) (movedTo m (p .1)) x (mapThrough m ps) other ∙ more ∙ sym (ap (movedTo m) (moved-past (p .0) (p .1) x ps other))
+
+zero-first : (acts : List Action) (is : List Bytes) → movedTo (offsets acts is 0 0) 0 ≡ 0
+unfolding offsets
+zero-first [] is = moved-here 0 0 []
+zero-first (a ∷ acts) [] = moved-here 0 0 []
+zero-first (a ∷ acts) (i ∷ is) = moved-here 0 0 _
+
+pub pass-zero : (s : Sheet) (m : Matcher) (protected code : List ℕ) → movedTo (applyPeephole s m protected code .1) 0 ≡ 0
+unfolding applyPeephole
+pass-zero s m protected code = zero-first _ _
+
+-- what a pass does to offsets does not hang on how the map so far is written
+same-run : (s : Sheet) (rules : List Rule) (pass : ℕ) (code protected : List ℕ) (ps qs : OffsetMap) → ((x : ℕ) → movedTo ps x ≡ movedTo qs x) → (x : ℕ)
+    → movedTo (run s rules pass (record { bytecode = code; protected = protected; map = ps }) .map) x ≡ movedTo (run s rules pass (record { bytecode = code; protected = protected; map = qs }) .map) x
+unfolding run
+same-run s rules pass code protected ps qs h x =
+    let m = applyPeephole s (λ a b. matches pass rules a b) protected code .1 in
+    let z = pass-zero s (λ a b. matches pass rules a b) protected code in
+    through m ps x z ∙ rw (h x) (sym (through m qs x z))
+
+pub same-optimize : (s : Sheet) (rules : List Rule) (code protected total : List ℕ) → ((x : ℕ) → getD total x 0 ≡ movedTo (identity s code) x) → (x : ℕ)
+    → movedTo (passes s rules (pipeline code protected total) .map) x ≡ movedTo (optimize s rules code protected .map) x
+unfolding passes optimize run
+same-optimize s rules code protected total h x =
+    same-run s rules 3 _ _ _ _ (λ y. same-run s rules 2 _ _ _ _ (λ z. same-run s rules 1 code protected (mapIn total) (identity s code) (λ w. moved-in total w ∙ h w) z) y) x
+
+-- ---- lines
+
+pub same-remap : (m n : OffsetMap) (end : ℕ) (last : Option ℕ) (xs : List def.LineEntry) → ((x : ℕ) → movedTo m x ≡ movedTo n x) → remapLineMap m end last xs ≡ remapLineMap n end last xs
+unfolding remapLineMap
+same-remap m n end last [] h = refl
+same-remap m n end last (x ∷ xs) h =
+    byTest (same-remap m n end last xs h) (same-remap m n end (some (movedTo n (x .offset))) xs h) (leb end (movedTo n (x .offset)) || isLast last (movedTo n (x .offset))) refl
+  where
+    byTest : remapLineMap m end last xs ≡ remapLineMap n end last xs → remapLineMap m end (some (movedTo n (x .offset))) xs ≡ remapLineMap n end (some (movedTo n (x .offset))) xs
+        → (t : Bool) → (leb end (movedTo n (x .offset)) || isLast last (movedTo n (x .offset))) ≡ t → remapLineMap m end last (x ∷ xs) ≡ remapLineMap n end last (x ∷ xs)
+    byTest gone kept true e = remap-test m end last x xs true (rw (h (x .offset)) e) ∙ gone ∙ sym (remap-test n end last x xs true e)
+    byTest gone kept false e = remap-test m end last x xs false (rw (h (x .offset)) e) ∙ rw (h (x .offset), kept) (sym (remap-test n end last x xs false e))
+
+-- ---- what is answered
+
+pub zeroed : (l : List ℕ) {out : List ℕ} → out ≡ take 0 l ++ zeros (length l - 0) → out ≡ zeros (length l)
+zeroed l e = let z : length l - 0 ≡ length l = omega arith in e ∙ rw z
+
+pub refused : (number place : ℕ) (bytes offsets entries : List ℕ) {b o e : List ℕ} → b ≡ take 0 bytes ++ zeros (length bytes - 0) → o ≡ take 0 offsets ++ zeros (length offsets - 0)
+    → e ≡ take 0 entries ++ zeros (length entries - 0)
+    → answerView (record { number = number; place = place; bytes = 0; protected = 0; entries = 0 }) b o e ≡ answer (room bytes offsets entries) (refuse number place)
+unfolding answer
+refused number place bytes offsets entries eb eo ee = rw (zeroed bytes eb, zeroed offsets eo, zeroed entries ee)
+
+-- 8
+pub refused-8 : (s : Sheet) (rs : List Rule) (g : Given) {table : List ℕ} {o : Offset} {x p : ℕ} {a : def-alone.Answer} (r : Room) → Passed s g table o → o ≡ Bad x → p ≡ x
+    → a ≡ answer r (refuse 8 p) → a ≡ answer r (afterLimits s rs g)
+unfolding afterLimits _>>_
+refused-8 s rs g {x = x} {p = p} r pass q e is =
+    let c : refuse badCode x ≡ checked s g = rw q at (pass .is) in
+    is ∙ rw (e, ← c)
+
+pub finished : (s : Sheet) (rs : List Rule) (code protected lines total bytes offsets entries : List ℕ) {t b o e : List ℕ} {f : Offset} {n k : ℕ}
+    → Passed s (given code protected lines) total f → f ≡ Fine
+    → Rewrote (passes s rs (pipeline code protected total)) bytes offsets b o t n
+    → Remaps (remapLineMap (mapIn t) n none (entriesOf lines)) entries e k
+    → answerView (record { number = 0; place = 0; bytes = n; protected = length protected; entries = k }) b o e
+    ≡ answer (room bytes offsets entries) (afterLimits s rs (given code protected lines))
+unfolding afterLimits _>>_ answer rewritten passes optimize run
+finished s rs code protected lines total bytes offsets entries {t = t} {n = n} {k = k} pass q w m =
+    let c : ok tt ≡ checked s (given code protected lines) = rw q at (pass .is) in
+    let q₃ = passes s rs (pipeline code protected total) in
+    let same : remapLineMap (mapIn t) n none (entriesOf lines) ≡ remapLineMap (optimize s rs code protected .map) (length (q₃ .bytecode)) none (entriesOf lines)
+    = rw (w .map, w .end) (same-remap (q₃ .map) (optimize s rs code protected .map) (length (q₃ .bytecode)) none (entriesOf lines)
+    (same-optimize s rs code protected total (pass .bounds .moved))) in
+    let many = as-many s rs (pipeline code protected total) in
+    let lines-held = rw same at (m .is) in
+    let kept = rw same at (m .count) in
+    rw (← c, w .code, w .protected, lines-held, kept, w .end, ← many)
+
+-- ---- the limits, in their order
+
+count-entries : (xs : List ℕ) → length (entriesOf xs) ≡ length xs / 3
+unfolding entriesOf
+count-entries [] = refl
+count-entries (a ∷ []) = refl
+count-entries (a ∷ b ∷ []) = refl
+count-entries (a ∷ b ∷ c ∷ xs) = let e = count-entries xs in omega arith
+
+limits : (s : Sheet) (rs : List Rule) (g : Given) → afterRules s rs g
+    ≡ (demand (leb (length (g .code)) maxCode) codeFull 0 >> (demand (leb (length (g .protected)) maxProtected) labelsFull 0
+    >> (demand (leb (length (entriesOf (g .lines))) maxLines) linesFull 0 >> afterLimits s rs g)))
+unfolding afterRules
+limits s rs g = refl
+
+module _ (s : Sheet) (rs : List Rule) (g : Given) (r : Room) {a : def-alone.Answer} where
+  pub over-code : maxCode < length (g .code) → a ≡ answer r (refuse 10 0) → a ≡ answer r (afterRules s rs g)
+  unfolding _>>_ demand
+  over-code h is = is ∙ rw (limits s rs g, lt-leb _ _ h)
+
+  module _ (c : length (g .code) ≤ maxCode) where
+    pub over-protected : maxProtected < length (g .protected) → a ≡ answer r (refuse 11 0) → a ≡ answer r (afterRules s rs g)
+    unfolding _>>_ demand
+    over-protected h is = is ∙ rw (limits s rs g, le-leb _ _ c, lt-leb _ _ h)
+
+    module _ (p : length (g .protected) ≤ maxProtected) where
+      pub over-lines : maxLines < length (g .lines) / 3 → a ≡ answer r (refuse 12 0) → a ≡ answer r (afterRules s rs g)
+      unfolding _>>_ demand
+      over-lines h is = is ∙ rw (limits s rs g, le-leb _ _ c, le-leb _ _ p, count-entries (g .lines), lt-leb _ _ h)
+
+      pub within-limits : length (g .lines) / 3 ≤ maxLines → a ≡ answer r (afterLimits s rs g) → a ≡ answer r (afterRules s rs g)
+      unfolding _>>_ demand
+      within-limits h is = is ∙ rw (limits s rs g, le-leb _ _ c, le-leb _ _ p, count-entries (g .lines), le-leb _ _ h)
+
+pub holds : {g : Given} {r : Room} → Roomy r → length (g .code) ≤ maxCode → length (g .protected) ≤ maxProtected → length (g .lines) / 3 ≤ maxLines → Within g r
+holds m c p l = record { few = c; code = omega (arith, m .code); protected = omega (arith, m .protected); lines = omega (arith, m .lines) }

@@ -1,0 +1,17 @@
+-- Made by `answers` from crates/optimize/answers/refuse.txt: edit that file, not this one.
+use Rattle.optimize.proofs.Whole.{refused}
+use borrow.Author.Needs.{needs}
+use Rattle.optimize.proofs.refuse.Statement.{statement}
+use Rattle.optimize.proofs.refuse.Tie as tie
+
+pub refuse-spec : {M : Type 1} → statement M
+refuse-spec =
+    tie.close
+    (tie.spec
+    (λ c κs. search needs)  -- zero-from-requires
+    (λ c κs. search needs)  -- zero-from-requires-2
+    (λ c κs. search needs)  -- zero-from-requires-3
+    (λ c. search needs)  -- same-length
+    (λ c. search needs)  -- same-length-2
+    (λ c. search needs)  -- same-length-3
+    (λ c. refused _ _ (c .before .before .before .before .before .before .before .before .before .before .before .before .before .before .before .args .bytes .now) (c .before .before .before .before .before .before .before .before .before .before .before .before .before .before .before .args .offsets .now) (c .before .before .before .before .before .before .before .before .before .before .before .before .before .before .before .args .entries .now) (c .before .before .before .before .before .before .before .before .before .before .zero-from .ensures) (c .before .before .before .before .before .before .zero-from2 .ensures) (c .before .before .zero-from3 .ensures)))  -- returns

@@ -1,0 +1,326 @@
+-- The laws behind skipping and shapes.
+use mathlib.Core.Path.{_≡_, refl, ap, sym, _∙_}
+use mathlib.Core.Bool.{Bool, true, false, _&&_}
+use mathlib.Core.Option.{Option, some, none}
+use mathlib.Core.List.{List, [], _∷_}
+use Prim.Native.Nat.{ℕ, zero, suc, _+_, _-_, _≤_, _<_}
+use native.Mathlib.Omega.{arith}
+use lib.Dec.{eqb, eqb·suc-zero, eqb·suc-suc}
+use borrow.Author.Tests.{eqb-true}
+use lib.ListN.{length}
+use Rattle.definition.specs.Res.{Res, ok, refuse, _>>=_}
+use Rattle.definition.specs.Field.{firstLine}
+use Rattle.definition.specs.Opcode.{CompareOp}
+use Rattle.definition.specs.Tree.{Pos, Source, Expr, Stmt, if, Block, done, _then_, Arms}
+use Rattle.definition.specs.Program as def
+use Rattle.definition.specs.Program.{Line, is, not, Reader, A, I, S, F, L, X, N, R, K, B, D, O, U, C, H, StmtLine, ExprLine, nextLine, lineAt, stmtForms, exprForms, exprOf, exprAt, stmtOf, stmtAt, blockOf, faultOfBlock}
+use Rattle.definition.specs.Stmt as shapes
+use Rattle.definition.specs.Stmt.{isDone, isExitStmt, isExit, onlyIf, exitWhen, exitUnless, repeatOr, whileOr, shape}
+use Rattle.definition.specs.CompileExpr.{readOf, constantOf, zip, orClassified, classify}
+use Rattle.field.specs.View.{Ends}
+use Rattle.program.specs.declared.Cursor.{Cursor}
+use Rattle.program.specs.declared.Walk.{Walk}
+use Rattle.program.specs.Walk.{cursorOf, cursorIn, standBy, stand, Near, Walked, outcome, many, overExpr, overStmt}
+use Rattle.program.proofs.Laws.{block-many, line-there, expr-bad, expr-is, stmt-bad, stmt-is}
+use Rattle.program_shape.specs.declared.Operand.{Operand}
+use Rattle.program_shape.specs.declared.Condition.{Condition}
+use Rattle.program_shape.specs.declared.ExitIf.the-variants as exit-if
+use Rattle.program_shape.specs.declared.Shape.the-variants as loop-shape
+use Rattle.program_shape.specs.Shape.{Skipped, walkFrom, operandOf, variableIn, constantIn, Sided, comparisonIn, classified, fused, exitIf, sizesFit, ifFits, exitLine, Exiting, Shaped}
+
+-- ---- skipping: a walk that heeds no fault
+
+stands-at : (n : ℕ) (c d : def.Cursor) → standBy n c ≡ ok d → c ≡ d
+unfolding standBy
+stands-at zero c d e = cc
+stands-at (suc n) c d e = absurd (let q : _≡_ {A = ℕ} 0 1 = cc in omega arith)
+
+skipped : {f : def.Cursor → Res def.Cursor} {text : List ℕ} {c : Cursor} {v : Walk} (d : def.Cursor) → Walked f text (walkFrom c) v → f (cursorOf c) ≡ ok d
+    → Skipped text d (record { at = v .at; row = v .row })
+unfolding standBy _>>=_ walkFrom
+skipped {v = v} d w e = record { is = stands-at (v .refused) (cursorIn v) d (w .did ∙ e); near = w .near }
+
+module _ (left v : ℕ) {text : List ℕ} (c : Cursor) {r : Walk} where
+  pub skipped-expr : Walked (overExpr false left v text) text (walkFrom c) r → Skipped text (exprAt left v text (cursorOf c) .1) (record { at = r .at; row = r .row })
+  unfolding outcome
+  skipped-expr w = skipped _ w refl
+
+  pub skipped-stmt : Walked (overStmt false left v text) text (walkFrom c) r → Skipped text (stmtAt left v text (cursorOf c) .1) (record { at = r .at; row = r .row })
+  unfolding outcome
+  skipped-stmt w = skipped _ w refl
+
+  pub skipped-block : (n : ℕ) → Walked (many n (overStmt false left v text)) text (walkFrom c) r → Skipped text (blockOf (λ d. stmtAt left v text d) n (cursorOf c) .1) (record { at = r .at; row = r .row })
+  unfolding outcome
+  skipped-block n w = skipped _ w (sym (block-many false (λ d. stmtAt left v text d) n (cursorOf c)))
+
+pub next-is : {text : List ℕ} {c : Cursor} {end : ℕ} → Ends firstLine text (c .at) end → Near text (c .at) (c .row) → c .at < length text
+    → Skipped text (nextLine text (cursorOf c)) (record { at = end + 1; row = c .row + 1 })
+unfolding nextLine
+next-is e near h = record {
+  is = rw (← e .is);
+  near = record { short = near .short; within = omega (arith, e .high); rows = omega (arith, near .rows, e .low) };
+}
+
+-- ---- conditions
+
+operand-by : (expr : Reader Expr) (c : def.Cursor) (l : ExprLine) → Sided (exprOf expr c l .0) (operandOf (is l))
+unfolding exprOf operandOf readOf constantOf
+operand-by expr c (K k) = record { variable = refl; constant = refl }
+operand-by expr c (B b) = record { variable = refl; constant = refl }
+operand-by expr c (D v) = record { variable = refl; constant = refl }
+operand-by expr c (O o) = record { variable = refl; constant = refl }
+operand-by expr c (U o) = record { variable = refl; constant = refl }
+operand-by expr c (C o) = record { variable = refl; constant = refl }
+operand-by expr c (H o) = record { variable = refl; constant = refl }
+
+compared-by : (expr : Reader Expr) (c : def.Cursor) (l : ExprLine) → comparisonIn (is l) ≡ none → none ≡ classify (exprOf expr c l .0)
+unfolding exprOf comparisonIn classify
+compared-by expr c (K k) e = refl
+compared-by expr c (B b) e = refl
+compared-by expr c (D v) e = refl
+compared-by expr c (O o) e = refl
+compared-by expr c (U o) e = refl
+compared-by expr c (C o) e = absurd (let q : _≡_ {A = ℕ} 0 1 = cc in omega arith)
+compared-by expr c (H o) e = refl
+
+compares : (x : Line ExprLine) (o : CompareOp) → comparisonIn x ≡ some o → x ≡ is (C o)
+unfolding comparisonIn
+compares (is (K k)) o e = absurd (let q : _≡_ {A = ℕ} 0 1 = cc in omega arith)
+compares (is (B b)) o e = absurd (let q : _≡_ {A = ℕ} 0 1 = cc in omega arith)
+compares (is (D v)) o e = absurd (let q : _≡_ {A = ℕ} 0 1 = cc in omega arith)
+compares (is (O p)) o e = absurd (let q : _≡_ {A = ℕ} 0 1 = cc in omega arith)
+compares (is (U p)) o e = absurd (let q : _≡_ {A = ℕ} 0 1 = cc in omega arith)
+compares (is (C p)) o e = cc
+compares (is (H p)) o e = absurd (let q : _≡_ {A = ℕ} 0 1 = cc in omega arith)
+compares (not n) o e = absurd (let q : _≡_ {A = ℕ} 0 1 = cc in omega arith)
+
+module _ (left v : ℕ) (text : List ℕ) (c : def.Cursor) where
+  pub sided : (r : Operand) (x : Line ExprLine) → r ≡ operandOf x → x ≡ lineAt (exprForms v) left text (c .at) → Sided (exprAt left v text c .0) r
+  unfolding operandOf readOf constantOf
+  sided r (not n) e k = rw (e, expr-bad left v text c n (sym k)) (record { variable = refl; constant = refl })
+  sided r (is l) e k = rw (e, expr-is left v text c l (sym k)) (operand-by _ _ l)
+
+  pub not-compared : (x : Line ExprLine) → none ≡ comparisonIn x → x ≡ lineAt (exprForms v) left text (c .at) → none ≡ classify (exprAt left v text c .0)
+  unfolding classify
+  not-compared (not n) e k = rw (expr-bad left v text c n (sym k))
+  not-compared (is l) e k = rw (expr-is left v text c l (sym k)) (compared-by _ _ l (sym e))
+
+  module _ (o : CompareOp) (x : Line ExprLine) (e : some o ≡ comparisonIn x) (k : x ≡ lineAt (exprForms v) left text (c .at)) where
+    line-compares : lineAt (exprForms v) left text (c .at) ≡ is (C o)
+    line-compares = sym k ∙ compares x o (sym e)
+
+    pub compared-there : (c .at < length text) × (0 < left)
+    compared-there = line-there (exprForms v) left text (c .at) (C o) line-compares
+
+    pub classified-sides : {a b : Operand} {first second : Cursor} (r : Condition) → Skipped text (nextLine text c) first → Sided (exprAt (left - 1) v text (cursorOf first) .0) a
+        → Skipped text (exprAt (left - 1) v text (cursorOf first) .1) second → Sided (exprAt (left - 1) v text (cursorOf second) .0) b
+        → classified r ≡ fused o (variableIn a) (constantIn a) (variableIn b) (constantIn b) → classified r ≡ classify (exprAt left v text c .0)
+    unfolding classify exprOf
+    classified-sides r f a s b h = h ∙ rw (a .variable, a .constant, b .variable, b .constant, s .is, f .is, expr-is left v text c (C o) line-compares)
+
+-- ---- shapes of loops
+
+and-false : (b : Bool) → b && false ≡ false
+and-false true = refl
+and-false false = refl
+
+and-true : (b : Bool) → b && true ≡ b
+and-true true = refl
+and-true false = refl
+
+and-assoc : (a b c : Bool) → a && (b && c) ≡ (a && b) && c
+and-assoc true b c = refl
+and-assoc false b c = refl
+
+-- a block that is read, as a sole EXIT and as an empty one
+sole : (i : ℕ) (stmt : Reader Stmt) (n : ℕ) (c : def.Cursor) → isExit i (blockOf stmt n c .0) ≡ eqb n 1 && isExitStmt i (stmt c .0)
+unfolding blockOf isExit isDone
+sole i stmt zero c = refl
+sole i stmt (suc zero) c = and-true (isExitStmt i (stmt c .0))
+sole i stmt (suc (suc n)) c = and-false (isExitStmt i (stmt c .0)) ∙ rw (eqb·suc-suc, eqb·suc-zero)
+
+empty : (stmt : Reader Stmt) (n : ℕ) (c : def.Cursor) → isDone (blockOf stmt n c .0) ≡ eqb n 0
+unfolding blockOf isDone
+empty stmt zero c = refl
+empty stmt (suc n) c = rw (eqb·suc-zero)
+
+-- an IF with branches of n and m statements, of which the EXIT would be the first
+if-exits : (when : Bool) (i : ℕ) (stmt : Reader Stmt) (n m : ℕ) (p : def.Cursor) (s : Source) (cond : Expr)
+    → exitIf when i (if s cond (blockOf stmt n p .0) (blockOf stmt m (blockOf stmt n p .1) .0)) ≡ onlyIf (sizesFit when n m && isExitStmt i (stmt p .0)) cond
+unfolding exitIf exitWhen exitUnless sizesFit
+if-exits true i stmt n m p s cond = rw (empty stmt m (blockOf stmt n p .1), sole i stmt n p, and-assoc)
+if-exits false i stmt n m p s cond = rw (empty stmt n p, sole i stmt m (blockOf stmt n p .1), and-assoc) (go n)
+  where
+    go : (k : ℕ) → onlyIf ((eqb k 0 && eqb m 1) && isExitStmt i (stmt (blockOf stmt k p .1) .0)) cond ≡ onlyIf ((eqb k 0 && eqb m 1) && isExitStmt i (stmt p .0)) cond
+    go zero = unfold blockOf in refl
+    go (suc k) = rw (eqb·suc-zero)
+
+both : (a b : Bool) → a && b ≡ true → (a ≡ true) × (b ≡ true)
+both true b e = (refl, e)
+both false b e = absurd (let q : _≡_ {A = ℕ} 0 1 = cc in omega arith)
+
+if-ends : (when : Bool) (stmt : Reader Stmt) (n m : ℕ) (p : def.Cursor) → sizesFit when n m ≡ true → blockOf stmt m (blockOf stmt n p .1) .1 ≡ stmt p .1
+unfolding sizesFit blockOf
+if-ends true stmt n m p e =
+    let h = both (eqb m 0) (eqb n 1) e in
+    rw (eqb-true m 0 (h .0), eqb-true n 1 (h .1))
+if-ends false stmt n m p e =
+    let h = both (eqb n 0) (eqb m 1) e in
+    rw (eqb-true n 0 (h .0), eqb-true m 1 (h .1))
+
+-- ---- the lines of an IF that exits
+
+line-exits : (i : ℕ) (expr : Reader Expr) (stmt : Reader Stmt) (arms : ℕ → Reader Arms) (s : Pos → Source) (c : def.Cursor) (l : StmtLine) → isExitStmt i (stmtOf expr stmt arms s c l .0) ≡ exitLine i (is l)
+unfolding stmtOf isExitStmt exitLine
+line-exits i expr stmt arms s c (A p v) = refl
+line-exits i expr stmt arms s c (I p n m) = refl
+line-exits i expr stmt arms s c (S p n m) = refl
+line-exits i expr stmt arms s c (F p j v k n) = refl
+line-exits i expr stmt arms s c (L p j n m) = refl
+line-exits i expr stmt arms s c (X p j) = refl
+line-exits i expr stmt arms s c (N p j) = refl
+line-exits i expr stmt arms s c (R p) = refl
+
+exit-ends : (i : ℕ) (expr : Reader Expr) (stmt : Reader Stmt) (arms : ℕ → Reader Arms) (s : Pos → Source) (c : def.Cursor) (l : StmtLine) → exitLine i (is l) ≡ true → stmtOf expr stmt arms s c l .1 ≡ c
+unfolding stmtOf exitLine
+exit-ends i expr stmt arms s c (A p v) e = absurd (let q : _≡_ {A = ℕ} 0 1 = cc in omega arith)
+exit-ends i expr stmt arms s c (I p n m) e = absurd (let q : _≡_ {A = ℕ} 0 1 = cc in omega arith)
+exit-ends i expr stmt arms s c (S p n m) e = absurd (let q : _≡_ {A = ℕ} 0 1 = cc in omega arith)
+exit-ends i expr stmt arms s c (F p j v k n) e = absurd (let q : _≡_ {A = ℕ} 0 1 = cc in omega arith)
+exit-ends i expr stmt arms s c (L p j n m) e = absurd (let q : _≡_ {A = ℕ} 0 1 = cc in omega arith)
+exit-ends i expr stmt arms s c (X p j) e = refl
+exit-ends i expr stmt arms s c (N p j) e = absurd (let q : _≡_ {A = ℕ} 0 1 = cc in omega arith)
+exit-ends i expr stmt arms s c (R p) e = absurd (let q : _≡_ {A = ℕ} 0 1 = cc in omega arith)
+
+module _ (i left v : ℕ) (text : List ℕ) (c : def.Cursor) where
+  exit-at : (x : Line StmtLine) → x ≡ lineAt (stmtForms v) left text (c .at) → isExitStmt i (stmtAt left v text c .0) ≡ exitLine i x
+  exit-at (is l) k = rw (stmt-is left v text c l (sym k)) (line-exits i _ _ _ _ _ l)
+  exit-at (not n) k = unfold isExitStmt exitLine in rw (stmt-bad left v text c n (sym k))
+
+  exit-behind : (x : Line StmtLine) → x ≡ lineAt (stmtForms v) left text (c .at) → exitLine i x ≡ true → (stmtAt left v text c .1 ≡ nextLine text c) × (c .at < length text)
+  exit-behind (is l) k e = (rw (stmt-is left v text c l (sym k)) (exit-ends i _ _ _ _ _ l e), line-there (stmtForms v) left text (c .at) l (sym k) .0)
+  exit-behind (not n) k e = unfold exitLine in absurd (let q : _≡_ {A = ℕ} 0 1 = cc in omega arith)
+
+pub unfused : (c : CompareOp) (w l : Option ℕ) → none ≡ fused c none none w l
+unfolding zip orClassified
+unfused c none l = refl
+unfused c (some v) l = refl
+
+-- any statement but an IF
+other : (when : Bool) (i : ℕ) (s : Stmt) → exitWhen i s ≡ none → exitUnless i s ≡ none → none ≡ exitIf when i s
+unfolding exitIf
+other true i s a b = sym a
+other false i s a b = sym b
+
+no-exit : (when : Bool) (i : ℕ) (expr : Reader Expr) (stmt : Reader Stmt) (arms : ℕ → Reader Arms) (s : Pos → Source) (c : def.Cursor) (l : StmtLine)
+    → ifFits when (is l) ≡ false → none ≡ exitIf when i (stmtOf expr stmt arms s c l .0)
+unfolding stmtOf ifFits exitWhen exitUnless
+no-exit when i expr stmt arms s c (A p v) e = other when i _ refl refl
+no-exit when i expr stmt arms s c (I p n m) e = sym (if-exits when i stmt n m _ (s p) _ ∙ unfold onlyIf in rw e)
+no-exit when i expr stmt arms s c (S p n m) e = other when i _ refl refl
+no-exit when i expr stmt arms s c (F p j v k n) e = other when i _ refl refl
+no-exit when i expr stmt arms s c (L p j n m) e = other when i _ refl refl
+no-exit when i expr stmt arms s c (X p j) e = other when i _ refl refl
+no-exit when i expr stmt arms s c (N p j) e = other when i _ refl refl
+no-exit when i expr stmt arms s c (R p) e = other when i _ refl refl
+
+-- an IF whose branches fit
+record Fitting (when : Bool) (x : Line StmtLine) : Type 0 where
+  pos : Pos
+  first : ℕ
+  second : ℕ
+  line : x ≡ is (I pos first second)
+  fit : sizesFit when first second ≡ true
+
+fitting : (when : Bool) (x : Line StmtLine) → ifFits when x ≡ true → Fitting when x
+unfolding ifFits
+fitting when (is (A p v)) e = absurd (let q : _≡_ {A = ℕ} 0 1 = cc in omega arith)
+fitting when (is (I p n m)) e = record { pos = p; first = n; second = m; line = refl; fit = e }
+fitting when (is (S p n m)) e = absurd (let q : _≡_ {A = ℕ} 0 1 = cc in omega arith)
+fitting when (is (F p j v k n)) e = absurd (let q : _≡_ {A = ℕ} 0 1 = cc in omega arith)
+fitting when (is (L p j n m)) e = absurd (let q : _≡_ {A = ℕ} 0 1 = cc in omega arith)
+fitting when (is (X p j)) e = absurd (let q : _≡_ {A = ℕ} 0 1 = cc in omega arith)
+fitting when (is (N p j)) e = absurd (let q : _≡_ {A = ℕ} 0 1 = cc in omega arith)
+fitting when (is (R p)) e = absurd (let q : _≡_ {A = ℕ} 0 1 = cc in omega arith)
+fitting when (not n) e = absurd (let q : _≡_ {A = ℕ} 0 1 = cc in omega arith)
+
+module _ (when : Bool) (i left v : ℕ) (text : List ℕ) (c : def.Cursor) (x : Line StmtLine) (k : x ≡ lineAt (stmtForms v) left text (c .at)) where
+  pub exits-not : ifFits when x ≡ false → Exiting when i left v text c exit-if.Other
+  exits-not e = record { is = go x k e; places = tt }
+    where
+      go : (y : Line StmtLine) → y ≡ lineAt (stmtForms v) left text (c .at) → ifFits when y ≡ false → none ≡ exitIf when i (stmtAt left v text c .0)
+      go (is l) k e = rw (stmt-is left v text c l (sym k)) (no-exit when i _ _ _ _ _ l e)
+      go (not n) k e = rw (stmt-bad left v text c n (sym k)) (other when i _ (unfold exitWhen in refl) (unfold exitUnless in refl))
+
+  module _ (e : ifFits when x ≡ true) where
+    fits : Fitting when x
+    fits = fitting when x e
+
+    line-if : lineAt (stmtForms v) left text (c .at) ≡ is (I (fits .pos) (fits .first) (fits .second))
+    line-if = sym k ∙ fits .line
+
+    pub if-there : (c .at < length text) × (0 < left)
+    if-there = line-there (stmtForms v) left text (c .at) _ line-if
+
+    -- the condition's place, and the statement behind it
+    module _ {condition p : Cursor} (f : Skipped text (nextLine text c) condition) (g : Skipped text (exprAt (left - 1) v text (cursorOf condition) .1) p)
+        (y : Line StmtLine) (h : y ≡ lineAt (stmtForms v) (left - 1) text (p .at)) where
+      exit-is : exitIf when i (stmtAt left v text c .0) ≡ onlyIf (exitLine i y) (exprAt (left - 1) v text (cursorOf condition) .0)
+      unfolding stmtOf
+      exit-is =
+          rw (stmt-is left v text c _ line-if)
+          (if-exits when i (λ d. stmtAt (left - 1) v text d) (fits .first) (fits .second) _ _ _ ∙ rw (fits .fit, ← f .is, ← g .is, exit-at i (left - 1) v text (cursorOf p) y h))
+
+      end-is : stmtAt left v text c .1 ≡ stmtAt (left - 1) v text (cursorOf p) .1
+      unfolding stmtOf
+      end-is =
+          rw (stmt-is left v text c _ line-if)
+          (if-ends when (λ d. stmtAt (left - 1) v text d) (fits .first) (fits .second) _ (fits .fit) ∙ rw (← f .is, ← g .is))
+
+      pub exits-other : exitLine i y ≡ false → Exiting when i left v text c exit-if.Other
+      unfolding onlyIf
+      exits-other z = record { is = sym (exit-is ∙ rw z); places = tt }
+
+      pub exit-there : exitLine i y ≡ true → p .at < length text
+      exit-there z = exit-behind i (left - 1) v text (cursorOf p) y h z .1
+
+      pub exits-here : exitLine i y ≡ true → {end : Cursor} → Skipped text (nextLine text (cursorOf p)) end → Exiting when i left v text c (exit-if.Exits condition end)
+      unfolding onlyIf
+      exits-here z n = record {
+        is = sym (exit-is ∙ rw z);
+        places = (f .near, record { is = n .is ∙ sym (end-is ∙ exit-behind i (left - 1) v text (cursorOf p) y h z .0); near = n .near });
+      }
+
+-- ---- a loop's shape
+
+module _ (i n m left v : ℕ) (text : List ℕ) (c : def.Cursor) where
+  module _ (e : m ≡ 1) {p : Cursor} (s : Skipped text (blockOf (λ d. stmtAt left v text d) n c .1) p) where
+    pub shape-repeat : {condition end : Cursor} → Exiting true i left v text (cursorOf p) (exit-if.Exits condition end) → Shaped i n m left v text c (loop-shape.Repeat condition end)
+    unfolding shape blockOf exitIf repeatOr
+    shape-repeat x = let y = rw (s .is) at x in rw e (record { is = ap repeatOr (y .is); places = y .places })
+
+    pub shape-not-repeat : Exiting true i left v text (cursorOf p) exit-if.Other → Shaped i n m left v text c loop-shape.Plain
+    unfolding shape blockOf exitIf repeatOr
+    shape-not-repeat x = let y = rw (s .is) at x in rw e (record { is = ap repeatOr (y .is); places = tt })
+
+module _ (i m left v : ℕ) (text : List ℕ) (c : def.Cursor) (e : m ≡ 0) where
+  pub shape-while : (n : ℕ) → 0 < n → {condition end : Cursor} → Exiting false i left v text c (exit-if.Exits condition end) → Shaped i n m left v text c (loop-shape.While condition end)
+  unfolding shape blockOf exitIf whileOr
+  shape-while zero h x = absurd (omega arith)
+  shape-while (suc n) h x = rw e (record { is = ap whileOr (x .is); places = x .places })
+
+  pub shape-not-while : (n : ℕ) → 0 < n → Exiting false i left v text c exit-if.Other → Shaped i n m left v text c loop-shape.Plain
+  unfolding shape blockOf exitIf whileOr
+  shape-not-while zero h x = absurd (omega arith)
+  shape-not-while (suc n) h x = rw e (record { is = ap whileOr (x .is); places = tt })
+
+  pub shape-empty : (n : ℕ) → n ≤ 0 → Shaped i n m left v text c loop-shape.Plain
+  unfolding shape blockOf
+  shape-empty zero h = rw e (record { is = refl; places = tt })
+  shape-empty (suc n) h = absurd (omega arith)
+
+pub shape-plain : (i n m left v : ℕ) (text : List ℕ) (c : def.Cursor) → (m ≡ 1 → ⊥) → (m ≡ 0 → ⊥) → Shaped i n m left v text c loop-shape.Plain
+unfolding shape blockOf
+shape-plain i n zero left v text c a b = absurd (b refl)
+shape-plain i n (suc zero) left v text c a b = absurd (a refl)
+shape-plain i n (suc (suc m)) left v text c a b = record { is = refl; places = tt }

@@ -1,0 +1,153 @@
+-- What is seen of a part of the text before it is emitted: where it ends, and which shape it has. The total reading decides.
+use Prim.Native.Nat.{ℕ, _-_}
+use mathlib.Core.Path.{_≡_}
+use mathlib.Core.List.{List}
+use mathlib.Core.Bool.{Bool, true, false, _&&_}
+use mathlib.Core.Option.{Option, some, none}
+use lib.Dec.{eqb}
+use Rattle.definition.specs.Tree.{Expr, Stmt}
+use Rattle.definition.specs.Program as def
+use Rattle.definition.specs.Program.{Line, is, not, A, I, S, F, L, X, N, R, K, B, D, O, U, C, H, nextLine, exprAt, stmtAt, blockOf}
+use Rattle.definition.specs.Opcode.{CompareOp, commute}
+use Rattle.definition.specs.CompileExpr.{ClassifiedCmp, readOf, constantOf, zip, orClassified}
+use Rattle.definition.specs.Stmt as shapes
+use Rattle.definition.specs.Stmt.{exitWhen, exitUnless}
+use Rattle.opcode.specs.View.{compareView}
+use Rattle.program.specs.declared.Cursor.{Cursor}
+use Rattle.program.specs.declared.Walk.{Walk}
+use Rattle.program.specs.Walk.{cursorOf, Near}
+use Rattle.program_shape.specs.declared.Operand.{Operand}
+use Rattle.program_shape.specs.declared.Operand.the-variants as operand
+use Rattle.program_shape.specs.declared.Compared.{Compared}
+use Rattle.program_shape.specs.declared.Compared.the-variants as by
+use Rattle.program_shape.specs.declared.Condition.{Condition}
+use Rattle.program_shape.specs.declared.Condition.the-variants as condition
+use Rattle.program_shape.specs.declared.ExitIf.{ExitIf}
+use Rattle.program_shape.specs.declared.ExitIf.the-variants as exit-if
+use Rattle.program_shape.specs.declared.Shape.{Shape}
+use Rattle.program_shape.specs.declared.Shape.the-variants as loop-shape
+
+-- where a walk that skips starts
+unfoldable pub walkFrom : Cursor → Walk
+walkFrom c = record { at = c .at; row = c .row; refused = 0 }
+
+-- a place that the walk went to
+pub record Skipped (text : List ℕ) (d : def.Cursor) (r : Cursor) : Type 0 where
+  pub is : cursorOf r ≡ d
+  pub near : Near text (r .at) (r .row)
+
+-- ---- conditions
+
+-- what a line makes of a side: a variable or a constant
+unfoldable pub operandOf : Line def.ExprLine → Operand
+operandOf (is (K k)) = operand.Constant k
+operandOf (is (B b)) = operand.Other
+operandOf (is (D v)) = operand.Variable v
+operandOf (is (O o)) = operand.Other
+operandOf (is (U o)) = operand.Other
+operandOf (is (C o)) = operand.Other
+operandOf (is (H o)) = operand.Other
+operandOf (not n) = operand.Other
+
+abbrev pub variableIn : Operand → Option ℕ
+variableIn (operand.Variable v) = some v
+variableIn (operand.Constant k) = none
+variableIn operand.Other = none
+
+abbrev pub constantIn : Operand → Option ℕ
+constantIn (operand.Variable v) = none
+constantIn (operand.Constant k) = some k
+constantIn operand.Other = none
+
+-- the operand at a place is the expression's there
+pub record Sided (e : Expr) (r : Operand) : Type 0 where
+  pub variable : variableIn r ≡ readOf e
+  pub constant : constantIn r ≡ constantOf e
+
+-- the comparison that a line is
+unfoldable pub comparisonIn : Line def.ExprLine → Option CompareOp
+comparisonIn (is (K k)) = none
+comparisonIn (is (B b)) = none
+comparisonIn (is (D v)) = none
+comparisonIn (is (O o)) = none
+comparisonIn (is (U o)) = none
+comparisonIn (is (C o)) = some o
+comparisonIn (is (H o)) = none
+comparisonIn (not n) = none
+
+abbrev pub compared : Compared → Option CompareOp
+compared (by.By o) = some (compareView o)
+compared by.Other = none
+
+abbrev pub classified : Condition → Option ClassifiedCmp
+classified (condition.Fused o v k) = some (record { op = compareView o; variable = v; constant = k })
+classified condition.Other = none
+
+-- what `classify` makes of a comparison's sides
+abbrev pub fused : CompareOp → Option ℕ → Option ℕ → Option ℕ → Option ℕ → Option ClassifiedCmp
+fused c v k w l = orClassified (zip c v l) (zip (commute c) w k)
+
+-- the condition of IF c THEN EXIT i, or of IF c ELSE EXIT i
+unfoldable pub exitIf : Bool → ℕ → Stmt → Option Expr
+exitIf true i s = exitWhen i s
+exitIf false i s = exitUnless i s
+
+-- do an IF's branches hold so many statements?
+unfoldable pub sizesFit : Bool → ℕ → ℕ → Bool
+sizesFit true n m = eqb m 0 && eqb n 1
+sizesFit false n m = eqb n 0 && eqb m 1
+
+unfoldable pub ifFits : Bool → Line def.StmtLine → Bool
+ifFits when (is (A p v)) = false
+ifFits when (is (I p n m)) = sizesFit when n m
+ifFits when (is (S p n m)) = false
+ifFits when (is (F p i v k n)) = false
+ifFits when (is (L p i n m)) = false
+ifFits when (is (X p i)) = false
+ifFits when (is (N p i)) = false
+ifFits when (is (R p)) = false
+ifFits when (not n) = false
+
+unfoldable pub exitLine : ℕ → Line def.StmtLine → Bool
+exitLine i (is (A p v)) = false
+exitLine i (is (I p n m)) = false
+exitLine i (is (S p n m)) = false
+exitLine i (is (F p j v k n)) = false
+exitLine i (is (L p j n m)) = false
+exitLine i (is (X p j)) = eqb i j
+exitLine i (is (N p j)) = false
+exitLine i (is (R p)) = false
+exitLine i (not n) = false
+
+-- a condition of a statement whose line has so many levels left stands one level deeper
+abbrev pub conditionAt : ℕ → ℕ → List ℕ → Cursor → Expr
+conditionAt left v text c = exprAt (left - 1) v text (cursorOf c) .0
+
+abbrev pub exitCondition : ℕ → ℕ → List ℕ → ExitIf → Option Expr
+exitCondition left v text (exit-if.Exits c end) = some (conditionAt left v text c)
+exitCondition left v text exit-if.Other = none
+
+abbrev pub exitPlaces : List ℕ → def.Cursor → ExitIf → Type 0
+exitPlaces text d (exit-if.Exits c end) = Near text (c .at) (c .row) × Skipped text d end
+exitPlaces text d exit-if.Other = Unit {0}
+
+-- the IF at a place, as one that exits loop i
+pub record Exiting (when : Bool) (i left v : ℕ) (text : List ℕ) (c : def.Cursor) (r : ExitIf) : Type 0 where
+  pub is : exitCondition left v text r ≡ exitIf when i (stmtAt left v text c .0)
+  pub places : exitPlaces text (stmtAt left v text c .1) r
+
+abbrev pub shapeOf : ℕ → ℕ → List ℕ → Shape → shapes.Shape
+shapeOf left v text (loop-shape.While c rest) = shapes.while (conditionAt left v text c)
+shapeOf left v text (loop-shape.Repeat c end) = shapes.repeat (conditionAt left v text c)
+shapeOf left v text loop-shape.Plain = shapes.plain
+
+-- a WHILE's rest stands behind its first statement, a REPEAT's end behind its `continuing`
+abbrev pub shapePlaces : List ℕ → def.Cursor → def.Cursor → Shape → Type 0
+shapePlaces text first end (loop-shape.While c rest) = Near text (c .at) (c .row) × Skipped text first rest
+shapePlaces text first end (loop-shape.Repeat c d) = Near text (c .at) (c .row) × Skipped text end d
+shapePlaces text first end loop-shape.Plain = Unit {0}
+
+-- the loop i whose body of n and whose `continuing` of m statements stand from c on
+pub record Shaped (i n m left v : ℕ) (text : List ℕ) (c : def.Cursor) (r : Shape) : Type 0 where
+  pub is : shapeOf left v text r ≡ shapes.shape i (blockOf (λ d. stmtAt left v text d) n c .0) (blockOf (λ d. stmtAt left v text d) m (blockOf (λ d. stmtAt left v text d) n c .1) .0)
+  pub places : shapePlaces text (stmtAt left v text c .1) (blockOf (λ d. stmtAt left v text d) m (blockOf (λ d. stmtAt left v text d) n c .1) .1) r

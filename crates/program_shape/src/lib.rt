@@ -1,0 +1,385 @@
+// What emission must know of a part of the text before it comes to it: where the part ends, whether a condition is fused, and whether a loop is a
+// WHILE or a REPEAT. Each answer is that of the total reading, whatever the text.
+ghost use mathlib.Core.Path.{_≡_};
+ghost use Prim.Native.Nat.{_<_};
+ghost use lib.ListN.{length};
+ghost use Rattle.definition.specs.Program.{nextLine, exprAt, stmtAt, blockOf};
+ghost use Rattle.definition.specs.CompileExpr.{classify};
+ghost use Rattle.opcode.specs.View.{compareView};
+ghost use Rattle.program_line.specs.View.{stmtLine, exprLine};
+ghost use Rattle.program.specs.Walk.{cursorOf, Near};
+ghost use Rattle.program_shape.specs.Shape.{Skipped, walkFrom, operandOf, variableIn, constantIn, Sided, comparisonIn, compared, classified, fused, sizesFit, ifFits, exitLine, Exiting, Shaped};
+use opcode::CompareOp;
+use program::Cursor;
+use program::Walk;
+use program_line::ExprLine;
+use program_line::StmtLine;
+
+// A side of a comparison, or a FOR's end.
+pub enum Operand {
+    Variable(u16),
+    Constant(u32),
+    Other,
+}
+
+// The comparison that a line is, if it is one.
+pub enum Compared {
+    By(CompareOp),
+    Other,
+}
+
+// A condition: one that CMP_BR tests, the variable on the left, or any other.
+pub enum Condition {
+    Fused {
+        op: CompareOp,
+        variable: u16,
+        constant: u32,
+    },
+    Other,
+}
+
+// An IF whose one branch is a sole EXIT and whose other is empty: where its condition stands, and where it ends.
+pub enum ExitIf {
+    Exits { condition: Cursor, end: Cursor },
+    Other,
+}
+
+// A loop's shape, with where its condition stands; a WHILE's body goes on at `rest`, and a REPEAT ends at `end`.
+pub enum Shape {
+    While { condition: Cursor, rest: Cursor },
+    Repeat { condition: Cursor, end: Cursor },
+    Plain,
+}
+
+fn walk_from(c: Cursor) -> Walk
+    ensures { λ r. ⌜ r ≡ walkFrom c ⌝ }
+{
+    Walk {
+        at: c.at,
+        row: c.row,
+        refused: 0,
+    }
+}
+
+// Where the expression at a place ends.
+pub fn skip_expr(text: &[u8], variables: u16, left: usize, c: Cursor) -> Cursor
+    requires { ⌜ Near (now text) (c .at) (c .row) ⌝ }
+    ensures { λ r. ⌜ Skipped (now (text .entry)) (exprAt left variables (now (text .entry)) (cursorOf c) .1) r ⌝ }
+{
+    let w = program::walk_expr(text, variables, false, left, walk_from(c));
+    Cursor {
+        at: w.at,
+        row: w.row,
+    }
+}
+
+// Where the statement at a place ends.
+pub fn skip_stmt(text: &[u8], variables: u16, left: usize, c: Cursor) -> Cursor
+    requires { ⌜ Near (now text) (c .at) (c .row) ⌝ }
+    ensures { λ r. ⌜ Skipped (now (text .entry)) (stmtAt left variables (now (text .entry)) (cursorOf c) .1) r ⌝ }
+{
+    let w = program::walk_stmt(text, variables, false, left, walk_from(c));
+    Cursor {
+        at: w.at,
+        row: w.row,
+    }
+}
+
+// Where a block of n statements ends.
+pub fn skip_block(text: &[u8], variables: u16, left: usize, n: usize, c: Cursor) -> Cursor
+    requires { ⌜ Near (now text) (c .at) (c .row) ⌝ }
+    ensures { λ r. ⌜ Skipped (now (text .entry)) (blockOf (λ d. stmtAt left variables (now (text .entry)) d) n (cursorOf c) .1) r ⌝ }
+{
+    let w = program::walk_stmts(text, variables, false, left, n, walk_from(c));
+    Cursor {
+        at: w.at,
+        row: w.row,
+    }
+}
+
+// The place of the next line, where there is one here.
+pub fn next_line(text: &[u8], c: Cursor) -> Cursor
+    requires { ⌜ Near (now text) (c .at) (c .row) ⌝ }
+    requires { ⌜ c .at < length (now text) ⌝ }
+    ensures { λ r. ⌜ Skipped (now (text .entry)) (nextLine (now (text .entry)) (cursorOf c)) r ⌝ }
+{
+    let at = c.at;
+    let end = field::line_end(text, at);
+    Cursor {
+        at: end + 1,
+        row: c.row + 1,
+    }
+}
+
+// ---- conditions
+
+fn operand_of(line: ExprLine) -> Operand
+    ensures { λ r. ⌜ r ≡ operandOf (exprLine line) ⌝ }
+{
+    match line {
+        ExprLine::Const(k) => Operand::Constant(k),
+        ExprLine::Read(v) => Operand::Variable(v),
+        ExprLine::Bool(_) => Operand::Other,
+        ExprLine::Binary(_) => Operand::Other,
+        ExprLine::Unary(_) => Operand::Other,
+        ExprLine::Compare(_) => Operand::Other,
+        ExprLine::ShortCircuit(_) => Operand::Other,
+        ExprLine::Bad(_) => Operand::Other,
+    }
+}
+
+// The expression at a place, as a side of a comparison or as a FOR's end.
+pub fn operand_at(text: &[u8], variables: u16, left: usize, c: Cursor) -> Operand
+    ensures { λ r. ⌜ Sided (exprAt left variables (now (text .entry)) (cursorOf c) .0) r ⌝ }
+{
+    let at = c.at;
+    operand_of(program_line::read_expr(text, variables, left, at))
+}
+
+fn comparison_of(line: ExprLine) -> Compared
+    ensures { λ r. ⌜ compared r ≡ comparisonIn (exprLine line) ⌝ }
+{
+    match line {
+        ExprLine::Compare(op) => Compared::By(op),
+        ExprLine::Const(_) => Compared::Other,
+        ExprLine::Read(_) => Compared::Other,
+        ExprLine::Bool(_) => Compared::Other,
+        ExprLine::Binary(_) => Compared::Other,
+        ExprLine::Unary(_) => Compared::Other,
+        ExprLine::ShortCircuit(_) => Compared::Other,
+        ExprLine::Bad(_) => Compared::Other,
+    }
+}
+
+// Variable against constant; a constant on the left exchanges the sides.
+fn fuse(op: CompareOp, a: Operand, b: Operand) -> Condition
+    ensures { λ r. ⌜ classified r ≡ fused (compareView op) (variableIn a) (constantIn a) (variableIn b) (constantIn b) ⌝ }
+{
+    match a {
+        Operand::Variable(v) => match b {
+            Operand::Constant(k) => Condition::Fused {
+                op: op,
+                variable: v,
+                constant: k,
+            },
+            Operand::Variable(_) => Condition::Other,
+            Operand::Other => Condition::Other,
+        },
+        Operand::Constant(k) => match b {
+            Operand::Variable(v) => Condition::Fused {
+                op: op.commute(),
+                variable: v,
+                constant: k,
+            },
+            Operand::Constant(_) => Condition::Other,
+            Operand::Other => Condition::Other,
+        },
+        Operand::Other => Condition::Other,
+    }
+}
+
+// Whether the condition at a place is variable against constant.
+pub fn classify(text: &[u8], variables: u16, left: usize, c: Cursor) -> Condition
+    requires { ⌜ Near (now text) (c .at) (c .row) ⌝ }
+    ensures { λ r. ⌜ classified r ≡ classify (exprAt left variables (now (text .entry)) (cursorOf c) .0) ⌝ }
+{
+    let at = c.at;
+    let by = comparison_of(program_line::read_expr(text, variables, left, at));
+    match by {
+        Compared::Other => Condition::Other,
+        Compared::By(op) => {
+            let first = next_line(text, c);
+            let l = left - 1;
+            let a = operand_at(text, variables, l, first);
+            let second = skip_expr(text, variables, l, first);
+            let b = operand_at(text, variables, l, second);
+            fuse(op, a, b)
+        }
+    }
+}
+
+// ---- shapes of loops
+
+// A sole EXIT in then and an empty else, or the other way round.
+fn sizes_fit(when: bool, then: u16, otherwise: u16) -> bool
+    ensures { λ r. ⌜ r ≡ sizesFit when then otherwise ⌝ }
+{
+    if when {
+        if otherwise != 0 {
+            return false;
+        }
+        if then != 1 {
+            return false;
+        }
+        return true;
+    }
+    if then != 0 {
+        return false;
+    }
+    if otherwise != 1 {
+        return false;
+    }
+    true
+}
+
+fn if_fits(when: bool, line: StmtLine) -> bool
+    ensures { λ r. ⌜ r ≡ ifFits when (stmtLine line) ⌝ }
+{
+    match line {
+        StmtLine::If {
+            pos: _,
+            then,
+            otherwise,
+        } => sizes_fit(when, then, otherwise),
+        StmtLine::Assign {
+            pos: _,
+            variable: _,
+        } => false,
+        StmtLine::Case {
+            pos: _,
+            arms: _,
+            otherwise: _,
+        } => false,
+        StmtLine::For {
+            pos: _,
+            loop_number: _,
+            variable: _,
+            step: _,
+            body: _,
+        } => false,
+        StmtLine::Loop {
+            pos: _,
+            loop_number: _,
+            body: _,
+            continuing: _,
+        } => false,
+        StmtLine::Exit {
+            pos: _,
+            loop_number: _,
+        } => false,
+        StmtLine::Continue {
+            pos: _,
+            loop_number: _,
+        } => false,
+        StmtLine::Return { pos: _ } => false,
+        StmtLine::Bad(_) => false,
+    }
+}
+
+fn exits(i: u16, line: StmtLine) -> bool
+    ensures { λ r. ⌜ r ≡ exitLine i (stmtLine line) ⌝ }
+{
+    match line {
+        StmtLine::Exit {
+            pos: _,
+            loop_number,
+        } => { if i == loop_number { true } else { false } }
+        StmtLine::Assign {
+            pos: _,
+            variable: _,
+        } => false,
+        StmtLine::If {
+            pos: _,
+            then: _,
+            otherwise: _,
+        } => false,
+        StmtLine::Case {
+            pos: _,
+            arms: _,
+            otherwise: _,
+        } => false,
+        StmtLine::For {
+            pos: _,
+            loop_number: _,
+            variable: _,
+            step: _,
+            body: _,
+        } => false,
+        StmtLine::Loop {
+            pos: _,
+            loop_number: _,
+            body: _,
+            continuing: _,
+        } => false,
+        StmtLine::Continue {
+            pos: _,
+            loop_number: _,
+        } => false,
+        StmtLine::Return { pos: _ } => false,
+        StmtLine::Bad(_) => false,
+    }
+}
+
+// IF c THEN EXIT i at a place, or IF c ELSE EXIT i.
+fn exit_at(text: &[u8], variables: u16, left: usize, c: Cursor, i: u16, when: bool) -> ExitIf
+    requires { ⌜ Near (now text) (c .at) (c .row) ⌝ }
+    ensures { λ r. ⌜ Exiting when i left variables (now (text .entry)) (cursorOf c) r ⌝ }
+{
+    let at = c.at;
+    let fits = if_fits(when, program_line::read_stmt(text, variables, left, at));
+    if fits {
+        let condition = next_line(text, c);
+        let l = left - 1;
+        let p = skip_expr(text, variables, l, condition);
+        let there = p.at;
+        let out = exits(i, program_line::read_stmt(text, variables, l, there));
+        if out {
+            let end = next_line(text, p);
+            return ExitIf::Exits {
+                condition: condition,
+                end: end,
+            };
+        }
+        return ExitIf::Other;
+    }
+    ExitIf::Other
+}
+
+// The shape of loop i, whose body of n and whose `continuing` of m statements stand from `c` on. A REPEAT is seen behind its body, which is
+// skipped for that.
+pub fn loop_shape(
+    text: &[u8],
+    variables: u16,
+    left: usize,
+    c: Cursor,
+    i: u16,
+    n: u16,
+    m: u16,
+) -> Shape
+    requires { ⌜ Near (now text) (c .at) (c .row) ⌝ }
+    ensures { λ r. ⌜ Shaped i n m left variables (now (text .entry)) (cursorOf c) r ⌝ }
+{
+    if m == 1 {
+        let p = skip_block(text, variables, left, n as usize, c);
+        let e = exit_at(text, variables, left, p, i, true);
+        match e {
+            ExitIf::Exits { condition, end } => {
+                return Shape::Repeat {
+                    condition: condition,
+                    end: end,
+                };
+            }
+            ExitIf::Other => {
+                return Shape::Plain;
+            }
+        }
+    }
+    if m == 0 {
+        if n > 0 {
+            let e = exit_at(text, variables, left, c, i, false);
+            match e {
+                ExitIf::Exits { condition, end } => {
+                    return Shape::While {
+                        condition: condition,
+                        rest: end,
+                    };
+                }
+                ExitIf::Other => {
+                    return Shape::Plain;
+                }
+            }
+        }
+        return Shape::Plain;
+    }
+    Shape::Plain
+}
