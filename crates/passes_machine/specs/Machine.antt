@@ -4,7 +4,6 @@ use Prim.Native.Nat.{ℕ, _+_, _-_, _*_, suc}
 use mathlib.Core.List.{List, [], _∷_}
 use mathlib.Core.Bool.{Bool, true, false, _&&_, _||_}
 use lib.Dec.{eqb, leb, ltb}
-use lib.ListN.{length, take, set}
 use Rattle.definition.specs.Limits.{maxCode, maxProtected, maxLines, entrySize, maxRules, maxField, badSheet, badRule}
 use Rattle.definition.specs.Res.{Res, ok, refuse, _>>=_, _>>_, given}
 use Rattle.definition.specs.Field.{lf, comma, digit0, digit9}
@@ -13,6 +12,7 @@ use Rattle.definition.specs.Sheet.{readSheet}
 use Rattle.definition.specs.Rules.{readRules}
 use Rattle.definition.specs.Alone.{Given, Rewritten, rewriteFiles}
 use Rattle.definition.specs.Passes.{malformedLine}
+use Rattle.store.specs.Store.{Store, contents, push}
 
 -- ---- where the reading stands
 
@@ -152,21 +152,6 @@ next h b = nextIn (h .phase) h b
 
 -- ---- what is kept
 
--- a lent buffer, and how many of its elements are used
-pub record Store : Type 0 where
-  pub cells : List ℕ
-  pub used : ℕ
-
-unfoldable pub contents : Store → List ℕ
-contents s = take (s .used) (s .cells)
-
--- as far as there is room
-unfoldable pub push : Store → ℕ → Store
-push s x = elim (ltb (s .used) (length (s .cells))) [
-  | true ↦ record { cells = set (s .cells) (s .used) x; used = suc (s .used) }
-  | false ↦ s
-]
-
 pub data Put : Type 0 where
   nothing : Put
   intoSheet intoRules intoCode intoOffsets intoEntries : ℕ → Put
@@ -223,10 +208,6 @@ step s b = record { head = next (s .head) b; stores = stored (s .stores) (putIn 
 unfoldable pub steps : State → List ℕ → State
 steps s [] = s
 steps s (b ∷ bs) = steps (step s b) bs
-
--- nothing read yet, in these buffers
-unfoldable pub empty : List ℕ → Store
-empty cells = record { cells = cells; used = 0 }
 
 -- the room that loses nothing of any input
 abbrev pub sheetRoom : ℕ
@@ -288,5 +269,5 @@ concluded place s = concludedAs (ending (s .head)) place (s .stores)
 
 -- `unfolding open-Machine` names all of this module's definitions at once
 unfoldable pub open-Machine : Unit {0}
-unfolding lineAfter lineIn start withKept withNumber fieldAfter keeps textByte atMost digitAfter numberAfter digitByte stop isBlank rulesAt counted listComma listEnd listByte entryComma entryEnd entryByte nextIn next contents push putIf isKept ends putIn stored step steps empty endingIn ending givenIn concludedAs concluded
+unfolding lineAfter lineIn start withKept withNumber fieldAfter keeps textByte atMost digitAfter numberAfter digitByte stop isBlank rulesAt counted listComma listEnd listByte entryComma entryEnd entryByte nextIn next putIf isKept ends putIn stored step steps endingIn ending givenIn concludedAs concluded
 open-Machine = tt
