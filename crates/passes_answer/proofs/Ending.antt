@@ -1,13 +1,16 @@
 -- The text for what a reader has read.
-use mathlib.Core.Path.{_≡_, refl, ap, sym, _∙_}
+use mathlib.Core.Path.{_≡_, refl, ap, sym, subst, _∙_}
 use mathlib.Core.Bool.{true}
 use mathlib.Core.List.{List}
-use Prim.Native.Nat.{ℕ}
+use Prim.Native.Nat.{ℕ, _≤_}
+use native.Mathlib.Omega.{arith}
 use lib.ListN.{length, take}
+use lib.Seq.{length-take-le}
 use Rattle.definition.specs.Sheet.{readSheet}
 use Rattle.definition.specs.Alone.{Room, Answer, Rewrites, answer, rewriteInto}
 use Rattle.definition.specs.Passes.{text}
 use Rattle.store.specs.Store.{Store, at, contents, pushAll}
+use Rattle.store.proofs.Stores.{Fits, fits-pushAll}
 use Rattle.passes_machine.specs.Machine.{State, Ending, ending, concluded, concludedAs}
 use Rattle.passes_answer.specs.View.{handedRules, handed, fullRoom, handedCount, answerText, Finishes}
 use Rattle.passes_answer.proofs.Conclusion.{concluded-text}
@@ -40,3 +43,10 @@ pub finished-by : (st : State) (before : List ℕ) {after : Store} {room : Room}
     → after ≡ pushAll (at before 0) (answerText v (readSheet (take n (st .stores .sheet .cells))) a)
     → Finishes st before after
 finished-by st before v h full e r p = finished st before v h full r (rw (← e) p)
+
+-- no more of the output is used than there is
+pub finish-within : (st : State) (before after : List ℕ) (n : ℕ) → Finishes st before (at after n) → n ≤ length after
+finish-within st before after n f = subst Fits (sym (f .is)) (fits-pushAll (at before 0) (text (concluded (f .place) st)) (omega arith))
+
+pub finish-part : (st : State) (before after : List ℕ) (n : ℕ) → Finishes st before (at after n) → n ≡ length (take n after)
+finish-part st before after n f = sym (length-take-le n after (finish-within st before after n f))

@@ -1,6 +1,6 @@
 -- What is kept, byte by byte.
 use mathlib.Core.Path.{_≡_, refl, ap, sym, _∙_}
-use mathlib.Core.List.{List, [], _∷_}
+use mathlib.Core.List.{List, [], _∷_, _++_}
 use Prim.Native.Nat.{ℕ, zero, suc, _+_, _≤_, _<_}
 use native.Mathlib.Numerals.{add-one}
 use native.Mathlib.Omega.{arith}
@@ -9,7 +9,8 @@ use lib.Seq.{drop-cons}
 use Rattle.store.specs.Store.{Store, at, push}
 use Rattle.store.proofs.Stores.{length-push}
 use Rattle.passes_machine.specs.Machine.{Head, Put, nothing, intoSheet, intoRules, intoCode, intoOffsets, intoEntries, Stores, State, sheetLine, lineIn, start, putIn, stored, next, step, steps}
-use Rattle.passes_reader.specs.View.{begun}
+use Rattle.passes_machine.proofs.Text.{steps-append}
+use Rattle.passes_reader.specs.View.{begun, Reading}
 
 pub kept-nothing : (s : Stores) (p : Put) → p ≡ nothing → s ≡ stored s p
 unfolding stored
@@ -53,9 +54,12 @@ pub record Same (s t : Stores) : Type 0 where
   pub offsets : length (t .offsets .cells) ≡ length (s .offsets .cells)
   pub entries : length (t .entries .cells) ≡ length (s .entries .cells)
 
+same-refl : (s : Stores) → Same s s
+same-refl s = record { sheet = refl; rules = refl; code = refl; offsets = refl; entries = refl }
+
 same-stored : (s : Stores) (p : Put) → Same s (stored s p)
 unfolding stored
-same-stored s nothing = record { sheet = refl; rules = refl; code = refl; offsets = refl; entries = refl }
+same-stored s nothing = same-refl s
 same-stored s (intoSheet x) = record { sheet = length-push (s .sheet) x; rules = refl; code = refl; offsets = refl; entries = refl }
 same-stored s (intoRules x) = record { sheet = refl; rules = length-push (s .rules) x; code = refl; offsets = refl; entries = refl }
 same-stored s (intoCode x) = record { sheet = refl; rules = refl; code = length-push (s .code) x; offsets = refl; entries = refl }
@@ -85,7 +89,7 @@ pub record Feeding (s₀ s : State) (bytes : List ℕ) (i : ℕ) : Type 0 where
   pub same : Same (s₀ .stores) (s .stores)
 
 pub feed-begins : (s : State) (bytes : List ℕ) → Feeding s s bytes 0
-feed-begins s bytes = record { more = refl; near = omega arith; same = record { sheet = refl; rules = refl; code = refl; offsets = refl; entries = refl } }
+feed-begins s bytes = record { more = refl; near = omega arith; same = same-refl (s .stores) }
 
 step-first : (s : State) (b : ℕ) (bs : List ℕ) → steps s (b ∷ bs) ≡ steps (step s b) bs
 unfolding steps
@@ -110,3 +114,26 @@ steps-none s = refl
 
 pub feed-ends : (s₀ s : State) (bytes : List ℕ) (i : ℕ) → Feeding s₀ s bytes i → length bytes ≤ i → s ≡ steps s₀ bytes
 feed-ends s₀ s bytes i f h = sym (f .more ∙ ap (steps s) (past bytes i h) ∙ steps-none s)
+
+-- ---- reading in parts
+
+pub reading-then : {s t u : State} → Reading s t → Reading t u → Reading s u
+reading-then {s = s} a b = record { bytes = a .bytes ++ b .bytes; is = b .is ∙ ap (λ (x : State). steps x (b .bytes)) (a .is) ∙ sym (steps-append s (a .bytes) (b .bytes)) }
+
+same-steps : (s : State) (bytes : List ℕ) → Same (s .stores) (steps s bytes .stores)
+unfolding steps
+same-steps s [] = same-refl (s .stores)
+same-steps s (b ∷ bs) = same-then (same-step s b) (same-steps (step s b) bs)
+
+-- with the lengths of the buffers, which a loop keeps
+pub record Continuing (s t : State) : Type 0 where
+  pub read : Reading s t
+  pub same : Same (s .stores) (t .stores)
+
+pub continuing-from : (s t : State) → t ≡ s → Continuing s t
+continuing-from s t e = rw e (record { read = record { bytes = []; is = sym (steps-none s) }; same = same-refl (s .stores) })
+
+pub continuing-then : {s t u : State} → Continuing s t → Reading t u → Continuing s u
+continuing-then {s = s} {t = t} {u = u} a b =
+    let r : Reading s u = reading-then (a .read) b in
+    record { read = r; same = rw (r .is) (same-steps s (r .bytes)) }

@@ -70,3 +70,8 @@ begun sheet rules code offsets entries = record {
 
 pub record Starts (r : Reader) : Type 0 where
   pub is : (sheet rules code offsets entries : List ℕ) → stateView r sheet rules code offsets entries ≡ begun sheet rules code offsets entries
+
+-- some bytes were read from one state to the other
+pub record Reading (before after : def.State) : Type 0 where
+  pub bytes : List ℕ
+  pub is : after ≡ def.steps before bytes

@@ -1,0 +1,110 @@
+// Rewriting called alone, as the rig uses it: reads a sheet, rules, code, protected offsets and line entries from standard input, and prints
+// the rewritten code, the moved offsets and the mapped lines, or a refusal. Nothing is printed where the input cannot be read.
+ghost use Rattle.passes_reader.specs.View.{stateView, begun, Reading};
+use passes_reader::Reader;
+
+// What was read, and whether there may be more; or that a read failed.
+struct Turn {
+    reader: Reader,
+    more: bool,
+    failed: bool,
+}
+
+// One read.
+fn read_some(
+    reader: Reader,
+    sheet: &mut [u8],
+    rules: &mut [u8],
+    code: &mut [u8],
+    offsets: &mut [u16],
+    entries: &mut [u16],
+) -> Turn
+    ensures { λ r. ⌜ Reading (stateView reader (now (sheet .entry)) (now (rules .entry)) (now (code .entry)) (now (offsets .entry)) (now (entries .entry))) (stateView (r .reader) (now (sheet .exit)) (now (rules .exit)) (now (code .exit)) (now (offsets .exit)) (now (entries .exit))) ⌝ }
+{
+    let mut bytes = io::large_buffer();
+    let got = libc::read(0, &mut bytes);
+    let n = io::count(got, &bytes);
+    let on = passes_reader::feed(reader, &bytes[..n], sheet, rules, code, offsets, entries);
+    Turn {
+        reader: on,
+        more: n > 0,
+        failed: got < 0,
+    }
+}
+
+// All of the input: a proved loop has to end, and nothing says that the input does, so the turns are counted down from a number that no run
+// uses up.
+fn read_all(
+    sheet: &mut [u8],
+    rules: &mut [u8],
+    code: &mut [u8],
+    offsets: &mut [u16],
+    entries: &mut [u16],
+) -> Turn
+    ensures { λ r. ⌜ Reading (begun (now (sheet .entry)) (now (rules .entry)) (now (code .entry)) (now (offsets .entry)) (now (entries .entry))) (stateView (r .reader) (now (sheet .exit)) (now (rules .exit)) (now (code .exit)) (now (offsets .exit)) (now (entries .exit))) ⌝ }
+{
+    let start = passes_reader::start();
+    let mut turn = Turn {
+        reader: start,
+        more: true,
+        failed: false,
+    };
+    let mut turns = u64::MAX;
+    while turns > 0 {
+        if !turn.more {
+            return turn;
+        }
+        turn = read_some(turn.reader, sheet, rules, code, offsets, entries);
+        turns -= 1;
+    }
+    turn
+}
+
+fn print(
+    reader: Reader,
+    sheet: &[u8],
+    rules: &[u8],
+    code: &[u8],
+    offsets: &[u16],
+    entries: &[u16],
+) {
+    let mut out = [0u8; 311329];
+    let n = passes_answer::finish(reader, sheet, rules, code, offsets, entries, &mut out);
+    io::write_all(1, &out[..n]);
+}
+
+fn main() {
+    let mut sheet = [0u8; 238];
+    let mut rules = [0u8; 15232];
+    let mut code = [0u8; 16385];
+    let mut offsets = [0u16; 4097];
+    let mut entries = [0u16; 12291];
+    let turn = read_all(
+        &mut sheet,
+        &mut rules,
+        &mut code,
+        &mut offsets,
+        &mut entries,
+    );
+    if turn.failed {
+        io::write_all(
+            2,
+            &[
+                b'r',
+                b'e',
+                b'a',
+                b'd',
+                b' ',
+                b'f',
+                b'a',
+                b'i',
+                b'l',
+                b'e',
+                b'd',
+                b'\n',
+            ],
+        );
+    } else {
+        print(turn.reader, &sheet, &rules, &code, &offsets, &entries);
+    }
+}
