@@ -33,7 +33,7 @@ start-of : (room : ℕ) (xs : List ℕ) → take (length xs) (filled room xs) �
 unfolding filled
 start-of room xs = take-append-seam xs (zeros (room - length xs))
 
-numbers-long : (ls : List LineEntry) → length (entryNumbers ls) ≡ length ls * entrySize
+pub numbers-long : (ls : List LineEntry) → length (entryNumbers ls) ≡ length ls * entrySize
 unfolding entryNumbers
 numbers-long [] = refl
 numbers-long (l ∷ ls) = omega (arith, numbers-long ls)
@@ -58,7 +58,7 @@ refused e sheet n p h =
 
 -- ---- by the ending
 
-into-files : (place : ℕ) (sheet rules : List ℕ) (g : Given) → rewriteInto place fullRoom sheet rules g ≡ rewriteFiles place sheet rules g
+pub into-files : (place : ℕ) (sheet rules : List ℕ) (g : Given) → rewriteInto place fullRoom sheet rules g ≡ rewriteFiles place sheet rules g
 unfolding rewriteInto roomy demand _>>_
 into-files place sheet rules g = refl
 

@@ -1,4 +1,5 @@
 pub mod Refusing
 pub mod Conclusion
 pub mod Handing
+pub mod Short
 pub mod Ending

@@ -1,22 +1,21 @@
 -- How the machine's end is answered: what is handed to rewriting called alone, and the text made of its answer.
-use Prim.Native.Nat.{ℕ, _*_, min}
+use Prim.Native.Nat.{ℕ, _*_, _≤_, _<_, min}
 use mathlib.Core.Path.{_≡_}
 use mathlib.Core.Bool.{Bool, true, false}
 use mathlib.Core.List.{List, [], _∷_, _++_}
 use mathlib.Core.Option.{Option, some, none}
 use lib.Dec.{eqb}
-use lib.ListN.{take}
+use lib.ListN.{length, take, getD}
 use Rattle.definition.specs.Limits.{maxCode, maxProtected, maxLines, entrySize, badRule}
 use Rattle.definition.specs.Opcode.{Sheet}
 use Rattle.definition.specs.Lent.{entriesOf}
 use Rattle.definition.specs.Compile.{Free}
 use Rattle.definition.specs.Alone.{Given, Room, Answer}
-use Rattle.definition.specs.Listing.{numberLine, entryLines, instructionLines}
-use Rattle.definition.specs.Passes.{malformedLine, offsetLines, refusalLine, text}
-use Rattle.definition.specs.Rewrite.{decode}
+use Rattle.definition.specs.Listing.{cutLine, numberLine, entryLines}
+use Rattle.definition.specs.Passes.{malformedLine, offsetLines, refusalLine, passed, text}
 use Rattle.store.specs.Store.{Store, at, contents, pushAll}
 use Rattle.passes_machine.specs.Machine.{State, Stores, Ending, whole, cut, countless, givenIn, concluded}
-use Rattle.text.specs.Text.{instructionsBy}
+use Rattle.text.specs.Text.{instructionsBy, textRoom}
 
 -- ---- what is handed over: only what the ending leaves to be read
 
@@ -57,10 +56,25 @@ answerText e sheet a = elim (eqb (a .number) 0) [ true ↦ endingText e sheet a 
 
 -- ---- what is printed at the machine's end
 
+-- the text, put from the output's start as far as there is room; textRoom is room for any
 pub record Finishes (s : State) (before : List ℕ) (after : Store) : Type 0 where
   pub place : ℕ
   pub free : Free (contents (s .stores .sheet)) place
   pub is : after ≡ pushAll (at before 0) (text (concluded place s))
+  pub short : length (text (concluded place s)) ≤ textRoom
+
+-- what is printed for a whole input: all of it is fixed but 7's place, which is one at fault
+pub record Printed (input before : List ℕ) (after : Store) : Type 0 where
+  pub place : ℕ
+  pub free : Free (cutLine input .0) place
+  pub is : after ≡ pushAll (at before 0) (text (passed place input))
+  pub short : length (text (passed place input)) ≤ textRoom
+
+-- what the types of the outputs say of their elements
+pub record Known (bytes moved lines : List ℕ) : Type 0 where
+  pub code : (i : ℕ) → getD bytes i 0 < 256
+  pub protected : (i : ℕ) → getD moved i 0 < 65536
+  pub numbers : (i : ℕ) → getD lines i 0 < 65536
 
 -- ---- what this crate's functions hand over
 

@@ -8,7 +8,7 @@ ghost use Rattle.store.specs.Store.{at, contents, pushAll};
 ghost use Rattle.passes_machine.specs.Machine.{ending};
 ghost use Rattle.passes_reader.specs.View.{headView, endingView, storesView, stateView};
 ghost use Rattle.optimize.specs.View.{answerView, room};
-ghost use Rattle.passes_answer.specs.View.{handedRules, handed, handedCount, isWhole, isCounted, wholeText, answerText, Finishes};
+ghost use Rattle.passes_answer.specs.View.{handedRules, handed, handedCount, isWhole, isCounted, wholeText, answerText, Known, Finishes};
 use optimize::Answer;
 use passes_reader::Ending;
 use passes_reader::Reader;
@@ -132,6 +132,22 @@ fn put_answer(
     }
 }
 
+// The same, with what the types of the outputs say of their elements: the text is then short.
+fn put_short(
+    end: Ending,
+    a: Answer,
+    sheet: &[u8],
+    bytes: &[u8],
+    moved: &[u16],
+    lines: &[u16],
+    out: &mut [u8],
+) -> usize
+    ensures { λ r. ⌜ at (now (out .exit)) r ≡ pushAll (at (now (out .entry)) 0) (answerText (endingView end) (readSheet (now (sheet .entry))) (answerView a (now (bytes .entry)) (now (moved .entry)) (now (lines .entry)))) ⌝ }
+    ensures { λ r. ⌜ Known (now (bytes .entry)) (now (moved .entry)) (now (lines .entry)) ⌝ }
+{
+    put_answer(end, a, sheet, bytes, moved, lines, out)
+}
+
 // The text for what a reader has read.
 pub fn finish(
     reader: Reader,
@@ -160,5 +176,5 @@ pub fn finish(
     );
     let end = passes_reader::ending_of(reader.head);
     let used = handed_count(true, reader.used.sheet, sheet.len());
-    put_answer(end, a, &sheet[..used], &bytes, &moved, &lines, out)
+    put_short(end, a, &sheet[..used], &bytes, &moved, &lines, out)
 }

@@ -1,0 +1,68 @@
+-- The text is never longer than textRoom.
+use mathlib.Core.Path.{_≡_, refl, ap, sym, subst, _∙_}
+use mathlib.Core.Bool.{Bool, true, false}
+use mathlib.Core.List.{List, [], _∷_, _++_}
+use mathlib.Core.Option.{Option, some, none}
+use Prim.Native.Nat.{ℕ, zero, suc, _+_, _*_, _-_, _≤_, _<_}
+use native.Mathlib.Omega.{arith}
+use borrow.Author.Tests.{ltb-true, ltb-false}
+use lib.Dec.{ltb}
+use lib.ListN.{length, getD, length-append, List·getD-append, List·getD-eq-default}
+use Rattle.definition.specs.Limits.{maxCode, maxProtected, maxLines, entrySize, badSheet, badRule}
+use Rattle.definition.specs.Res.{Res, ok, refuse, _>>=_, given}
+use Rattle.definition.specs.Opcode.{Sheet}
+use Rattle.definition.specs.Sheet.{readSheet}
+use Rattle.definition.specs.Emit.{LineEntry}
+use Rattle.definition.specs.Rules.{Rule, readRules}
+use Rattle.definition.specs.Lent.{zeros, filled, entryNumbers}
+use Rattle.definition.specs.Alone.{Rewritten, Answer, answer, rewriteFiles, rewriteInto}
+use Rattle.definition.specs.Passes.{malformedLine, text}
+use Rattle.rewrite.proofs.Copy.{length-zeros}
+use Rattle.store.specs.Store.{contents}
+use Rattle.text.specs.Text.{textRoom}
+use Rattle.text.proofs.Room.{Small, text-fits, refusal-fits}
+use Rattle.passes_machine.specs.Machine.{Stores, Ending, whole, cut, countless, givenIn, concludedAs}
+use Rattle.passes_answer.specs.View.{handedRules, handed, fullRoom, Known}
+use Rattle.passes_answer.proofs.Conclusion.{into-files, numbers-long}
+
+-- ---- what an output holds at its start is as small as the output
+
+length-filled : (room : ℕ) (xs : List ℕ) → length (filled room xs) ≡ room → length xs ≤ room
+unfolding filled
+length-filled room xs e =
+    let l = length-append xs (zeros (room - length xs)) in
+    omega (arith, e, l)
+
+small-start : (room m : ℕ) (xs : List ℕ) → 0 < m → ((i : ℕ) → getD (filled room xs) i 0 < m) → (i : ℕ) → getD xs i 0 < m
+unfolding filled
+small-start room m xs h k i = go (ltb i (length xs)) refl
+  where
+    go : (b : Bool) → ltb i (length xs) ≡ b → getD xs i 0 < m
+    go true e = rw (← List·getD-append xs (zeros (room - length xs)) 0 i (ltb-true _ _ e)) (k i)
+    go false e = rw (List·getD-eq-default xs 0 (ltb-false _ _ e)) h
+
+pub record Sized (a : Answer) : Type 0 where
+  pub code : length (a .code) ≡ maxCode
+  pub protected : length (a .protected) ≡ maxProtected
+  pub lines : length (a .lines) ≡ maxLines * entrySize
+
+small : (r : Rewritten) (a : Answer) → a ≡ answer fullRoom (ok r) → Sized a → Known (a .code) (a .protected) (a .lines) → Small r
+unfolding answer
+small r a e z k =
+    let lines : length (entryNumbers (r .lineMap)) ≤ maxLines * entrySize = length-filled (maxLines * entrySize) (entryNumbers (r .lineMap)) (rw (← ap (λ (x : Answer). x .lines) e) (z .lines)) in
+    record {
+      code = length-filled maxCode (r .code) (rw (← ap (λ (x : Answer). x .code) e) (z .code));
+      protected = length-filled maxProtected (r .protected) (rw (← ap (λ (x : Answer). x .protected) e) (z .protected));
+      lines = omega (arith, lines, numbers-long (r .lineMap));
+      bytes = small-start maxCode 256 (r .code) (omega arith) (rw (← ap (λ (x : Answer). x .code) e) (k .code));
+      offsets = small-start maxProtected 65536 (r .protected) (omega arith) (rw (← ap (λ (x : Answer). x .protected) e) (k .protected));
+      entries = small-start (maxLines * entrySize) 65536 (entryNumbers (r .lineMap)) (omega arith) (rw (← ap (λ (x : Answer). x .lines) e) (k .numbers));
+    }
+
+-- ---- what is concluded
+
+-- a result comes from a result
+result-of : {A B : Type 0} (m : Res A) (f : A → Res B) (b : B) → (m >>= f) ≡ ok b → (a : A) × (m ≡ ok a) × (f a ≡ ok b)
+unfolding _>>=_
+result-of (ok a) f b e = (a, refl, e)
+result-of (refuse n p) f b e = absurd (no-result e)
