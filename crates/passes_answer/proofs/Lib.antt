@@ -3,3 +3,4 @@ pub mod Conclusion
 pub mod Handing
 pub mod Short
 pub mod Ending
+pub mod Printing

@@ -61,8 +61,50 @@ small r a e z k =
 
 -- ---- what is concluded
 
+abbrev IsResult : {A : Type 0} → Res A → Type 0
+IsResult (ok a) = Unit {0}
+IsResult (refuse n p) = ⊥
+
+no-result : {A : Type 0} (n p : ℕ) (a : A) → refuse n p ≡ ok a → ⊥
+no-result n p a e = subst IsResult (sym e) tt
+
 -- a result comes from a result
-result-of : {A B : Type 0} (m : Res A) (f : A → Res B) (b : B) → (m >>= f) ≡ ok b → (a : A) × (m ≡ ok a) × (f a ≡ ok b)
+pub record From {A B : Type 0} (m : Res A) (f : A → Res B) (b : B) : Type 0 where
+  pub first : A
+  pub is : m ≡ ok first
+  pub then : f first ≡ ok b
+
+result-of : {A B : Type 0} (m : Res A) (f : A → Res B) (b : B) → (m >>= f) ≡ ok b → From m f b
 unfolding _>>=_
-result-of (ok a) f b e = (a, refl, e)
-result-of (refuse n p) f b e = absurd (no-result e)
+result-of (ok a) f b e = record { first = a; is = refl; then = e }
+result-of (refuse n p) f b e = absurd (no-result n p b e)
+
+abbrev rewrittenOr : Rewritten → Res (Sheet × Rewritten) → Rewritten
+rewrittenOr r (ok x) = x .1
+rewrittenOr r (refuse n p) = r
+
+-- only a whole input has a result, and it is the call's
+whole-result : (e : Ending) (place : ℕ) (s : Stores) (x : Sheet × Rewritten) → concludedAs e place s ≡ ok x
+    → rewriteFiles place (contents (s .sheet)) (handedRules e s) (handed e s) ≡ ok (x .1)
+unfolding concludedAs handedRules handed
+whole-result whole place s x h =
+    let a = result-of (given (readSheet (contents (s .sheet))) badSheet place) _ x h in
+    let b = result-of (rewriteFiles place (contents (s .sheet)) (contents (s .rules)) (givenIn s)) _ x (a .then) in
+    b .is ∙ ap (λ (r : Rewritten). ok r) (ap (rewrittenOr (b .first)) (b .then))
+whole-result (cut n) place s x h =
+    let a = result-of (given (readSheet (contents (s .sheet))) badSheet place) _ x h in
+    let b = result-of (readRules (contents (s .rules))) _ x (a .then) in
+    absurd (no-result malformedLine n x (b .then))
+whole-result countless place s x h =
+    let a = result-of (given (readSheet (contents (s .sheet))) badSheet place) _ x h in
+    absurd (no-result badRule 0 x (a .then))
+
+pub text-short : (e : Ending) (place : ℕ) (s : Stores) (a : Answer) → a ≡ answer fullRoom (rewriteInto place fullRoom (contents (s .sheet)) (handedRules e s) (handed e s))
+    → Sized a → Known (a .code) (a .protected) (a .lines) → length (text (concludedAs e place s)) ≤ textRoom
+text-short e place s a c z k = go (concludedAs e place s) refl
+  where
+    go : (x : Res (Sheet × Rewritten)) → concludedAs e place s ≡ x → length (text x) ≤ textRoom
+    go (refuse n p) h = refusal-fits n p
+    go (ok x) h =
+        let r : a ≡ answer fullRoom (ok (x .1)) = c ∙ ap (answer fullRoom) (into-files place (contents (s .sheet)) (handedRules e s) (handed e s) ∙ whole-result e place s x h) in
+        text-fits (x .0) (x .1) (small (x .1) a r z k)

@@ -8,7 +8,7 @@ ghost use Rattle.store.specs.Store.{at, contents, pushAll};
 ghost use Rattle.passes_machine.specs.Machine.{ending};
 ghost use Rattle.passes_reader.specs.View.{headView, endingView, storesView, stateView};
 ghost use Rattle.optimize.specs.View.{answerView, room};
-ghost use Rattle.passes_answer.specs.View.{handedRules, handed, handedCount, isWhole, isCounted, wholeText, answerText, Known, Finishes};
+ghost use Rattle.passes_answer.specs.View.{handedRules, handed, handedCount, isWhole, isCounted, wholeText, answerText, Known, Finishes, Printed};
 use optimize::Answer;
 use passes_reader::Ending;
 use passes_reader::Reader;
@@ -177,4 +177,26 @@ pub fn finish(
     let end = passes_reader::ending_of(reader.head);
     let used = handed_count(true, reader.used.sheet, sheet.len());
     put_short(end, a, &sheet[..used], &bytes, &moved, &lines, out)
+}
+
+// The text for an input that is at hand as a whole.
+pub fn answer(input: &[u8], out: &mut [u8]) -> usize
+    ensures { λ r. ⌜ Printed (now (input .entry)) (now (out .entry)) (at (now (out .exit)) r) ⌝ }
+{
+    let mut sheet = [0u8; 238];
+    let mut rules = [0u8; 15232];
+    let mut code = [0u8; 16385];
+    let mut offsets = [0u16; 4097];
+    let mut entries = [0u16; 12291];
+    let start = passes_reader::start();
+    let reader = passes_reader::feed(
+        start,
+        input,
+        &mut sheet,
+        &mut rules,
+        &mut code,
+        &mut offsets,
+        &mut entries,
+    );
+    finish(reader, &sheet, &rules, &code, &offsets, &entries, out)
 }
