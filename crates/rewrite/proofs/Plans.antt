@@ -17,8 +17,9 @@ use Rattle.definition.specs.Lent.{zeros}
 use Rattle.rules.specs.declared.Action.{Action}
 use Rattle.rules.specs.declared.Found.{Found}
 use Rattle.rules.specs.declared.Found.the-variants.{At, Nothing}
-use Rattle.rules.specs.View.{actionView, rulesIn, IsRules, ruleAt, pairAt}
-use Rattle.rules.proofs.Lookup.{first-action, second-action}
+use Rattle.rules.specs.View.{actionView, rulesIn, IsRules, ruleAt, actionsIn, pairAt}
+use Rattle.rules.proofs.Lookup.{actions-there, first-action, second-action}
+use Rattle.rewrite.proofs.Looking.{looked-inside}
 use Rattle.rewrite.specs.declared.Next.{Next}
 use Rattle.rewrite.specs.declared.Next.the-variants.{Ask, Do}
 use Rattle.rewrite.specs.declared.Plan.{Plan}
@@ -90,10 +91,11 @@ module _ (s : Sheet) (table : List ℕ) (count pass : ℕ) (marks code : List �
             let m : matcher table count pass (instruction s a) (instruction s b) ≡ none = sym (l .is) ∙ rw e in
             rw asked (kept k (plan-unmatched s _ _ code at a here b after (omega arith) (omega arith) (neither marks at (at + length a) free free-next) m))
 
-        pub decided-matched : (i : ℕ) (pair : List Action) (d : Action) → f ≡ At i → IsRules table count → map actionView pair ≡ ruleAt table i .one ∷ ruleAt table i .two ∷ []
+        pub decided-matched : (i : ℕ) (pair : List Action) (d : Action) → f ≡ At i → IsRules table count → map actionView pair ≡ actionsIn table i
             → Planned s (matcher table count pass) (marked marks) code at (nextView next) (length a) (actionView (getD pair 0 d)) (some (actionView (getD pair 1 d)))
         unfolding pairAt
-        decided-matched i pair d e held two =
+        decided-matched i pair d e held acts =
+            let two = acts ∙ actions-there held (looked-inside l e) in
             let m : matcher table count pass (instruction s a) (instruction s b) ≡ some (ruleAt table i .one, ruleAt table i .two) = sym (l .is) ∙ rw e in
             let fit = found-fits s table count pass a b _ _ held (listed s code at a here (omega arith)) (listed s code (at + length a) b after (omega arith)) m in
             rw (asked, first-action d pair two, second-action d pair two) (plan-matched s _ _ code at a here b after (omega arith) (omega arith) _ _ (neither marks at (at + length a) free free-next) m (fit .0) (fit .1))
