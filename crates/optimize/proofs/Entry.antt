@@ -19,7 +19,7 @@ use Rattle.definition.specs.Alone.{Given, Room, roomy, rewriteFiles, rewriteInt
 use Rattle.opcode.specs.declared.sheet.SheetRead.{SheetRead}
 use Rattle.opcode.specs.declared.sheet.SheetRead.the-variants.{Accepted, Refused}
 use Rattle.opcode.specs.Table.{IsTable, sheetIn}
-use Rattle.opcode.specs.Reading.{answerOf, Answers, Accepts, Refuses}
+use Rattle.opcode.specs.Reading.{answerOf, Reads, Accepts, Refuses}
 use Rattle.opcode.proofs.Faults.{some-fault}
 use Rattle.rules.specs.declared.RuleAnswer.{RuleAnswer}
 use Rattle.rules.specs.declared.RuleAnswer.the-variants as answers
@@ -37,14 +37,14 @@ pub record Read (text table : List ℕ) (count : ℕ) : Type 0 where
   pub held : IsRules table count
   pub same : rulesIn table count ≡ rs
 
-read-from : (text table : List ℕ) (count : ℕ) (x : Res (List Rule)) → readRules text ≡ x → answers.Rules count ≡ rules.answerOf x → table ≡ tableFor x → Read text table count
-unfolding rules.answerOf tableFor
+read-from : (text table : List ℕ) (count : ℕ) (x : Res (List Rule)) → readRules text ≡ x → answers.Rules count ≡ rules.answerOf x → table ≡ tableFor rules.tableSize x → Read text table count
+unfolding rules.answerOf tableFor tableOf
 read-from text table count (ok rs) e q h =
     let n : count ≡ length rs = cc in
     record { rs = rs; is = e; held = rw (h, n) (read-table text e); same = rw (h, n) (rules-back rs) }
 read-from text table count (refuse m p) e q h = absurd (let z : _≡_ {A = ℕ} 0 1 = cc in omega arith)
 
-pub rules-read : {text table : List ℕ} {r : RuleAnswer} {count : ℕ} → Answered (readRules text) r table → r ≡ answers.Rules count → Read text table count
+pub rules-read : {text table : List ℕ} {r : RuleAnswer} {count : ℕ} → Answered rules.tableSize (readRules text) r table → r ≡ answers.Rules count → Read text table count
 rules-read {text} {table} {count = count} a e = read-from text table count (readRules text) refl (sym e ∙ a .is) (a .holds)
 
 rules-bad : (x : Res (List Rule)) (m p : ℕ) → answers.Refused m p ≡ rules.answerOf x → x ≡ refuse m p
@@ -55,7 +55,7 @@ rules-bad (refuse n q) m p e =
     let eq : q ≡ p = cc in
     rw (en, eq)
 
-module _ (s : Sheet) (text : List ℕ) (g : Given) (r : Room) {a : alone.Answer} {table : List ℕ} {f : RuleAnswer} (h : Answered (readRules text) f table) where
+module _ (s : Sheet) (text : List ℕ) (g : Given) (r : Room) {a : alone.Answer} {table : List ℕ} {f : RuleAnswer} (h : Answered rules.tableSize (readRules text) f table) where
   pub refused-9 : {m p : ℕ} → f ≡ answers.Refused m p → a ≡ answer r (refuse m p) → a ≡ answer r (afterSheet s text g)
   unfolding afterSheet _>>=_
   refused-9 {m} {p} e is = is ∙ rw (rules-bad (readRules text) m p (sym e ∙ h .is))
@@ -102,12 +102,12 @@ module _ (sheet rules : List ℕ) (g : Given) (r : Room) {a : alone.Answer} wher
   short-lines c p h is = short (rw (le-leb _ _ c, le-leb _ _ p, lt-leb _ _ h)) is
 
   -- ---- 7, and the rest
-  module _ (table : List ℕ) (f : SheetRead) (room : Roomy r) (h : Answers sheet table (answerOf f)) where
-    pub refused-7 : {p : ℕ} → f ≡ Refused p → a ≡ answer r (refuse 7 p) → Rewrites r sheet rules g a
+  module _ (table : List ℕ) (f : SheetRead) (room : Roomy r) (h : Reads sheet table (answerOf f)) where
+    pub refused-7 : {n p : ℕ} → f ≡ Refused n p → a ≡ answer r (refuse n p) → Rewrites r sheet rules g a
     unfolding _>>_ _>>=_ demand given Free
-    refused-7 {p} e is =
-        let d : Refuses sheet table badSheet p = rw e at h in
-        record { place = p; free = λ _. d .fault; is = is ∙ rw (order sheet rules g r p, roomy-is r room, d .is) }
+    refused-7 {n} {p} e is =
+        let d : Refuses sheet table n p = rw e at h in
+        record { place = p; free = λ _. d .fault; is = is ∙ rw (order sheet rules g r p, roomy-is r room, d .is, d .number) }
 
     pub after-sheet : f ≡ Accepted → a ≡ answer r (afterSheet (sheetIn table) rules g) → Rewrites r sheet rules g a
     unfolding _>>_ _>>=_ demand given Free
@@ -116,5 +116,5 @@ module _ (sheet rules : List ℕ) (g : Given) (r : Room) {a : alone.Answer} wher
         let good = d .is in
         record { place = 0; free = λ q. absurd (let z : _≡_ {A = ℕ} 0 1 = cc in omega arith); is = is ∙ rw (order sheet rules g r 0, roomy-is r room, d .is) }
 
-pub sheet-ready : (sheet table : List ℕ) (f : SheetRead) → Answers sheet table (answerOf f) → f ≡ Accepted → IsTable table
+pub sheet-ready : (sheet table : List ℕ) (f : SheetRead) → Reads sheet table (answerOf f) → f ≡ Accepted → IsTable table
 sheet-ready sheet table f h e = let d : Accepts sheet table = rw e at h in d .ready

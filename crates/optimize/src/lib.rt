@@ -486,7 +486,7 @@ fn rewrite_ruled(
     requires { ⌜ Roomy (room (now bytes) (now offsets) (now entries)) ⌝ }
     ensures { λ r. ⌜ answerView r (now (bytes .exit)) (now (offsets .exit)) (now (entries .exit)) ≡ answer (room (now (bytes .entry)) (now (offsets .entry)) (now (entries .entry))) (afterSheet (sheetIn (now (sheet .entry))) (now (rules .entry)) (given (now (code .entry)) (now (protected .entry)) (now (lines .entry)))) ⌝ }
 {
-    let mut table = [0u16; 576];
+    let mut table = [0u16; rules::TABLE_SIZE];
     match rules::read_rules(rules, &mut table) {
         RuleAnswer::Refused(number, place) => refuse(number, place, bytes, offsets, entries),
         RuleAnswer::Rules(count) => rewrite_limited(
@@ -525,9 +525,9 @@ pub fn rewrite_alone(
     if entries.len() < 12288 {
         return refuse(14, 0, bytes, offsets, entries);
     }
-    let mut table = [0u8; 289];
+    let mut table = [0u8; opcode::sheet::TABLE_SIZE];
     match opcode::sheet::read_sheet(sheet, &mut table) {
-        SheetRead::Refused(place) => refuse(7, place, bytes, offsets, entries),
+        SheetRead::Refused(number, place) => refuse(number, place, bytes, offsets, entries),
         SheetRead::Accepted => rewrite_ruled(
             &table,
             rules,
