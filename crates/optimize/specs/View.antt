@@ -19,7 +19,7 @@ use Rattle.opcode.specs.Table.{IsTable}
 use Rattle.rules.specs.View.{IsRules}
 use Rattle.definition.specs.Alone as def-alone
 use Rattle.definition.specs.Alone.{Given, Rewritten, Room, checked, rewritten}
-use Rattle.optimize.specs.declared.Answer.{Answer}
+use Rattle.optimize.specs.declared.alone.Answer.{Answer}
 use Rattle.rewrite.specs.View.{marked}
 use Rattle.optimize.specs.declared.LineEntry.{LineEntry}
 use Rattle.optimize.specs.declared.Kept.{Kept}
@@ -144,8 +144,11 @@ pub record Passed (s : Sheet) (g : Given) (table : List ℕ) (r : Offset) : Type
   pub bounds : Bounds s (g .code) table end
   pub small : r ≡ Fine → Small (g .protected)
 
+abbrev pub roomOf : ℕ → ℕ → ℕ → Room
+roomOf bytes offsets entries = record { code = bytes; protected = offsets; lines = entries }
+
 abbrev pub room : List ℕ → List ℕ → List ℕ → Room
-room bytes offsets entries = record { code = length bytes; protected = length offsets; lines = length entries }
+room bytes offsets entries = roomOf (length bytes) (length offsets) (length entries)
 
 -- the answer with what the outputs hold
 abbrev pub answerView : Answer → List ℕ → List ℕ → List ℕ → def-alone.Answer
@@ -177,6 +180,13 @@ pub record Within (g : Given) (r : Room) : Type 0 where
   pub code : length (g .code) ≤ r .code
   pub protected : length (g .protected) ≤ r .protected
   pub lines : 3 * (length (g .lines) / 3) ≤ r .lines
+
+-- the refusal of what is over its limit; 0 if nothing is
+unfoldable pub overLimit : ℕ → ℕ → ℕ → ℕ
+overLimit code protected entries = elim (leb code maxCode) [
+  | true ↦ elim (leb protected maxProtected) [ true ↦ elim (leb entries maxLines) [ true ↦ 0 | false ↦ linesFull ] | false ↦ labelsFull ]
+  | false ↦ codeFull
+]
 
 -- what is left of the call after 10, 11 and 12, and before them
 unfoldable pub afterLimits : Sheet → List Rule → Given → Res Rewritten

@@ -1,4 +1,4 @@
--- Made by `answers` from crates/optimize/answers/rewrite_checked.txt: edit that file, not this one.
+-- Made by `answers` from crates/optimize/answers/alone/rewrite_checked.txt: edit that file, not this one.
 use native.Mathlib.Omega.{arith}
 use mathlib.Core.Path.{refl}
 use Rattle.opcode.specs.Table.{sheetIn}
@@ -7,8 +7,8 @@ use Rattle.optimize.specs.View.{given}
 use Rattle.optimize.proofs.Tables.{clear-table}
 use Rattle.optimize.proofs.Whole.{refused-8, finished}
 use borrow.Author.Needs.{needs}
-use Rattle.optimize.proofs.rewrite_checked.Statement.{statement}
-use Rattle.optimize.proofs.rewrite_checked.Tie as tie
+use Rattle.optimize.proofs.alone.rewrite_checked.Statement.{statement}
+use Rattle.optimize.proofs.alone.rewrite_checked.Tie as tie
 
 pub rewrite-checked-spec : {M : Type 1} → statement M
 rewrite-checked-spec =

@@ -1,4 +1,4 @@
--- Made by `answers` from crates/optimize/answers/rewrite_ruled.txt: edit that file, not this one.
+-- Made by `answers` from crates/optimize/answers/alone/rewrite_ruled.txt: edit that file, not this one.
 use native.Mathlib.Omega.{arith}
 use Prim.Native.Nat.{ℕ}
 use lib.ListN.{length-replicate}
@@ -7,8 +7,8 @@ use Rattle.rules.proofs.File.{file-fit}
 use Rattle.optimize.specs.View.{given, room}
 use Rattle.optimize.proofs.Entry.{refused-9, after-rules, rules-read}
 use borrow.Author.Needs.{needs}
-use Rattle.optimize.proofs.rewrite_ruled.Statement.{statement}
-use Rattle.optimize.proofs.rewrite_ruled.Tie as tie
+use Rattle.optimize.proofs.alone.rewrite_ruled.Statement.{statement}
+use Rattle.optimize.proofs.alone.rewrite_ruled.Tie as tie
 
 pub rewrite-ruled-spec : {M : Type 1} → statement M
 rewrite-ruled-spec =
