@@ -9,6 +9,7 @@ use borrow.Author.Tests.{eqb-true, eqb-false}
 use lib.Dec.{eqb}
 use lib.ListN.{length, take, drop, getD, length-append}
 use lib.Seq.{take-at, drop-at, length-take-le}
+use Rattle.definition.specs.Limits.{maxCode}
 use Rattle.definition.specs.Field.{has}
 use Rattle.definition.specs.Opcode.{Sheet}
 use Rattle.definition.specs.Rules.{Action, keep, Rule, matches}
@@ -70,14 +71,14 @@ unfolding mapFrom mapThrough
 map-from m at [] = refl
 map-from m at (y ∷ ys) = ap (λ (r : OffsetMap). (at, movedTo m y) ∷ r) (map-from m (suc at) ys)
 
-small-map : (f : ℕ → ℕ) (xs : List ℕ) → ((x : ℕ) → f x ≤ 16384) → (i : ℕ) → getD (map f xs) i 0 ≤ 16384
+small-map : (f : ℕ → ℕ) (xs : List ℕ) → ((x : ℕ) → f x ≤ maxCode) → (i : ℕ) → getD (map f xs) i 0 ≤ maxCode
 small-map f [] h i = omega arith
 small-map f (x ∷ xs) h zero = h x
 small-map f (x ∷ xs) h (suc i) = small-map f xs h i
 
 -- ---- one pass
 
-pub ran : (s : Sheet) (rules : List ℕ) (count pass : ℕ) {protected marks code code′ moves protected′ total′ : List ℕ} {n : ℕ} (total : List ℕ) → length code ≤ 16384
+pub ran : (s : Sheet) (rules : List ℕ) (count pass : ℕ) {protected marks code code′ moves protected′ total′ : List ℕ} {n : ℕ} (total : List ℕ) → length code ≤ maxCode
     → Marks protected marks → Peephole (applyPeephole s (matcher rules count pass) (marked marks) code) code code′ moves n
     → protected′ ≡ map (movedTo (mapIn moves)) protected → total′ ≡ map (movedTo (mapIn moves)) total
     → Ran (run s (rulesIn rules count) pass (pipeline code protected total)) code code′ protected′ total′ n

@@ -20,7 +20,7 @@ use Rattle.rules.specs.View.{IsRules}
 use Rattle.definition.specs.Alone as def-alone
 use Rattle.definition.specs.Alone.{Given, Rewritten, Room, checked, rewritten}
 use Rattle.optimize.specs.declared.alone.Answer.{Answer}
-use Rattle.rewrite.specs.View.{marked}
+use Rattle.rewrite.specs.View.{offsetsWhere, marked, slotCount}
 use Rattle.optimize.specs.declared.LineEntry.{LineEntry}
 use Rattle.optimize.specs.declared.Kept.{Kept}
 use Rattle.optimize.specs.declared.Kept.the-variants.{None, At}
@@ -33,11 +33,11 @@ use Rattle.optimize.specs.declared.Offset.the-variants.{Fine, Bad}
 
 -- offsets that such a table has a place for
 pub record Small (list : List ℕ) : Type 0 where
-  pub at : (i : ℕ) → getD list i 0 ≤ 16384
+  pub at : (i : ℕ) → getD list i 0 ≤ maxCode
 
 -- a table that marks these offsets and no others
 pub record Marks (protected marks : List ℕ) : Type 0 where
-  pub slots : length marks ≡ 16385
+  pub slots : length marks ≡ slotCount
   pub is : (x : ℕ) → has (marked marks) x ≡ has protected x
 
 -- the map that a table is: each offset below its length with what stands there
@@ -49,18 +49,14 @@ unfoldable pub mapIn : List ℕ → OffsetMap
 mapIn table = mapFrom 0 table
 
 -- the offsets that a table leaves where they are
-unfoldable pub fixedFrom : ℕ → List ℕ → List ℕ
-fixedFrom at [] = []
-fixedFrom at (y ∷ ys) = elim (eqb y at) [ true ↦ at ∷ fixedFrom (suc at) ys | false ↦ fixedFrom (suc at) ys ]
-
 unfoldable pub fixedIn : List ℕ → List ℕ
-fixedIn table = fixedFrom 0 table
+fixedIn table = offsetsWhere (λ x y. eqb y x) 0 table
 
 -- the starts and the end of some code, each at its own place, and 0 elsewhere; the end is answered
 pub record Bounds (s : Sheet) (code table : List ℕ) (r : ℕ) : Type 0 where
   pub end : r ≡ endFrom 0 (decode s code)
   pub moved : (x : ℕ) → getD table x 0 ≡ movedTo (identity s code) x
-  pub slots : length table ≡ 16385
+  pub slots : length table ≡ slotCount
   pub within : r ≤ length code
 
 -- ---- the code between passes
@@ -76,7 +72,7 @@ passes s rules p = run s rules 3 (run s rules 2 (run s rules 1 p))
 pub record Runnable (sheet rules : List ℕ) (count : ℕ) (code protected : List ℕ) : Type 0 where
   pub table : IsTable sheet
   pub held : IsRules rules count
-  pub few : length code ≤ 16384
+  pub few : length code ≤ maxCode
   pub small : Small protected
 
 -- the slices hold what is left of the code and then 0, the protected offsets and the map so far; the code's length is answered
@@ -176,7 +172,7 @@ pub record Roomy (r : Room) : Type 0 where
 
 -- what is handed over is within the limits, and the outputs have room for it
 pub record Within (g : Given) (r : Room) : Type 0 where
-  pub few : length (g .code) ≤ 16384
+  pub few : length (g .code) ≤ maxCode
   pub code : length (g .code) ≤ r .code
   pub protected : length (g .protected) ≤ r .protected
   pub lines : 3 * (length (g .lines) / 3) ≤ r .lines

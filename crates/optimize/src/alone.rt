@@ -101,7 +101,7 @@ fn rewrite_checked(
     requires { ⌜ Within (given (now code) (now protected) (now lines)) (room (now bytes) (now offsets) (now entries)) ⌝ }
     ensures { λ r. ⌜ answerView r (now (bytes .exit)) (now (offsets .exit)) (now (entries .exit)) ≡ answer (room (now (bytes .entry)) (now (offsets .entry)) (now (entries .entry))) (afterLimits (sheetIn (now (sheet .entry))) (rulesIn (now (rules .entry)) count) (given (now (code .entry)) (now (protected .entry)) (now (lines .entry)))) ⌝ }
 {
-    let mut total = [0u16; 16385];
+    let mut total = [0u16; rewrite::SLOTS];
     match crate::check(sheet, code, protected, lines, &mut total) {
         Offset::Bad(x) => {
             let place = place_of(x);

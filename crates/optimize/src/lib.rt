@@ -4,6 +4,7 @@ ghost use mathlib.Core.List.{map, [], _∷_, _++_};
 ghost use mathlib.Core.Option.{none};
 ghost use Prim.Native.Nat.{ℕ, _+_, _-_, _*_, _/_, _≤_};
 ghost use lib.ListN.{length, take};
+ghost use Rattle.definition.specs.Limits.{maxCode};
 ghost use Rattle.definition.specs.Field.{has};
 ghost use Rattle.definition.specs.Rewrite.{movedTo};
 ghost use Rattle.definition.specs.Alone.{boundaries};
@@ -11,7 +12,7 @@ ghost use Rattle.definition.specs.Lent.{filled, entryNumbers, entriesOf, zeros}
 ghost use Rattle.definition.specs.Optimize.{run, remapLineMap};
 ghost use Rattle.opcode.specs.Table.{IsTable, sheetIn};
 ghost use Rattle.rules.specs.View.{rulesIn};
-ghost use Rattle.rewrite.specs.View.{Puts, Clear};
+ghost use Rattle.rewrite.specs.View.{slotCount, Puts, Clear};
 ghost use Rattle.optimize.specs.View.{Small, Marks, Bounds, Runnable, pipeline, passes, Ran, Rewrote, Passed, given, mapIn, fixedIn, Checks, offsetView, entryOffsets, entryView, keptView, remappedView, lastAfter, Remaps};
 
 pub mod alone; // alone.rt: the entry that is called alone
@@ -86,7 +87,7 @@ fn mark(protected: &[u16], marks: &mut [u8])
 // The starts of the instructions and their end, each listed at its own place of a table.
 fn list_boundaries(sheet: &[u8], code: &[u8], table: &mut [u16]) -> usize
     requires { ⌜ IsTable (now sheet) ⌝ }
-    requires { ⌜ length (now code) ≤ 16384 ⌝ }
+    requires { ⌜ length (now code) ≤ maxCode ⌝ }
     requires { ⌜ Clear (now table) ⌝ }
     ensures { λ r. ⌜ Bounds (sheetIn (now (sheet .entry))) (now (code .entry)) (now (table .exit)) r ⌝ }
 {
@@ -104,7 +105,7 @@ fn list_boundaries(sheet: &[u8], code: &[u8], table: &mut [u16]) -> usize
 
 // Whether a table of starts and the end leaves an offset where it is.
 fn is_boundary(table: &[u16], x: u16) -> bool
-    requires { ⌜ length (now table) ≡ 16385 ⌝ }
+    requires { ⌜ length (now table) ≡ slotCount ⌝ }
     ensures { λ r. ⌜ r ≡ has (fixedIn (now (table .entry))) x ⌝ }
 {
     moved_to(table, x) == x
@@ -112,7 +113,7 @@ fn is_boundary(table: &[u16], x: u16) -> bool
 
 // The first of the protected offsets that is no boundary.
 fn check_protected(table: &[u16], list: &[u16]) -> Offset
-    requires { ⌜ length (now table) ≡ 16385 ⌝ }
+    requires { ⌜ length (now table) ≡ slotCount ⌝ }
     ensures { λ r. ⌜ Checks (boundaries (fixedIn (now (table .entry))) (now (list .entry))) (now (list .entry)) r ⌝ }
 {
     let mut i = 0;
@@ -128,7 +129,7 @@ fn check_protected(table: &[u16], list: &[u16]) -> Offset
 
 // The first of the line entries' offsets that is no boundary.
 fn check_lines(table: &[u16], lines: &[u16]) -> Offset
-    requires { ⌜ length (now table) ≡ 16385 ⌝ }
+    requires { ⌜ length (now table) ≡ slotCount ⌝ }
     ensures { λ r. ⌜ offsetView r ≡ boundaries (fixedIn (now (table .entry))) (entryOffsets (now (lines .entry))) ⌝ }
 {
     let mut i = 0;
@@ -251,9 +252,9 @@ fn run(
     requires { ⌜ Runnable (now sheet) (now rules) count (now code) (now protected) ⌝ }
     ensures { λ r. ⌜ Ran (run (sheetIn (now (sheet .entry))) (rulesIn (now (rules .entry)) count) pass (pipeline (now (code .entry)) (now (protected .entry)) (now (total .entry)))) (now (code .entry)) (now (code .exit)) (now (protected .exit)) (now (total .exit)) r ⌝ }
 {
-    let mut marks = [0u8; 16385];
+    let mut marks = [0u8; rewrite::SLOTS];
     mark(protected, &mut marks);
-    let mut moves = [0u16; 16385];
+    let mut moves = [0u16; rewrite::SLOTS];
     let n = rewrite::apply_peephole(sheet, rules, count, pass, &marks, code, &mut moves);
     move_all(&moves, protected);
     move_all(&moves, total);
@@ -336,7 +337,7 @@ fn rewrite_into(
 // 8, in its order: code, then protected offsets, then line offsets. The table then lists the boundaries.
 fn check(sheet: &[u8], code: &[u8], protected: &[u16], lines: &[u16], table: &mut [u16]) -> Offset
     requires { ⌜ IsTable (now sheet) ⌝ }
-    requires { ⌜ length (now code) ≤ 16384 ⌝ }
+    requires { ⌜ length (now code) ≤ maxCode ⌝ }
     requires { ⌜ Clear (now table) ⌝ }
     ensures { λ r. ⌜ Passed (sheetIn (now (sheet .entry))) (given (now (code .entry)) (now (protected .entry)) (now (lines .entry))) (now (table .exit)) r ⌝ }
 {

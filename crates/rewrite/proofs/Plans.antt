@@ -8,6 +8,7 @@ use native.Mathlib.Omega.{arith}
 use borrow.Author.Tests.{eq-eqb, ne-eqb}
 use lib.Dec.{eqb}
 use lib.ListN.{length, take, drop, set, getD}
+use Rattle.definition.specs.Limits.{maxCode}
 use Rattle.definition.specs.Field.{has}
 use Rattle.definition.specs.Opcode.{Sheet}
 use Rattle.definition.specs.Rules as def
@@ -23,10 +24,10 @@ use Rattle.rewrite.proofs.Looking.{looked-inside}
 use Rattle.rewrite.specs.declared.Next.{Next}
 use Rattle.rewrite.specs.declared.Next.the-variants.{Ask, Do}
 use Rattle.rewrite.specs.declared.Plan.{Plan}
-use Rattle.rewrite.specs.View.{firstOf, marked, matcher, nextView, Looked, Kept, Ready, Fitting, FittingNext, Planned, Puts, Clear, Peephole, put}
+use Rattle.rewrite.specs.View.{isMark, firstOf, marked, matcher, nextView, Looked, Kept, Ready, Fitting, FittingNext, Planned, Puts, Clear, Peephole, put}
 use Rattle.rewrite.proofs.Decoding.{First, first, first-within, listed}
 use Rattle.rewrite.proofs.Fits.{found-fits}
-use Rattle.rewrite.proofs.Marked.{isMark, has-marked}
+use Rattle.rewrite.proofs.Marked.{has-marked}
 use Rattle.rewrite.proofs.Pass.{plan-none, plan-known, plan-last, plan-protected, plan-unmatched, plan-matched, Going, goes-on, ends}
 
 -- ---- a plan to keep
@@ -103,7 +104,7 @@ module _ (s : Sheet) (table : List ℕ) (count pass : ℕ) (marks code : List �
 -- ---- the loop
 
 module _ {s : Sheet} {matches : Matcher} {protected code₀ code code′ moves : List ℕ} {at to n z : ℕ} {next then : Option def.Action} {x : def.Action}
-    (g : Going s matches protected code₀ code moves at to next) (p : Planned s matches protected code at next z x then) (same : n ≡ to) (small : length code₀ ≤ 16384) where
+    (g : Going s matches protected code₀ code moves at to next) (p : Planned s matches protected code at next z x then) (same : n ≡ to) (small : length code₀ ≤ maxCode) where
   pub turns : {to′ : ℕ} → (z ≡ 0 → ⊥) → Puts (applied x (take z (drop at code))) code code′ to to′ → Going s matches protected code₀ code′ (set moves at n) (at + z) to′ then
   turns full q = rw (same, q .is, q .end) (goes-on s matches protected code₀ g p (omega arith) small)
 

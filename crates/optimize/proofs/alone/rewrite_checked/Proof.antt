@@ -15,7 +15,7 @@ rewrite-checked-spec =
     tie.close
     (tie.spec
     (λ c. search needs)  -- slice-aggregate-check
-    (λ c κs. (c .before .before .before .before .before .before .before .before .before .pre .0 .table, (c .before .before .before .before .before .before .before .before .before .pre .1 .few, clear-table 16385 refl)))  -- check-requires
+    (λ c κs. (c .before .before .before .before .before .before .before .before .before .pre .0 .table, (c .before .before .before .before .before .before .before .before .before .pre .1 .few, clear-table _ refl)))  -- check-requires
     (λ c. search needs)  -- enum-known-x
     (λ c κs. search needs)  -- place-of-requires
     (λ c κs. search needs)  -- refuse-requires
