@@ -1,8 +1,8 @@
 -- Lists of offsets checked one by one.
 use mathlib.Core.Path.{_≡_, refl, ap, sym, _∙_}
 use mathlib.Core.Bool.{Bool, true, false}
-use mathlib.Core.List.{List, [], _∷_, map}
-use Prim.Native.Nat.{ℕ, zero, suc, _+_, _≤_, _<_}
+use mathlib.Core.List.{List, [], _∷_}
+use Prim.Native.Nat.{ℕ, suc, _+_, _≤_, _<_}
 use native.Mathlib.Numerals.{add-one, add-two, add-three}
 use native.Mathlib.Omega.{arith}
 use lib.ListN.{length, getD, drop, drop-of-length-le, length-drop, List·getD-eq-default}
@@ -11,14 +11,13 @@ use borrow.Author.Tests.{leb-true, leb-false}
 use lib.Seq.{drop-cons}
 use Rattle.definition.specs.Limits.{maxCode}
 use Rattle.definition.specs.Limits.{badCode}
-use Rattle.definition.specs.Res.{Res, ok, refuse, _>>_, demand}
+use Rattle.definition.specs.Res.{ok, refuse, _>>_, demand}
 use Rattle.definition.specs.Field.{has}
 use Rattle.definition.specs.Emit as def
 use Rattle.definition.specs.Lent.{entriesOf}
 use Rattle.definition.specs.Alone.{boundaries}
-use Rattle.optimize.specs.declared.Offset.{Offset}
 use Rattle.optimize.specs.declared.Offset.the-variants.{Fine, Bad}
-use Rattle.optimize.specs.View.{Small, fixedIn, entryOffsets, offsetView, Checks}
+use Rattle.optimize.specs.View.{fixedIn, entryOffsets, Checks}
 use Rattle.optimize.proofs.Tables.{fixed-small}
 use Rattle.rewrite.specs.View.{slotCount}
 

@@ -1,5 +1,5 @@
 -- The entry that is called alone: 14, 7 and 9 before the rest.
-use mathlib.Core.Path.{_≡_, refl, ap, sym, _∙_}
+use mathlib.Core.Path.{_≡_, refl, sym, _∙_}
 use mathlib.Core.Bool.{Bool, true, false, _&&_}
 use mathlib.Core.Option.{Option, some, none}
 use mathlib.Core.List.{List}
@@ -11,7 +11,7 @@ use lib.ListN.{length}
 use Rattle.definition.specs.Limits.{maxCode, maxProtected, maxLines, entrySize, badSheet, outputShort}
 use Rattle.definition.specs.Res.{Res, ok, refuse, _>>=_, _>>_, demand, given}
 use Rattle.definition.specs.Opcode.{Sheet}
-use Rattle.definition.specs.Sheet.{readSheet, sheetFault}
+use Rattle.definition.specs.Sheet.{readSheet}
 use Rattle.definition.specs.Rules.{Rule, readRules}
 use Rattle.definition.specs.Compile.{Free}
 use Rattle.definition.specs.Alone as alone
@@ -27,7 +27,7 @@ use Rattle.rules.specs.View as rules
 use Rattle.rules.specs.View.{rulesIn, IsRules, tableOf, tableFor, Answered}
 use Rattle.rules.proofs.Table.{rules-back}
 use Rattle.rules.proofs.Pairs.{read-table}
-use Rattle.optimize.specs.View.{roomOf, Roomy, Tables, afterLimits, afterRules, afterSheet}
+use Rattle.optimize.specs.View.{roomOf, Roomy, afterLimits, afterRules, afterSheet}
 
 -- ---- 9
 

@@ -3,25 +3,23 @@ use mathlib.Core.Path.{_≡_, refl, ap, sym, _∙_}
 use mathlib.Core.Bool.{Bool, true, false, _||_}
 use mathlib.Core.Option.{Option, some, none}
 use mathlib.Core.List.{List, [], _∷_, _++_, map, append-assoc}
-use Prim.Native.Nat.{ℕ, zero, suc, _+_, _-_, _≤_, _<_}
+use Prim.Native.Nat.{ℕ, zero, suc, _+_, _-_, _≤_}
 use native.Mathlib.Omega.{arith}
-use borrow.Author.Tests.{eqb-true, eqb-false}
-use lib.Dec.{eqb}
 use lib.ListN.{length, take, drop, getD, length-append}
 use lib.Seq.{take-at, drop-at, length-take-le}
 use Rattle.definition.specs.Limits.{maxCode}
 use Rattle.definition.specs.Field.{has}
 use Rattle.definition.specs.Opcode.{Sheet}
-use Rattle.definition.specs.Rules.{Action, keep, Rule, matches}
+use Rattle.definition.specs.Rules.{Action, Rule}
 use Rattle.definition.specs.Emit as def
-use Rattle.definition.specs.Rewrite.{Bytes, Matcher, OffsetMap, decode, instruction, actions, movedTo, offsets, applyPeephole, boundariesFrom}
-use Rattle.definition.specs.Optimize.{Pipeline, mapThrough, run, identity, optimize, remapLineMap, isLast}
+use Rattle.definition.specs.Rewrite.{Bytes, Matcher, OffsetMap, decode, instruction, actions, movedTo, offsets, applyPeephole}
+use Rattle.definition.specs.Optimize.{Pipeline, mapThrough, run}
 use Rattle.definition.specs.Lent.{filled, zeros}
 use Rattle.rules.specs.View.{rulesIn}
 use Rattle.rewrite.specs.View.{marked, matcher, Peephole}
 use Rattle.rewrite.proofs.Copy.{length-zeros}
-use Rattle.rewrite.proofs.Pass.{acts-pair, paired, moved-here, moved-past}
-use Rattle.optimize.specs.View.{Small, Marks, mapFrom, mapIn, Runnable, Ran, pipeline}
+use Rattle.rewrite.proofs.Pass.{acts-pair, paired}
+use Rattle.optimize.specs.View.{Marks, mapFrom, mapIn, Runnable, Ran, pipeline}
 use Rattle.optimize.proofs.Tables.{moved-in}
 
 -- ---- a pass asks only which offsets are protected

@@ -1,18 +1,18 @@
 -- Tables by offset: as maps, as sets of marks and of fixed offsets; offsets marked and moved.
-use mathlib.Core.Path.{_≡_, refl, ap, sym, _∙_}
-use mathlib.Core.Bool.{Bool, true, false, not, _||_}
-use mathlib.Core.List.{List, [], _∷_, _++_, map, append-assoc, append-nil}
+use mathlib.Core.Path.{_≡_, refl, sym, _∙_}
+use mathlib.Core.Bool.{Bool, true, false, _||_}
+use mathlib.Core.List.{List, [], _∷_, _++_, map, append-nil}
 use Prim.Native.Nat.{ℕ, zero, suc, _+_, _≤_, _<_}
 use native.Mathlib.Nat.{add-zero}
 use native.Mathlib.Numerals.{add-one}
 use native.Mathlib.Omega.{arith}
-use borrow.Author.Tests.{eq-eqb, ne-eqb, eqb-true, eqb-false, leb-true, leb-false}
+use borrow.Author.Tests.{ne-eqb, eqb-true, eqb-false, leb-true, leb-false}
 use lib.ListN.{length, getD, set, take, drop, length-set, drop-of-length-le, replicate, length-replicate, List·getD-eq-default}
 use lib.Dec.{eqb, leb}
 use lib.Seq.{getD-set-same, getD-set-other, drop-cons, take-suc-set, drop-set-lt, take-all, append-snoc}
 use Rattle.definition.specs.Limits.{maxCode}
 use Rattle.definition.specs.Field.{has}
-use Rattle.definition.specs.Rewrite.{OffsetMap, movedTo}
+use Rattle.definition.specs.Rewrite.{movedTo}
 use Rattle.rewrite.specs.View.{isMark, slotCount, Clear}
 use Rattle.rewrite.proofs.Marked.{has-here, has-past, has-where, has-marked}
 use Rattle.rewrite.proofs.Pass.{moved-here, moved-past}

@@ -3,7 +3,7 @@ use mathlib.Core.Path.{_≡_, refl, ap, sym, _∙_}
 use mathlib.Core.Bool.{Bool, true, false, _||_}
 use mathlib.Core.Option.{Option, some, none}
 use mathlib.Core.List.{List, [], _∷_, _++_, map}
-use Prim.Native.Nat.{ℕ, zero, suc, _+_, _-_, _*_, _/_, _≤_, _<_}
+use Prim.Native.Nat.{ℕ, _+_, _-_, _/_, _≤_}
 use native.Mathlib.Omega.{arith}
 use borrow.Author.Tests.{eqb-true, eqb-false, leb-true}
 use lib.Dec.{eqb, leb}
@@ -11,17 +11,17 @@ use lib.ListN.{length, getD, take}
 use Rattle.definition.specs.Opcode.{Sheet}
 use Rattle.definition.specs.Rules.{Action, Rule, matches}
 use Rattle.definition.specs.Emit as def
-use Rattle.definition.specs.Rewrite.{Bytes, Matcher, OffsetMap, decode, offsets, movedTo, applyPeephole}
-use Rattle.definition.specs.Optimize.{Pipeline, mapThrough, run, identity, optimize, remapLineMap, isLast}
+use Rattle.definition.specs.Rewrite.{Bytes, Matcher, OffsetMap, offsets, movedTo, applyPeephole}
+use Rattle.definition.specs.Optimize.{mapThrough, run, identity, optimize, remapLineMap, isLast}
 use Rattle.rewrite.proofs.Pass.{moved-here, moved-past}
 use Rattle.definition.specs.Limits.{maxCode, maxProtected, maxLines, entrySize, badCode, codeFull, labelsFull, linesFull}
 use Rattle.definition.specs.Res.{Res, ok, refuse, _>>_, demand}
-use Rattle.definition.specs.Lent.{zeros, filled, entriesOf, entryNumbers}
+use Rattle.definition.specs.Lent.{zeros, entriesOf}
 use Rattle.definition.specs.Alone as def-alone
 use Rattle.definition.specs.Alone.{Given, Room, checked, rewritten, answer}
 use Rattle.optimize.specs.declared.Offset.{Offset}
 use Rattle.optimize.specs.declared.Offset.the-variants.{Fine, Bad}
-use Rattle.optimize.specs.View.{pipeline, passes, mapIn, Bounds, given, room, answerView, Passed, Rewrote, Remaps, Roomy, Within, overLimit, afterLimits, afterRules}
+use Rattle.optimize.specs.View.{pipeline, passes, mapIn, given, room, answerView, Passed, Rewrote, Remaps, Roomy, Within, overLimit, afterLimits, afterRules}
 use Rattle.optimize.proofs.Tables.{moved-in}
 use Rattle.optimize.proofs.Lines.{remap-test}
 use Rattle.optimize.proofs.Filling.{as-many}

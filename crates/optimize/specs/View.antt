@@ -1,7 +1,7 @@
 -- What this crate's functions give, said of the definition.
-use Prim.Native.Nat.{ℕ, _+_, _*_, _/_, _≤_, suc, zero}
+use Prim.Native.Nat.{ℕ, _*_, _/_, _≤_, suc}
 use mathlib.Core.Path.{_≡_}
-use mathlib.Core.Bool.{Bool, true, false}
+use mathlib.Core.Bool.{true, false}
 use mathlib.Core.List.{List, [], _∷_, map}
 use mathlib.Core.Option.{Option, some, none}
 use lib.Dec.{eqb, leb}
@@ -13,7 +13,7 @@ use Rattle.definition.specs.Emit as def
 use Rattle.definition.specs.Opcode.{Sheet}
 use Rattle.definition.specs.Rewrite.{OffsetMap, decode, endFrom, movedTo}
 use Rattle.definition.specs.Lent.{filled, entryNumbers, entriesOf}
-use Rattle.definition.specs.Optimize.{Pipeline, run, identity, remapLineMap}
+use Rattle.definition.specs.Optimize.{Pipeline, run, identity}
 use Rattle.definition.specs.Rules.{Rule, readRules}
 use Rattle.opcode.specs.Table.{IsTable}
 use Rattle.rules.specs.View.{IsRules}

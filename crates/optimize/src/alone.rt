@@ -1,6 +1,5 @@
 // Rewriting and line mapping called alone: refusals in their order (14, 7, 9, 10, 11, 12, 8), then the passes.
 ghost use mathlib.Core.Path.{_≡_};
-ghost use lib.ListN.{length};
 ghost use Rattle.definition.specs.Res.{refuse};
 ghost use Rattle.definition.specs.Alone.{roomy, answer, Rewrites};
 ghost use Rattle.opcode.specs.Table.{IsTable, sheetIn};

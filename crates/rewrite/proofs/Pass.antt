@@ -4,22 +4,21 @@ use mathlib.Core.Bool.{Bool, true, false, _||_}
 use mathlib.Core.Option.{Option, some, none}
 use mathlib.Core.List.{List, [], _∷_, _++_, append-assoc, append-nil}
 use Prim.Native.Nat.{ℕ, zero, suc, _+_, _-_, _≤_, _<_}
-use native.Mathlib.Numerals.{add-one}
 use native.Mathlib.Nat.{add-zero}
 use native.Mathlib.Omega.{arith}
-use borrow.Author.Tests.{le-ltb, lt-ltb, le-leb, lt-leb, eq-eqb, ne-eqb, leb-true, leb-false, eqb-true, eqb-false}
-use lib.ListN.{length, take, drop, set, getD, length-set, length-take, length-drop, length-append, drop-of-length-le, take-append-drop}
-use lib.Dec.{ltb, leb, eqb}
-use lib.Seq.{drop-cons, drop-drop, length-take-le, take-at, drop-at, getD-set-same, getD-set-other}
+use borrow.Author.Tests.{eq-eqb, ne-eqb, eqb-true, eqb-false}
+use lib.ListN.{length, take, drop, set, getD, length-set, length-drop, length-append}
+use lib.Dec.{eqb}
+use lib.Seq.{drop-drop, length-take-le, take-at, drop-at, getD-set-same, getD-set-other}
 use Rattle.definition.specs.Limits.{maxCode}
 use Rattle.definition.specs.Field.{has}
-use Rattle.definition.specs.Opcode.{Role, Sheet, roleOf, size}
-use Rattle.definition.specs.Rules.{Action, keep, remove, rewriteOperand, Instruction}
+use Rattle.definition.specs.Opcode.{Sheet}
+use Rattle.definition.specs.Rules.{Action, keep, remove, rewriteOperand}
 use Rattle.definition.specs.Emit.{le16}
 use Rattle.definition.specs.Rewrite.{Bytes, Matcher, OffsetMap, decode, instruction, actions, applied, output, offsets, movedTo, applyPeephole}
 use Rattle.definition.specs.Lent.{filled, zeros}
 use Rattle.rewrite.specs.View.{slotCount, firstOf, actionsAfter, Fitting, FittingNext, Planned, put, Peephole}
-use Rattle.rewrite.proofs.Decoding.{First, first, first-is, first-none, first-taken, first-within}
+use Rattle.rewrite.proofs.Decoding.{First, first, first-is, first-none}
 
 -- ---- bytes put over others
 

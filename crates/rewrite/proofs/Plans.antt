@@ -1,12 +1,11 @@
 -- What `decide` answers at each return, and what the loop makes of it.
-use mathlib.Core.Path.{_≡_, refl, ap, sym, _∙_}
-use mathlib.Core.Bool.{Bool, true, false, not, _||_}
+use mathlib.Core.Path.{_≡_, sym, _∙_}
+use mathlib.Core.Bool.{true, false, _||_}
 use mathlib.Core.Option.{Option, some, none}
-use mathlib.Core.List.{List, [], _∷_, _++_, map}
-use Prim.Native.Nat.{ℕ, zero, suc, _+_, _-_, _≤_, _<_}
+use mathlib.Core.List.{List, _++_, map}
+use Prim.Native.Nat.{ℕ, _+_, _-_, _≤_}
 use native.Mathlib.Omega.{arith}
 use borrow.Author.Tests.{eq-eqb, ne-eqb}
-use lib.Dec.{eqb}
 use lib.ListN.{length, take, drop, set, getD}
 use Rattle.definition.specs.Limits.{maxCode}
 use Rattle.definition.specs.Field.{has}
@@ -18,13 +17,13 @@ use Rattle.definition.specs.Lent.{zeros}
 use Rattle.rules.specs.declared.Action.{Action}
 use Rattle.rules.specs.declared.Found.{Found}
 use Rattle.rules.specs.declared.Found.the-variants.{At, Nothing}
-use Rattle.rules.specs.View.{actionView, rulesIn, IsRules, ruleAt, actionsIn, pairAt}
+use Rattle.rules.specs.View.{actionView, IsRules, ruleAt, actionsIn, pairAt}
 use Rattle.rules.proofs.Lookup.{actions-there, first-action, second-action}
 use Rattle.rewrite.proofs.Looking.{looked-inside}
 use Rattle.rewrite.specs.declared.Next.{Next}
 use Rattle.rewrite.specs.declared.Next.the-variants.{Ask, Do}
 use Rattle.rewrite.specs.declared.Plan.{Plan}
-use Rattle.rewrite.specs.View.{isMark, firstOf, marked, matcher, nextView, Looked, Kept, Ready, Fitting, FittingNext, Planned, Puts, Clear, Peephole, put}
+use Rattle.rewrite.specs.View.{isMark, firstOf, marked, matcher, nextView, Looked, Kept, Ready, FittingNext, Planned, Puts, Peephole}
 use Rattle.rewrite.proofs.Decoding.{First, first, first-within, listed}
 use Rattle.rewrite.proofs.Fits.{found-fits}
 use Rattle.rewrite.proofs.Marked.{has-marked}

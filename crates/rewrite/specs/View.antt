@@ -1,5 +1,5 @@
 -- What this crate's functions give, said of the definition: the first instruction of some bytes, and what is left of a pass at a place.
-use Prim.Native.Nat.{ℕ, _+_, _≤_, suc, zero}
+use Prim.Native.Nat.{ℕ, _+_, _≤_, suc}
 use mathlib.Core.Path.{_≡_}
 use mathlib.Core.Bool.{Bool, true, false, not}
 use mathlib.Core.List.{List, [], _∷_, _++_}
@@ -9,7 +9,7 @@ use lib.ListN.{length, getD, take, drop}
 use Rattle.definition.specs.Limits.{maxCode}
 use Rattle.definition.specs.Opcode.{Sheet}
 use Rattle.definition.specs.Rules.{Action, keep, remove, rewriteOperand, matches}
-use Rattle.definition.specs.Rewrite.{Bytes, Matcher, OffsetMap, decode, actions, applied, output, offsets, movedTo, applyPeephole}
+use Rattle.definition.specs.Rewrite.{Bytes, Matcher, OffsetMap, decode, actions, offsets, movedTo}
 use Rattle.definition.specs.Lent.{filled}
 use Rattle.opcode.specs.Table.{IsTable}
 use Rattle.rules.specs.View.{actionView, rulesIn, IsRules, Inside, pairAt}

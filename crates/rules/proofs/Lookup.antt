@@ -1,7 +1,7 @@
 -- The lookup, row by row.
 use mathlib.Core.Path.{_≡_, refl, ap, sym, _∙_}
 use mathlib.Core.Bool.{Bool, true, false, _&&_}
-use mathlib.Core.Option.{Option, some, none}
+use mathlib.Core.Option.{some, none}
 use mathlib.Core.List.{List, [], _∷_, map}
 use Prim.Native.Nat.{ℕ, zero, suc, _+_, _-_, _*_, _≤_, _<_, min}
 use native.Mathlib.Nat.{add-zero, min-eq-left}
@@ -11,9 +11,8 @@ use borrow.Author.Tests.{eq-eqb, ne-eqb, lt-ltb, le-ltb}
 use lib.Dec.{eqb}
 use lib.ListN.{getD, take, drop}
 use lib.Seq.{drop-drop, getD-take, getD-drop}
-use Rattle.definition.specs.Opcode.{number, roles}
 use Rattle.definition.specs.Rules as def
-use Rattle.definition.specs.Rules.{keep, ruleOf, roleNumbered, testNumbered, actionNumbered, hasRole, passes, fits, matches}
+use Rattle.definition.specs.Rules.{keep, ruleOf, roleNumbered, testNumbered, actionNumbered, passes, fits, matches}
 use Rattle.rules.specs.declared.Action.{Action}
 use Rattle.rules.specs.declared.Instruction.{Instruction}
 use Rattle.rules.specs.declared.Found.{Found}

@@ -5,13 +5,13 @@ use Prim.Native.Nat.{ℕ, zero, suc, _+_, _-_, _*_, _≤_, _<_}
 use native.Mathlib.Numerals.{add-one}
 use native.Mathlib.Omega.{arith}
 use borrow.Author.Fill.{fill-more}
-use lib.ListN.{length, getD, take, drop, set, replicate, length-append, length-set, length-drop}
-use lib.Seq.{take-at, drop-append-add, take-all, drop-length, drop-drop, getD-drop, paste, paste-zero, paste-suc, length-paste}
+use lib.ListN.{length, getD, take, drop, set, replicate, length-append, length-set}
+use lib.Seq.{take-at, drop-append-add, drop-length, drop-drop, getD-drop, paste, paste-zero, paste-suc}
 use Rattle.definition.specs.Limits.{maxRules}
 use Rattle.definition.specs.Lent.{zeros, filled}
-use Rattle.definition.specs.Opcode.{number, roles}
-use Rattle.definition.specs.Rules.{Rule, ruleOf}
-use Rattle.rules.specs.View.{rowSize, tableSize, rowOf, rowsOf, tableOf, rulesIn, ruleAt, Each, IsRules, RowAt}
+use Rattle.definition.specs.Opcode.{number}
+use Rattle.definition.specs.Rules.{Rule}
+use Rattle.rules.specs.View.{rowSize, tableSize, rowOf, rowsOf, tableOf, rulesIn, Each, IsRules, RowAt}
 use Rattle.rules.proofs.Rows.{rule-back, number-small}
 
 -- ---- clearing

@@ -1,6 +1,5 @@
 -- Made by `answers` from crates/optimize/answers/run.txt: edit that file, not this one.
-use mathlib.Core.Path.{refl, _∙_, sym}
-use native.Mathlib.Omega.{arith}
+use mathlib.Core.Path.{refl}
 use Rattle.optimize.proofs.Tables.{clear-table}
 use Rattle.optimize.proofs.Runs.{ran}
 use borrow.Author.Needs.{needs}

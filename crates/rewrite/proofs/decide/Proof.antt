@@ -1,9 +1,7 @@
 -- Made by `answers` from crates/rewrite/answers/decide.txt: edit that file, not this one.
 use native.Mathlib.Omega.{arith}
-use mathlib.Core.Path.{_∙_, sym}
-use lib.ListN.{length}
 use Rattle.opcode.specs.Table.{sheetIn}
-use Rattle.rewrite.proofs.Plans.{decided-none, decided-known, decided-within, decided-last, decided-within-next, decided-first, decided-second, decided-unmatched, decided-matched}
+use Rattle.rewrite.proofs.Plans.{decided-none, decided-known, decided-within, decided-last, decided-first, decided-second, decided-unmatched, decided-matched}
 use borrow.Author.Needs.{needs}
 use Rattle.rewrite.proofs.decide.Statement.{statement}
 use Rattle.rewrite.proofs.decide.Tie as tie

@@ -1,6 +1,5 @@
 -- Made by `answers` from crates/rules/answers/read_rules.txt: edit that file, not this one.
 use Prim.Native.Nat.{_-_}
-use mathlib.Core.Path.{sym, _∙_}
 use borrow.Author.Tests.{not-true, not-false}
 use lib.ListN.{length}
 use Rattle.rules.proofs.File.{FileRead, file-unfit, file-starts, file-unended, file-full, file-bad, file-next, file-done, file-refused}

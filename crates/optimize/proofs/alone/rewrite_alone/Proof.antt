@@ -1,5 +1,4 @@
 -- Made by `answers` from crates/optimize/answers/alone/rewrite_alone.txt: edit that file, not this one.
-use native.Mathlib.Omega.{arith}
 use mathlib.Core.Path.{_∙_, sym}
 use Prim.Native.Nat.{ℕ}
 use borrow.Author.Tests.{not-true, not-false}

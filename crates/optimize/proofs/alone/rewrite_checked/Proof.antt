@@ -1,5 +1,4 @@
 -- Made by `answers` from crates/optimize/answers/alone/rewrite_checked.txt: edit that file, not this one.
-use native.Mathlib.Omega.{arith}
 use mathlib.Core.Path.{refl}
 use Rattle.opcode.specs.Table.{sheetIn}
 use Rattle.rules.specs.View.{rulesIn}

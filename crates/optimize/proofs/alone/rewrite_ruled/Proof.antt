@@ -1,5 +1,4 @@
 -- Made by `answers` from crates/optimize/answers/alone/rewrite_ruled.txt: edit that file, not this one.
-use native.Mathlib.Omega.{arith}
 use Prim.Native.Nat.{ℕ}
 use lib.ListN.{length-replicate}
 use Rattle.opcode.specs.Table.{sheetIn}
