@@ -5,6 +5,8 @@ mod compare;
 mod generate;
 mod head;
 mod limits;
+#[cfg(feature = "ours")]
+mod ours;
 mod passes;
 mod programs;
 mod random;
@@ -175,8 +177,34 @@ fn bench(program: Program, runs: u64) -> Result<(), String> {
             let rewritten = oracle::alone::rewrite(&request);
             let optimize = time(runs, || drop(black_box(oracle::alone::rewrite(&request))));
             let remap = time(runs, || drop(black_box(oracle::alone::remap(&request, &rewritten))));
-            format!("optimize,{optimize}\nremap_line_map,{remap}\n")
+            format!("optimize,{optimize}\nremap_line_map,{remap}\n{}", ours(&text, runs, optimize)?)
         }
     };
     write(times.as_bytes())
+}
+
+/// Our rewriting called alone on the same input, once it has answered as the published code does: its time, and that of `optimize` for 100 of it.
+#[cfg(feature = "ours")]
+fn ours(text: &[u8], runs: u64, optimize: u128) -> Result<String, String> {
+    let mut call = ours::Call::of(&String::from_utf8_lossy(text));
+    let number = call.run();
+    let printed = answer(Program::Passes, text, true)?;
+    let mut bytes: Vec<u8> = printed.lines().filter(|line| line.starts_with('b')).flat_map(instruction).collect();
+    bytes.resize(call.bytes.len(), 0);
+    if number != 0 || bytes != call.bytes {
+        return Err("our rewriting differs: nothing was timed".to_string());
+    }
+    let alone = time(runs, || _ = black_box(call.run()));
+    Ok(format!("rewrite_alone,{alone}\npercent of optimize,{}\n", alone * 100 / optimize.max(1)))
+}
+
+/// The bytes of a printed instruction.
+#[cfg(feature = "ours")]
+fn instruction(line: &str) -> Vec<u8> {
+    line.split(',').skip(2).filter_map(|byte| byte.parse().ok()).collect()
+}
+
+#[cfg(not(feature = "ours"))]
+fn ours(_: &[u8], _: u64, _: u128) -> Result<String, String> {
+    Ok(String::new())
 }

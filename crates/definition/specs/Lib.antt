@@ -19,5 +19,6 @@ pub mod Compile
 pub mod Alone
 pub mod Runs
 pub mod Listing
+pub mod Passes
 pub mod Cases
 pub mod Refusals

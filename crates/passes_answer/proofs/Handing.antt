@@ -1,0 +1,130 @@
+-- What is handed over, and what is put for an answer.
+use mathlib.Core.Path.{_≡_, refl, ap, sym, _∙_}
+use mathlib.Core.Bool.{Bool, true, false}
+use mathlib.Core.List.{List, [], _∷_, _++_, append-assoc}
+use mathlib.Core.Option.{Option, some, none}
+use Prim.Native.Nat.{ℕ, zero, suc, _*_, _≤_, _<_, min}
+use native.Mathlib.Nat.{min-eq-left, min-eq-right, min-le-left, min-le-right}
+use native.Mathlib.Omega.{arith, min-cases}
+use borrow.Author.Tests.{eq-eqb, ne-eqb}
+use lib.Dec.{eqb}
+use lib.ListN.{length, take, length-take}
+use lib.Seq.{take-all, length-take-le}
+use Rattle.definition.specs.Limits.{entrySize}
+use Rattle.definition.specs.Opcode.{Sheet}
+use Rattle.definition.specs.Lent.{entriesOf}
+use Rattle.definition.specs.Alone.{Given, Room, Answer, Rewrites}
+use Rattle.definition.specs.Listing.{numberLine, entryLines}
+use Rattle.definition.specs.Passes.{offsetLines}
+use Rattle.store.specs.Store.{Store, at, contents, pushAll}
+use Rattle.store.proofs.Stores.{pushAll-append}
+use Rattle.passes_machine.specs.Machine.{Stores, Ending, whole, cut, countless, givenIn}
+use Rattle.text.specs.Text.{instructionsBy}
+use Rattle.optimize.specs.View.{given}
+use Rattle.passes_answer.specs.View.{handedRules, handed, handedCount, isWhole, isCounted, wholeText, endingText, answerText, nothingGiven}
+
+-- ---- a part of a buffer
+
+pub least-is : (a b : ℕ) → a < b → a ≡ min a b
+least-is a b h = sym (min-eq-left (omega arith))
+
+pub least-other : (a b : ℕ) → b ≤ a → b ≡ min a b
+least-other a b h = sym (min-eq-right h)
+
+pub take-least : (n : ℕ) (l : List ℕ) → take (min n (length l)) l ≡ take n l
+take-least n l = min-cases n (length l) (take (min n (length l)) l ≡ take n l)
+    (λ h e. ap (λ (k : ℕ). take k l) e)
+    (λ h e. ap (λ (k : ℕ). take k l) e ∙ take-all (length l) l (omega arith) ∙ sym (take-all n l h))
+
+pub handed-used : (used : ℕ) (cells : List ℕ) → take (handedCount true used (length cells)) cells ≡ contents (at cells used)
+unfolding handedCount contents
+handed-used used cells = take-least used cells
+
+handed-none : (used : ℕ) (cells : List ℕ) → take (handedCount false used (length cells)) cells ≡ []
+unfolding handedCount
+handed-none used cells = refl
+
+pub handed-within : (b : Bool) (used room : ℕ) → handedCount b used room ≤ room
+unfolding handedCount
+handed-within true used room = min-le-right used room
+handed-within false used room = omega arith
+
+-- ---- by the ending
+
+rules-handed : (e : Ending) (s : Stores) → take (handedCount (isCounted e) (s .rules .used) (length (s .rules .cells))) (s .rules .cells) ≡ handedRules e s
+unfolding isCounted handedRules
+rules-handed whole s = handed-used (s .rules .used) (s .rules .cells)
+rules-handed (cut n) s = handed-used (s .rules .used) (s .rules .cells)
+rules-handed countless s = handed-none (s .rules .used) (s .rules .cells)
+
+-- the elements of a store that are handed over
+abbrev pub part : Bool → Store → List ℕ
+part b s = take (handedCount b (s .used) (length (s .cells))) (s .cells)
+
+given-handed : (e : Ending) (s : Stores) → given (part (isWhole e) (s .code)) (part (isWhole e) (s .offsets)) (part (isWhole e) (s .entries)) ≡ handed e s
+unfolding isWhole handed givenIn
+given-handed whole s = rw (handed-used (s .code .used) (s .code .cells), handed-used (s .offsets .used) (s .offsets .cells), handed-used (s .entries .used) (s .entries .cells)) refl
+given-handed (cut n) s = rw (handed-none (s .code .used) (s .code .cells), handed-none (s .offsets .used) (s .offsets .cells), handed-none (s .entries .used) (s .entries .cells)) refl
+given-handed countless s = rw (handed-none (s .code .used) (s .code .cells), handed-none (s .offsets .used) (s .offsets .cells), handed-none (s .entries .used) (s .entries .cells)) refl
+
+-- the call on those parts is the call on what is handed over
+pub read-rewritten : {room : Room} {a : Answer} (e v : Ending) (s : Stores) {counted all : Bool} → v ≡ e → counted ≡ isCounted v → all ≡ isWhole v
+    → Rewrites room (part true (s .sheet)) (part counted (s .rules)) (given (part all (s .code)) (part all (s .offsets)) (part all (s .entries))) a
+    → Rewrites room (contents (s .sheet)) (handedRules e s) (handed e s) a
+read-rewritten {room = room} {a = a} e v s h c w r =
+    let c = c ∙ ap isCounted h in
+    let w = w ∙ ap isWhole h in
+    rw (← handed-used (s .sheet .used) (s .sheet .cells), ← rules-handed e s, ← given-handed e s, ← c, ← w) r
+
+-- ---- what is put
+
+-- parts put one behind the other
+pub four : (A B C D : List ℕ) (s : Store) {s1 s2 s3 s4 : Store} → s1 ≡ pushAll s A → s2 ≡ pushAll s1 B → s3 ≡ pushAll s2 C → s4 ≡ pushAll s3 D → s4 ≡ pushAll s (A ++ B ++ C ++ D)
+four A B C D s a b c d = d
+    ∙ ap (λ (t : Store). pushAll t D) (c ∙ ap (λ (t : Store). pushAll t C) (b ∙ ap (λ (t : Store). pushAll t B) a ∙ sym (pushAll-append s A B)) ∙ sym (pushAll-append s (A ++ B) C))
+    ∙ sym (pushAll-append s (A ++ B ++ C) D)
+
+pub whole-put : (sheet : Option Sheet) (a : Answer) (s : Store) {k m n : ℕ} {s1 s2 s3 s4 : Store}
+    → n ≡ min (a .codeLength) (length (a .code))
+    → k ≡ min (a .protectedCount) (length (a .protected))
+    → m ≡ min (a .entryCount * entrySize) (length (a .lines))
+    → s1 ≡ pushAll s (numberLine 0 (a .codeLength ∷ a .protectedCount ∷ a .entryCount ∷ []))
+    → s2 ≡ pushAll s1 (offsetLines (take k (a .protected)))
+    → s3 ≡ pushAll s2 (entryLines (entriesOf (take m (a .lines))))
+    → s4 ≡ pushAll s3 (instructionsBy sheet (take n (a .code)))
+    → s4 ≡ pushAll s (wholeText sheet a)
+unfolding wholeText
+whole-put sheet a s {s1 = s1} {s2 = s2} {s3 = s3} {s4 = s4} en ek em p q r t =
+    let q : s2 ≡ pushAll s1 (offsetLines (take (a .protectedCount) (a .protected))) = rw (← take-least (a .protectedCount) (a .protected), ← ek) q in
+    let r : s3 ≡ pushAll s2 (entryLines (entriesOf (take (a .entryCount * entrySize) (a .lines)))) = rw (← take-least (a .entryCount * entrySize) (a .lines), ← em) r in
+    let t : s4 ≡ pushAll s3 (instructionsBy sheet (take (a .codeLength) (a .code))) = rw (← take-least (a .codeLength) (a .code), ← en) t in
+    four _ _ _ _ s p q r t
+
+pub refusal-put : (e : Ending) (sheet : Option Sheet) (a : Answer) (s : Store) {t : Store} → (a .number ≡ 0 → ⊥) → t ≡ pushAll s (numberLine (a .number) (a .place ∷ [])) → t ≡ pushAll s (answerText e sheet a)
+unfolding answerText
+refusal-put e sheet a s h p = rw (ne-eqb (a .number) 0 h, answerText) p
+
+-- what the ending says, where nothing was refused
+not-refused : (e : Ending) (sheet : Option Sheet) (a : Answer) → a .number ≡ 0 → answerText e sheet a ≡ endingText e sheet a
+unfolding answerText
+not-refused e sheet a z = rw (eq-eqb (a .number) 0 z, answerText)
+
+pub ending-put : (e v : Ending) (sheet : Option Sheet) (a : Answer) (s : Store) {t : Store} → v ≡ e → a .number ≡ 0 → t ≡ pushAll s (endingText e sheet a) → t ≡ pushAll s (answerText v sheet a)
+ending-put e v sheet a s h z p = p ∙ sym (ap (λ (w : Ending). pushAll s (answerText w sheet a)) h ∙ ap (pushAll s) (not-refused e sheet a z))
+
+pub part-long : (n : ℕ) (l : List ℕ) (r : ℕ) → r ≡ min n (length l) → r ≡ length (take r l)
+part-long n l r e = sym (length-take-le r l (rw e (min-le-right n (length l))))
+
+pub handed-long : (b : Bool) (used : ℕ) (l : List ℕ) (r : ℕ) → r ≡ handedCount b used (length l) → r ≡ length (take r l)
+handed-long b used l r e = sym (length-take-le r l (rw e (handed-within b used (length l))))
+
+-- the same, where the counts are those that were computed
+pub read-by : {room : Room} {a : Answer} (e v : Ending) (s : Stores) {counted all : Bool} {na nb nc nd ne : ℕ} → v ≡ e → counted ≡ isCounted v → all ≡ isWhole v
+    → na ≡ handedCount true (s .sheet .used) (length (s .sheet .cells))
+    → nb ≡ handedCount counted (s .rules .used) (length (s .rules .cells))
+    → nc ≡ handedCount all (s .code .used) (length (s .code .cells))
+    → nd ≡ handedCount all (s .offsets .used) (length (s .offsets .cells))
+    → ne ≡ handedCount all (s .entries .used) (length (s .entries .cells))
+    → Rewrites room (take na (s .sheet .cells)) (take nb (s .rules .cells)) (given (take nc (s .code .cells)) (take nd (s .offsets .cells)) (take ne (s .entries .cells))) a
+    → Rewrites room (contents (s .sheet)) (handedRules e s) (handed e s) a
+read-by e v s h c w ea eb ec ed ee r = read-rewritten e v s h c w (rw (← ea, ← eb, ← ec, ← ed, ← ee) r)

@@ -1,0 +1,4 @@
+pub mod Refusing
+pub mod Conclusion
+pub mod Handing
+pub mod Ending

@@ -1,0 +1,26 @@
+-- Made by `answers` from crates/passes_answer/answers/finish.txt: edit that file, not this one.
+use mathlib.Core.Path.{refl}
+use Rattle.passes_reader.specs.View.{stateView}
+use Rattle.passes_answer.proofs.Handing.{handed-long}
+use Rattle.passes_answer.proofs.Ending.{finished-by}
+use borrow.Author.Needs.{needs}
+use Rattle.passes_answer.proofs.finish.Statement.{statement}
+use Rattle.passes_answer.proofs.finish.Tie as tie
+
+pub finish-spec : {M : Type 1} → statement M
+finish-spec =
+    tie.close
+    (tie.spec
+    (λ c. search needs)  -- slice-aggregate-rewrite-read
+    (λ c. search needs)  -- slice-aggregate-rewrite-read-2
+    (λ c. search needs)  -- slice-aggregate-rewrite-read-3
+    (λ c κs. search needs)  -- rewrite-read-requires
+    (λ c κs. search needs)  -- ending-of-requires
+    (λ c κs. search needs)  -- handed-count-requires
+    (λ c. handed-long _ _ _ _ (c .before .handed-count .ensures))  -- slice-aggregate-put-answer
+    (λ c. search needs)  -- slice-aggregate-put-answer-2
+    (λ c. search needs)  -- slice-aggregate-put-answer-3
+    (λ c. search needs)  -- slice-aggregate-put-answer-4
+    (λ c κs. search needs)  -- put-answer-requires
+    (λ c. search needs)  -- same-length
+    (λ c. finished-by (stateView (c .before .before .before .before .before .before .before .before .before .before .before .before .before .before .before .before .before .before .before .before .before .before .before .args .reader) (c .before .before .before .before .before .before .before .before .before .before .before .before .before .before .before .before .before .before .before .before .before .before .before .args .sheet .now) (c .before .before .before .before .before .before .before .before .before .before .before .before .before .before .before .before .before .before .before .before .before .before .before .args .rules .now) (c .before .before .before .before .before .before .before .before .before .before .before .before .before .before .before .before .before .before .before .before .before .before .before .args .code .now) (c .before .before .before .before .before .before .before .before .before .before .before .before .before .before .before .before .before .before .before .before .before .before .before .args .offsets .now) (c .before .before .before .before .before .before .before .before .before .before .before .before .before .before .before .before .before .before .before .before .before .before .before .args .entries .now)) _ _ (c .before .before .before .before .before .before .before .before .before .ending-of .ensures) refl (c .before .before .before .before .before .before .before .before .handed-count .ensures) (c .before .before .before .before .before .before .before .before .before .before .before .before .before .rewrite-read .ensures) (c .before .before .put-answer .ensures)))  -- returns

@@ -1,0 +1,80 @@
+-- How the machine's end is answered: what is handed to rewriting called alone, and the text made of its answer.
+use Prim.Native.Nat.{ℕ, _*_, min}
+use mathlib.Core.Path.{_≡_}
+use mathlib.Core.Bool.{Bool, true, false}
+use mathlib.Core.List.{List, [], _∷_, _++_}
+use mathlib.Core.Option.{Option, some, none}
+use lib.Dec.{eqb}
+use lib.ListN.{take}
+use Rattle.definition.specs.Limits.{maxCode, maxProtected, maxLines, entrySize, badRule}
+use Rattle.definition.specs.Opcode.{Sheet}
+use Rattle.definition.specs.Lent.{entriesOf}
+use Rattle.definition.specs.Compile.{Free}
+use Rattle.definition.specs.Alone.{Given, Room, Answer}
+use Rattle.definition.specs.Listing.{numberLine, entryLines, instructionLines}
+use Rattle.definition.specs.Passes.{malformedLine, offsetLines, refusalLine, text}
+use Rattle.definition.specs.Rewrite.{decode}
+use Rattle.store.specs.Store.{Store, at, contents, pushAll}
+use Rattle.passes_machine.specs.Machine.{State, Stores, Ending, whole, cut, countless, givenIn, concluded}
+use Rattle.text.specs.Text.{instructionsBy}
+
+-- ---- what is handed over: only what the ending leaves to be read
+
+unfoldable pub handedRules : Ending → Stores → List ℕ
+handedRules whole s = contents (s .rules)
+handedRules (cut n) s = contents (s .rules)
+handedRules countless s = []
+
+abbrev pub nothingGiven : Given
+nothingGiven = record { code = []; protected = []; lines = [] }
+
+unfoldable pub handed : Ending → Stores → Given
+handed whole s = givenIn s
+handed (cut n) s = nothingGiven
+handed countless s = nothingGiven
+
+-- outputs as long as their limits
+abbrev pub fullRoom : Room
+fullRoom = record { code = maxCode; protected = maxProtected; lines = maxLines * entrySize }
+
+-- ---- the text of an answer
+
+unfoldable pub wholeText : Option Sheet → Answer → List ℕ
+wholeText sheet a =
+    numberLine 0 (a .codeLength ∷ a .protectedCount ∷ a .entryCount ∷ [])
+    ++ offsetLines (take (a .protectedCount) (a .protected))
+    ++ entryLines (entriesOf (take (a .entryCount * entrySize) (a .lines)))
+    ++ instructionsBy sheet (take (a .codeLength) (a .code))
+
+-- where nothing was refused
+unfoldable pub endingText : Ending → Option Sheet → Answer → List ℕ
+endingText whole sheet a = wholeText sheet a
+endingText (cut n) sheet a = refusalLine malformedLine n
+endingText countless sheet a = numberLine badRule (0 ∷ [])
+
+unfoldable pub answerText : Ending → Option Sheet → Answer → List ℕ
+answerText e sheet a = elim (eqb (a .number) 0) [ true ↦ endingText e sheet a | false ↦ numberLine (a .number) (a .place ∷ []) ]
+
+-- ---- what is printed at the machine's end
+
+pub record Finishes (s : State) (before : List ℕ) (after : Store) : Type 0 where
+  pub place : ℕ
+  pub free : Free (contents (s .stores .sheet)) place
+  pub is : after ≡ pushAll (at before 0) (text (concluded place s))
+
+-- ---- what this crate's functions hand over
+
+-- those elements of a buffer that are used, if they are to be read
+unfoldable pub handedCount : Bool → ℕ → ℕ → ℕ
+handedCount true used room = min used room
+handedCount false used room = 0
+
+unfoldable pub isWhole : Ending → Bool
+isWhole whole = true
+isWhole (cut n) = false
+isWhole countless = false
+
+unfoldable pub isCounted : Ending → Bool
+isCounted whole = true
+isCounted (cut n) = true
+isCounted countless = false

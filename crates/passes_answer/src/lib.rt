@@ -1,0 +1,164 @@
+// The end of the passes program's input: what was read is rewritten, and the text of the answer is put into a lent output.
+ghost use mathlib.Core.Path.{_≡_};
+ghost use Prim.Native.Nat.{_*_, min};
+ghost use lib.ListN.{take};
+ghost use Rattle.definition.specs.Sheet.{readSheet};
+ghost use Rattle.definition.specs.Alone.{Rewrites};
+ghost use Rattle.store.specs.Store.{at, contents, pushAll};
+ghost use Rattle.passes_machine.specs.Machine.{ending};
+ghost use Rattle.passes_reader.specs.View.{headView, endingView, storesView, stateView};
+ghost use Rattle.optimize.specs.View.{answerView, room};
+ghost use Rattle.passes_answer.specs.View.{handedRules, handed, handedCount, isWhole, isCounted, wholeText, answerText, Finishes};
+use optimize::Answer;
+use passes_reader::Ending;
+use passes_reader::Reader;
+
+fn least(a: usize, b: usize) -> usize
+    ensures { λ r. ⌜ r ≡ min a b ⌝ }
+{
+    if a < b { a } else { b }
+}
+
+fn is_whole(e: Ending) -> bool
+    ensures { λ r. ⌜ r ≡ isWhole (endingView e) ⌝ }
+{
+    match e {
+        Ending::Whole => true,
+        Ending::Cut(_) => false,
+        Ending::Countless => false,
+    }
+}
+
+fn is_counted(e: Ending) -> bool
+    ensures { λ r. ⌜ r ≡ isCounted (endingView e) ⌝ }
+{
+    match e {
+        Ending::Whole => true,
+        Ending::Cut(_) => true,
+        Ending::Countless => false,
+    }
+}
+
+// How many elements of a buffer are handed over.
+fn handed_count(read: bool, used: usize, room: usize) -> usize
+    ensures { λ r. ⌜ r ≡ handedCount read used room ⌝ }
+{
+    if read { least(used, room) } else { 0 }
+}
+
+// What was read, rewritten: all of it after a whole input; else only the sheet and the rules can be refused.
+fn rewrite_read(
+    reader: Reader,
+    sheet: &[u8],
+    rules: &[u8],
+    code: &[u8],
+    offsets: &[u16],
+    entries: &[u16],
+    bytes: &mut [u8],
+    moved: &mut [u16],
+    lines: &mut [u16],
+) -> Answer
+    ensures { λ r. ⌜ Rewrites (room (now (bytes .entry)) (now (moved .entry)) (now (lines .entry))) (contents (at (now (sheet .entry)) (reader .used .sheet))) (handedRules (ending (headView (reader .head))) (storesView (reader .used) (now (sheet .entry)) (now (rules .entry)) (now (code .entry)) (now (offsets .entry)) (now (entries .entry)))) (handed (ending (headView (reader .head))) (storesView (reader .used) (now (sheet .entry)) (now (rules .entry)) (now (code .entry)) (now (offsets .entry)) (now (entries .entry)))) (answerView r (now (bytes .exit)) (now (moved .exit)) (now (lines .exit))) ⌝ }
+{
+    let used = reader.used;
+    let end = passes_reader::ending_of(reader.head);
+    let counted = is_counted(end);
+    let whole = is_whole(end);
+    let a = handed_count(true, used.sheet, sheet.len());
+    let b = handed_count(counted, used.rules, rules.len());
+    let c = handed_count(whole, used.code, code.len());
+    let d = handed_count(whole, used.offsets, offsets.len());
+    let e = handed_count(whole, used.entries, entries.len());
+    optimize::rewrite_alone(
+        &sheet[..a],
+        &rules[..b],
+        &code[..c],
+        &offsets[..d],
+        &entries[..e],
+        bytes,
+        moved,
+        lines,
+    )
+}
+
+// Numbers that so many entries take in a list of them.
+fn entry_numbers(entries: usize, room: usize) -> usize
+    ensures { λ r. ⌜ r ≡ min (entries * 3) room ⌝ }
+{
+    if entries > room / 3 {
+        room
+    } else {
+        entries * 3
+    }
+}
+
+fn put_whole(
+    a: Answer,
+    sheet: &[u8],
+    bytes: &[u8],
+    moved: &[u16],
+    lines: &[u16],
+    out: &mut [u8],
+) -> usize
+    ensures { λ r. ⌜ at (now (out .exit)) r ≡ pushAll (at (now (out .entry)) 0) (wholeText (readSheet (now (sheet .entry))) (answerView a (now (bytes .entry)) (now (moved .entry)) (now (lines .entry)))) ⌝ }
+{
+    let n = least(a.bytes, bytes.len());
+    let k = least(a.protected, moved.len());
+    let m = entry_numbers(a.entries, lines.len());
+    let one = text::put_counts(out, 0, a.bytes as u64, a.protected as u64, a.entries as u64);
+    let two = text::put_offsets(out, one, &moved[..k]);
+    let three = text::put_entries(out, two, &lines[..m]);
+    text::put_instructions(out, three, sheet, &bytes[..n])
+}
+
+fn put_answer(
+    end: Ending,
+    a: Answer,
+    sheet: &[u8],
+    bytes: &[u8],
+    moved: &[u16],
+    lines: &[u16],
+    out: &mut [u8],
+) -> usize
+    ensures { λ r. ⌜ at (now (out .exit)) r ≡ pushAll (at (now (out .entry)) 0) (answerText (endingView end) (readSheet (now (sheet .entry))) (answerView a (now (bytes .entry)) (now (moved .entry)) (now (lines .entry)))) ⌝ }
+{
+    if a.number != 0 {
+        return text::put_refusal(out, 0, a.number as u64, a.place as u64);
+    }
+    match end {
+        Ending::Whole => put_whole(a, sheet, bytes, moved, lines, out),
+        Ending::Cut(n) => text::put_malformed(out, 0, n),
+        Ending::Countless => text::put_refusal(out, 0, 9, 0),
+    }
+}
+
+// The text for what a reader has read.
+pub fn finish(
+    reader: Reader,
+    sheet: &[u8],
+    rules: &[u8],
+    code: &[u8],
+    offsets: &[u16],
+    entries: &[u16],
+    out: &mut [u8],
+) -> usize
+    ensures { λ r. ⌜ Finishes (stateView reader (now (sheet .entry)) (now (rules .entry)) (now (code .entry)) (now (offsets .entry)) (now (entries .entry))) (now (out .entry)) (at (now (out .exit)) r) ⌝ }
+{
+    let mut bytes = [0u8; 16384];
+    let mut moved = [0u16; 4096];
+    let mut lines = [0u16; 12288];
+    let a = rewrite_read(
+        reader,
+        sheet,
+        rules,
+        code,
+        offsets,
+        entries,
+        &mut bytes,
+        &mut moved,
+        &mut lines,
+    );
+    let end = passes_reader::ending_of(reader.head);
+    let used = handed_count(true, reader.used.sheet, sheet.len());
+    put_answer(end, a, &sheet[..used], &bytes, &moved, &lines, out)
+}

@@ -1,0 +1,1 @@
+// The passes program's input, read a byte at a time: theorems alone (specs/Machine.antt, proofs/).

@@ -1,0 +1,142 @@
+-- Fields and lines put into a store.
+use mathlib.Core.Path.{_≡_, refl, ap, _∙_}
+use mathlib.Core.List.{List, [], _∷_}
+use Prim.Native.Nat.{ℕ, suc, _+_, _-_, _≤_, _<_}
+use Prim.Native.Char.{code}
+use native.Mathlib.Numerals.{add-one}
+use native.Mathlib.Omega.{arith}
+use lib.ListN.{length, drop, getD, length-drop, drop-of-length-le}
+use lib.Seq.{drop-cons}
+use Rattle.definition.specs.Limits.{badSheet}
+use Rattle.definition.specs.Field.{lf}
+use Rattle.definition.specs.Opcode.{Sheet}
+use Rattle.definition.specs.Lent.{entriesOf}
+use Rattle.definition.specs.Rewrite.{Bytes, decode}
+use Rattle.definition.specs.Listing.{decimal, fields, numberLine, entryLines, instructionLines}
+use Rattle.definition.specs.Passes.{malformedLine, offsetLines, refusalLine}
+use Rattle.definition.specs.Sheet.{readSheet}
+use Rattle.opcode.specs.declared.sheet.SheetRead.{SheetRead}
+use Rattle.opcode.specs.declared.sheet.SheetRead.the-variants.{Accepted, Refused}
+use Rattle.opcode.specs.Table.{sheetIn, IsTable}
+use Rattle.opcode.specs.Reading.{answerOf, Answers, Accepts, Refuses}
+use Rattle.rewrite.specs.View.{firstOf}
+use Rattle.rewrite.proofs.Decoding.{first-is, first-none, first-within}
+use Rattle.store.specs.Store.{Store, at, push, pushAll}
+use Rattle.store.proofs.Stores.{length-push}
+use Rattle.text.specs.Text.{fieldOf, instructionLine, instructionsBy}
+use Rattle.text.proofs.Puts.{Putting, put-first, put-then, put-one, put-goes-on, put-ends, put-ends-none, put-long}
+
+-- ---- one line
+
+pub put-fields : (s : Store) {t u : Store} (n : ℕ) (ns : List ℕ) → t ≡ pushAll s (fieldOf n) → u ≡ pushAll t (fields ns) → u ≡ pushAll s (fields (n ∷ ns))
+unfolding fields
+put-fields s n ns e f = put-then s (fieldOf n) (fields ns) e f
+
+pub put-end : (s : Store) {t : Store} → t ≡ push s lf → t ≡ pushAll s (fields [])
+unfolding fields
+put-end s e = put-one s lf e
+
+pub put-line : (s : Store) {t u : Store} (n : ℕ) (ns : List ℕ) → t ≡ pushAll s (decimal n) → u ≡ pushAll t (fields ns) → u ≡ pushAll s (numberLine n ns)
+unfolding numberLine
+put-line s n ns e f = put-then s (decimal n) (fields ns) e f
+
+pub put-marked : (s : Store) {t u : Store} (n : ℕ) → t ≡ push s malformedLine → u ≡ pushAll t (fields (n ∷ [])) → u ≡ pushAll s (refusalLine malformedLine n)
+unfolding refusalLine
+put-marked s n e f = put-first s malformedLine (fields (n ∷ [])) e f
+
+-- ---- bytes of a line
+
+abbrev pub bytesFrom : List ℕ → ℕ → List ℕ
+bytesFrom l i = fields (drop i l)
+
+pub bytes-on : (l : List ℕ) (s : Store) {t u : Store} {i n : ℕ} → Putting (bytesFrom l) (length l) s t i → n ≡ getD l i 0 → u ≡ pushAll t (fieldOf n) → i < length l
+    → Putting (bytesFrom l) (length l) s u (i + 1)
+unfolding fields
+bytes-on l s {i = i} {n = n} p e f h = put-goes-on (bytesFrom l) (length l) s (fieldOf n) p f (rw (add-one i, drop-cons l i 0 h, e)) (omega arith)
+
+pub bytes-end : (l : List ℕ) (s : Store) {t u : Store} {i : ℕ} → Putting (bytesFrom l) (length l) s t i → u ≡ push t lf → length l ≤ i → u ≡ pushAll s (fields l)
+bytes-end l s {t} p f h = put-ends (bytesFrom l) (length l) s p (rw (drop-of-length-le l h) (put-end t f))
+
+pub bytes-long : (l : List ℕ) (s : Store) {t u : Store} {i : ℕ} → Putting (bytesFrom l) (length l) s t i → u ≡ push t lf → length (u .cells) ≡ length (s .cells)
+bytes-long l s {t} p f = ap (λ (v : Store). length (v .cells)) f ∙ length-push t lf ∙ put-long (bytesFrom l) (length l) s p
+
+-- ---- a line for each offset
+
+abbrev pub offsetsFrom : List ℕ → ℕ → List ℕ
+offsetsFrom l i = offsetLines (drop i l)
+
+pub offsets-on : (l : List ℕ) (s : Store) {t v u : Store} {i n : ℕ} → Putting (offsetsFrom l) (length l) s t i → n ≡ getD l i 0 → v ≡ push t (code "p") → u ≡ pushAll v (fields (n ∷ [])) → i < length l
+    → Putting (offsetsFrom l) (length l) s u (i + 1)
+unfolding offsetLines
+offsets-on l s {t} {i = i} {n = n} p e a f h =
+    put-goes-on (offsetsFrom l) (length l) s (code "p" ∷ fields (n ∷ [])) p (put-first t (code "p") (fields (n ∷ [])) a f) (rw (add-one i, drop-cons l i 0 h, e)) (omega arith)
+
+pub offsets-end : (l : List ℕ) (s : Store) {t : Store} {i : ℕ} → Putting (offsetsFrom l) (length l) s t i → length l ≤ i → t ≡ pushAll s (offsetLines l)
+unfolding offsetLines
+offsets-end l s p h = put-ends-none (offsetsFrom l) (length l) s p (rw (drop-of-length-le l h))
+
+-- ---- a line for each entry
+
+abbrev pub entriesFrom : List ℕ → ℕ → List ℕ
+entriesFrom l i = entryLines (entriesOf (drop i l))
+
+three : (l : List ℕ) (i : ℕ) → 3 ≤ length l - i → drop i l ≡ getD l i 0 ∷ getD l (i + 1) 0 ∷ getD l (i + 2) 0 ∷ drop (i + 3) l
+three l i h =
+    let two : i + 2 ≡ suc (i + 1) = omega arith in
+    let three : i + 3 ≡ suc (i + 2) = omega arith in
+    drop-cons l i 0 (omega arith) ∙ rw (three, ← drop-cons l (i + 2) 0 (omega arith), two, ← drop-cons l (i + 1) 0 (omega arith), add-one i)
+
+none-left : (l : List ℕ) → length l < 3 → entriesOf l ≡ []
+unfolding entriesOf
+none-left [] h = refl
+none-left (a ∷ []) h = refl
+none-left (a ∷ b ∷ []) h = refl
+none-left (a ∷ b ∷ c ∷ l) h = absurd (omega arith)
+
+pub entries-on : (l : List ℕ) (s : Store) {t v u : Store} {i a b c : ℕ} → Putting (entriesFrom l) (length l) s t i → a ≡ getD l i 0 → b ≡ getD l (i + 1) 0 → c ≡ getD l (i + 2) 0
+    → v ≡ push t (code "l") → u ≡ pushAll v (fields (a ∷ b ∷ c ∷ [])) → 3 ≤ length l - i → Putting (entriesFrom l) (length l) s u (i + 3)
+unfolding entriesOf entryLines
+entries-on l s {t} {i = i} {a = a} {b = b} {c = c} p ea eb ec m f h =
+    put-goes-on (entriesFrom l) (length l) s (code "l" ∷ fields (a ∷ b ∷ c ∷ [])) p (put-first t (code "l") (fields (a ∷ b ∷ c ∷ [])) m f) (rw (three l i h, ea, eb, ec)) (omega arith)
+
+pub entries-end : (l : List ℕ) (s : Store) {t : Store} {i : ℕ} → Putting (entriesFrom l) (length l) s t i → length l - i < 3 → t ≡ pushAll s (entryLines (entriesOf l))
+unfolding entryLines
+entries-end l s {i = i} p h = put-ends-none (entriesFrom l) (length l) s p (rw (none-left (drop i l) (simp length-drop h)))
+
+-- ---- a line for each instruction
+
+pub put-instruction : (s : Store) {t v u : Store} (at : ℕ) (i : Bytes) → t ≡ push s (code "b") → v ≡ pushAll t (fieldOf at) → u ≡ pushAll v (fields i) → u ≡ pushAll s (instructionLine at i)
+put-instruction s {t} at i e f g = put-first s (code "b") (fields (at ∷ i)) e (put-fields t at i f g)
+
+abbrev pub decodedFrom : Sheet → List ℕ → ℕ → List ℕ
+decodedFrom s l i = instructionLines i (decode s (drop i l))
+
+module _ (s : Sheet) (l : List ℕ) (w : Store) {t : Store} {i : ℕ} (p : Putting (decodedFrom s l) (length l) w t i) (a : Bytes) (here : a ≡ firstOf (decode s (drop i l))) where
+  pub decoded-within : (length a ≡ 0 → ⊥) → i + length a ≤ length l
+  decoded-within full = first-within s l i a here (omega arith)
+
+  pub decoded-on : {u : Store} {n : ℕ} → n ≡ i → u ≡ pushAll t (instructionLine n a) → (length a ≡ 0 → ⊥) → Putting (decodedFrom s l) (length l) w u (i + length a)
+  unfolding instructionLines
+  decoded-on {n = n} e f full =
+      put-goes-on (decodedFrom s l) (length l) w (instructionLine n a) p f (rw (first-is s l i a here (omega arith), e)) (decoded-within full)
+
+  pub decoded-end : length a ≡ 0 → t ≡ pushAll w (instructionLines 0 (decode s l))
+  unfolding instructionLines
+  decoded-end z = put-ends-none (decodedFrom s l) (length l) w p (rw (first-none s l i a here z))
+
+-- by a sheet's text
+module _ (text table : List ℕ) (f : SheetRead) (h : Answers text table (answerOf f)) where
+  pub sheet-ready : f ≡ Accepted → IsTable table
+  sheet-ready e = let d : Accepts text table = rw e at h in d .ready
+
+  pub put-by-sheet : (s : Store) {t : Store} (l : List ℕ) → f ≡ Accepted → t ≡ pushAll s (instructionLines 0 (decode (sheetIn table) l)) → t ≡ pushAll s (instructionsBy (readSheet text) l)
+  unfolding instructionsBy
+  put-by-sheet s l e p =
+      let d : Accepts text table = rw e at h in
+      rw (d .is) p
+
+  pub put-no-sheet : {p : ℕ} (s : Store) (l : List ℕ) → f ≡ Refused p → s ≡ pushAll s (instructionsBy (readSheet text) l)
+  unfolding instructionsBy pushAll
+  put-no-sheet {p} s l e =
+      let d : Refuses text table badSheet p = rw e at h in
+      rw (d .is)

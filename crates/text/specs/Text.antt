@@ -1,0 +1,32 @@
+-- Parts of the printed lines that the definition does not name, and how long a text of the passes program can be.
+use Prim.Native.Nat.{ℕ, _+_, _*_}
+use Prim.Native.Char.{code}
+use mathlib.Core.List.{List, [], _∷_}
+use mathlib.Core.Option.{Option, some, none}
+use Rattle.definition.specs.Limits.{maxCode, maxProtected, maxLines}
+use Rattle.definition.specs.Field.{comma}
+use Rattle.definition.specs.Opcode.{Sheet}
+use Rattle.definition.specs.Rewrite.{Bytes, decode}
+use Rattle.definition.specs.Listing.{decimal, fields, instructionLines}
+
+-- one field behind its comma
+abbrev pub fieldOf : ℕ → List ℕ
+fieldOf n = comma ∷ decimal n
+
+-- an instruction's line
+abbrev pub instructionLine : ℕ → Bytes → List ℕ
+instructionLine at i = code "b" ∷ fields (at ∷ i)
+
+-- the instruction lines of some code by a sheet; none where there is no sheet
+unfoldable pub instructionsBy : Option Sheet → List ℕ → List ℕ
+instructionsBy none bytes = []
+instructionsBy (some s) bytes = instructionLines 0 (decode s bytes)
+
+-- bytes that hold any text of the passes program
+abbrev pub textRoom : ℕ
+textRoom = 33 + maxProtected * 8 + maxLines * 20 + maxCode * 12
+
+-- `unfolding open-Text` names all of this module's definitions at once
+unfoldable pub open-Text : Unit {0}
+unfolding instructionsBy
+open-Text = tt
