@@ -1,7 +1,7 @@
-// The limits of document 01 for code, each shown to be the definition's (specs/Limits.antt).
+// The limits and refusal numbers of document 01 for code, each shown to be the definition's (specs/Limits.antt).
 ghost use mathlib.Core.Path.{_≡_};
 ghost use Prim.Native.Nat.{_*_};
-ghost use Rattle.definition.specs.Limits.{maxCode, maxLabels, maxProtected, maxLines, maxConstants, entrySize, maxProgram, maxNesting, maxVariables, maxField, maxRules, passCount, width};
+ghost use Rattle.definition.specs.Limits.{maxCode, maxLabels, maxProtected, maxLines, maxConstants, entrySize, maxProgram, maxNesting, maxVariables, maxField, maxRules, passCount, width, badSheet, badCode, badRule, codeFull, labelsFull, linesFull, outputShort};
 
 // Bytes of code, emitted and finished.
 pub const MAX_CODE: usize = 16384;
@@ -29,6 +29,21 @@ pub const MAX_RULES: usize = 64;
 pub const PASS_COUNT: u32 = 3;
 // Bits of a value.
 pub const WIDTH: u32 = 32;
+
+// Refusal: bad sheet.
+pub const BAD_SHEET: u8 = 7;
+// Refusal: code, protected offset or line offset that rewriting called alone cannot take.
+pub const BAD_CODE: u8 = 8;
+// Refusal: bad rule.
+pub const BAD_RULE: u8 = 9;
+// Refusal: code over its limit.
+pub const CODE_FULL: u8 = 10;
+// Refusal: labels or protected offsets over their limit.
+pub const LABELS_FULL: u8 = 11;
+// Refusal: line entries over their limit.
+pub const LINES_FULL: u8 = 12;
+// Refusal: a lent output shorter than its limit.
+pub const OUTPUT_SHORT: u8 = 14;
 
 pub fn max_code() -> usize
     ensures { λ r. ⌜ r ≡ maxCode ⌝ }
@@ -107,4 +122,46 @@ pub fn width() -> u32
     ensures { λ r. ⌜ r ≡ width ⌝ }
 {
     WIDTH
+}
+
+pub fn bad_sheet() -> u8
+    ensures { λ r. ⌜ r ≡ badSheet ⌝ }
+{
+    BAD_SHEET
+}
+
+pub fn bad_code() -> u8
+    ensures { λ r. ⌜ r ≡ badCode ⌝ }
+{
+    BAD_CODE
+}
+
+pub fn bad_rule() -> u8
+    ensures { λ r. ⌜ r ≡ badRule ⌝ }
+{
+    BAD_RULE
+}
+
+pub fn code_full() -> u8
+    ensures { λ r. ⌜ r ≡ codeFull ⌝ }
+{
+    CODE_FULL
+}
+
+pub fn labels_full() -> u8
+    ensures { λ r. ⌜ r ≡ labelsFull ⌝ }
+{
+    LABELS_FULL
+}
+
+pub fn lines_full() -> u8
+    ensures { λ r. ⌜ r ≡ linesFull ⌝ }
+{
+    LINES_FULL
+}
+
+pub fn output_short() -> u8
+    ensures { λ r. ⌜ r ≡ outputShort ⌝ }
+{
+    OUTPUT_SHORT
 }

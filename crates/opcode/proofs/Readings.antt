@@ -11,16 +11,16 @@ use borrow.Author.Tests.{eq-eqb, ne-eqb, lt-ltb, le-ltb, le-leb, ltb-true, ltb-f
 use lib.Dec.{eqb, ltb}
 use lib.ListN.{length, getD, take, drop, set, length-drop, length-set, length-map, length-append, drop-of-length-le}
 use lib.Seq.{drop-cons, drop-drop, getD-drop, getD-take, take-nil, take-suc, take-suc-set, take-take, take-append-le, take-all, length-take-le, split-at, drop-append-le}
-use Rattle.definition.specs.Limits.{badSheet}
-use Rattle.definition.specs.Res.{Res, refuse}
+use Rattle.definition.specs.Limits.{badSheet, outputShort}
+use Rattle.definition.specs.Res.{Res, ok, refuse}
 use Rattle.definition.specs.Lent.{zeros}
 use Rattle.definition.specs.Field.{lf, comma, onto, split, firstLine, Read, malformed, outside, is, field, has}
 use Rattle.definition.specs.Sheet.{byte, onlyLine, counted, sheetFields, distinct, times, readAtFault, groupOf, fieldAtFault, faultAt, sheetFault, readSheet}
 use Rattle.field.specs.View.{before, Ends}
 use Rattle.field.proofs.Numbers.{up-to-bound}
 use Rattle.field.proofs.Parts.{parts-last, parts-more, line-part}
-use Rattle.opcode.specs.Table.{sheetIn, Listed, groupStart}
-use Rattle.opcode.specs.Reading.{byteOr, Spelled, Accepts, Answers}
+use Rattle.opcode.specs.Table.{tableSize, sheetIn, Listed, groupStart}
+use Rattle.opcode.specs.Reading.{byteOr, Spelled, Reads, Answers}
 use Rattle.opcode.proofs.Roles.{seen-at}
 use Rattle.opcode.proofs.Sheets.{has-cons, distinct-cons}
 use Rattle.opcode.proofs.Faults.{spelled, fault-refused, times-same, times-has, drop-map}
@@ -315,8 +315,15 @@ module _ {line t : List ℕ} {i at : ℕ} (p : Reading line t i at) (many : leng
 
 -- ---- what reading a sheet answers
 
-pub refused : (text : List ℕ) {table : List ℕ} {r : Res (Unit {0})} (place : ℕ) → (r ≡ refuse badSheet place) × (table ≡ zeros 289) → sheetFault text place ≡ true → Answers text table r
-refused text place e f = rw (e .0) (record { is = fault-refused text place f; number = refl; fault = f; cleared = e .1 })
+-- a table of another length
+pub unfit : {room : ℕ} {text table : List ℕ} {r : Res (Unit {0})} → (room ≡ tableSize → ⊥) → (r ≡ refuse outputShort 0) × (table ≡ zeros room) → Answers room text table r
+unfit h e = record { fit = λ q. absurd (h q); unfit = λ _. record { is = e .0; cleared = e .1 } }
 
-pub accepted : (text : List ℕ) {u table : List ℕ} → readSheet text ≡ some (sheetIn u) → Listed u table → Accepts text table
-accepted text {u} {table} e l = record { is = rw (l .front) e; ready = l .table }
+fits : {room : ℕ} {text table : List ℕ} {r : Res (Unit {0})} → room ≡ tableSize → Reads text table r → Answers room text table r
+fits h e = record { fit = λ _. e; unfit = λ q. absurd (q h) }
+
+pub refused : (text : List ℕ) {room k n : ℕ} {table : List ℕ} {r : Res (Unit {0})} (place : ℕ) → room ≡ tableSize → (r ≡ refuse n place) × (table ≡ zeros k) → k ≡ tableSize → n ≡ badSheet → sheetFault text place ≡ true → Answers room text table r
+refused text place h e q b f = fits h (rw (e .0) (record { is = fault-refused text place f; number = b; fault = f; cleared = e .1 ∙ ap zeros q }))
+
+pub accepted : (text : List ℕ) {room : ℕ} {u table : List ℕ} → room ≡ tableSize → readSheet text ≡ some (sheetIn u) → Listed u table → Answers room text table (ok tt)
+accepted text h e l = fits h (record { is = rw (l .front) e; ready = l .table })

@@ -1,5 +1,5 @@
 -- What the table of roles says, over plain values.
-use mathlib.Core.Path.{_≡_, refl}
+use mathlib.Core.Path.{_≡_, refl, ap, _∙_}
 use Prim.Native.Nat.{ℕ, zero, suc, _+_, _-_, _<_, _≤_}
 use native.Mathlib.Numerals.{add-one, sub-one}
 use native.Mathlib.Omega.{arith}
@@ -7,12 +7,15 @@ use lib.Dec.{lit<}
 use mathlib.Core.List.{List, [], _∷_, map}
 use lib.ListN.{length, getD, List·getD-eq-default}
 use Rattle.definition.specs.Opcode as def
-use Rattle.definition.specs.Opcode.{compare, number, compareIndex, up, down, shift, roles, ret}
+use Rattle.definition.specs.Opcode.{traits, compare, number, compareIndex, up, down, shift, roles, ret}
 use Rattle.definition.specs.Rules.{roleNumbered}
 use Rattle.opcode.specs.declared.BinaryOp.the-variants.{Add, Sub, Mul, Div, Mod, BoolAnd, BoolOr, BoolXor}
 use Rattle.opcode.specs.declared.UnaryOp.the-variants.{Neg, BoolNot}
 use Rattle.opcode.specs.declared.CompareOp.the-variants.{Eq, Ne, Lt, Le, Gt, Ge}
 use Rattle.opcode.specs.declared.Role.{Role}
+use Rattle.opcode.specs.declared.Effect.{Effect}
+use Rattle.opcode.specs.declared.Traits.{Traits}
+use Rattle.opcode.specs.View.{roleView, effectView, IsRow}
 use Rattle.opcode.specs.declared.Role.the-variants.{Dup, Pop, LoadVar, StoreVar, LoadConst, LoadTrue, LoadFalse, Binary, Unary, Compare, Jmp, JmpIfNot, CmpBr, Ret}
 
 pub compare-number : (c : def.CompareOp) → number (compare c) ≡ 17 + compareIndex c
@@ -59,3 +62,8 @@ pub shift-down : (h : ℕ) → (h ≡ 0 → ⊥) → h - 1 ≡ shift down h
 unfolding shift
 shift-down zero e = absurd (e refl)
 shift-down (suc h) e = sub-one (suc h)
+
+-- a row of code's, at a role that is known
+pub is-row : {p q : Role} {r : Traits} {e : Effect} → p ≡ q → (r .size ≡ traits (roleView q) .size) × (r .needs ≡ traits (roleView q) .needs) × (r .effect ≡ e) → effectView e ≡ traits (roleView q) .effect
+    → IsRow (traits (roleView p)) r
+is-row k f g = rw k (record { size = f .0; needs = f .1; effect = ap effectView (f .2) ∙ g })

@@ -1,7 +1,7 @@
 -- A table: what it holds of its sheet, and how the role numbers come into it.
 use mathlib.Core.Path.{_≡_, refl, ap, sym, _∙_}
 use mathlib.Core.Option.{some}
-use mathlib.Core.List.{List, _∷_, _++_, map, append-nil}
+use mathlib.Core.List.{List, [], _∷_, _++_, map, append-nil}
 use Prim.Native.Nat.{ℕ, zero, suc, _+_, _-_, _<_, _≤_}
 use native.Mathlib.Omega.{arith}
 use native.Mathlib.Decide.{ℕ-discrete}
@@ -13,11 +13,17 @@ use lib.Seq.{getD-take, getD-drop, getD-append-add, getD-set-same, getD-set-othe
 use Rattle.definition.specs.Opcode.{Role, CompareOp, number, compareIndex, ret, roles, beside, roleOf, opcode, comparisonByte, Sheet}
 use Rattle.definition.specs.Rules.{roleNumbered}
 use Rattle.definition.specs.Lent.{zeros}
-use Rattle.opcode.specs.Table.{sheetIn, IsTable, numberOr, tableOf, upFrom}
+use Rattle.opcode.specs.Table.{sheetIn, IsTable, numberIn, numberOr, tableOf, upFrom}
 use Rattle.opcode.proofs.Roles.{compare-index, seen-at}
 use Rattle.opcode.proofs.Sheets.{number-below, number-role, up-from}
 
 -- ---- what a table holds
+
+-- no other element is read inside a list
+pub inside : (l : List ℕ) (i d e : ℕ) → i < length l → getD l i d ≡ getD l i e
+inside [] i d e h = absurd (omega arith)
+inside (x ∷ l) zero d e h = refl
+inside (x ∷ l) (suc i) d e h = inside l i d e (omega arith)
 
 pub table-opcode : (t : List ℕ) (r : Role) → getD t (number r) 0 ≡ opcode (sheetIn t) r
 unfolding opcode
@@ -45,11 +51,16 @@ table-front : (t : List ℕ) → tableOf (sheetIn t) ≡ take 33 t ++ listed (sh
 unfolding tableOf
 table-front t = ap (λ (l : List ℕ). l ++ listed (sheetIn t)) (take-append-drop 27 (take 33 t))
 
-pub table-role : {t : List ℕ} → IsTable t → (b : ℕ) → b < 256 → getD t (33 + b) 0 ≡ numberOr (roleOf (sheetIn t) b)
+table-role : {t : List ℕ} → IsTable t → (b : ℕ) → b < 256 → getD t (33 + b) 0 ≡ numberOr (roleOf (sheetIn t) b)
 table-role {t} p b h =
     let n : length (take 33 t) ≡ 33 = length-take-le 33 t (omega (arith, p .long)) in
     let e : getD (take 33 t ++ listed (sheetIn t)) (33 + b) 0 ≡ getD (listed (sheetIn t)) b 0 = rw n at (getD-append-add (take 33 t) (listed (sheetIn t)) b 0) in
     ap (λ (l : List ℕ). getD l (33 + b) 0) (p .is ∙ table-front t) ∙ e ∙ listed-at (sheetIn t) b h
+
+-- what a whole table lists is the role of the byte
+pub table-number : {t : List ℕ} → IsTable t → (b : ℕ) → b < 256 → numberIn t b ≡ numberOr (roleOf (sheetIn t) b)
+unfolding numberIn
+table-number {t} p b h = inside t (33 + b) 255 0 (omega (arith, p .long)) ∙ table-role p b h
 
 table-by : (t : List ℕ) → length t ≡ 289 → ((b : ℕ) → b < 256 → getD t (33 + b) 0 ≡ numberOr (roleOf (sheetIn t) b)) → IsTable t
 table-by t l h =

@@ -3,7 +3,7 @@ use mathlib.Core.Path.{_≡_}
 use mathlib.Core.Bool.{true, false}
 use mathlib.Core.Option.{Option, some, none}
 use mathlib.Core.List.{List, [], _∷_, _++_, map}
-use Prim.Native.Nat.{ℕ, zero, suc, _<_}
+use Prim.Native.Nat.{ℕ, zero, suc, _+_, _<_}
 use lib.Dec.{ltb}
 use lib.ListN.{length, getD, take, drop}
 use Rattle.definition.specs.Opcode.{Role, number, Sheet, roleOf}
@@ -44,6 +44,10 @@ tableOf s = (s .opcodes ++ s .comparisons) ++ map (λ b. numberOr (roleOf s b)) 
 -- the sheet that a table starts with
 abbrev pub sheetIn : List ℕ → Sheet
 sheetIn t = sheetBy (take fieldCount t)
+
+-- what a table of any length lists for a byte; 255 where it ends before
+unfoldable pub numberIn : List ℕ → ℕ → ℕ
+numberIn t b = getD t (fieldCount + b) 255
 
 -- t is the whole table of the sheet that it starts with
 pub record IsTable (t : List ℕ) : Type 0 where

@@ -1,19 +1,19 @@
 // An opcode sheet, read from any bytes into a lent table: the 27 opcodes by role, the six comparison bytes, and for each byte the number of
 // its role. The table is filled once and then lent as one slice, so that nothing of it is copied at a call.
 ghost use mathlib.Core.Path.{_≡_};
-ghost use Prim.Native.Nat.{_<_};
-ghost use lib.ListN.{length, replicate};
-ghost use Rattle.definition.specs.Limits.{badSheet};
+ghost use lib.ListN.{length, getD, replicate};
 ghost use Rattle.definition.specs.Res.{refuse};
 ghost use Rattle.definition.specs.Field.{comma, split, field, has};
 ghost use Rattle.definition.specs.Sheet.{byte, fieldCount};
 ghost use Rattle.definition.specs.Lent.{zeros};
-ghost use Rattle.definition.specs.Opcode.{opcode, comparisonByte, roleOf};
+ghost use Rattle.definition.specs.Opcode.{opcode, comparisonByte};
 ghost use Rattle.opcode.specs.View.{roleView, compareView};
-ghost use Rattle.opcode.specs.Table.{tableSize, sheetIn, IsTable, Listed, numberOr, groupStart};
+ghost use Rattle.opcode.specs.Table.{tableSize, sheetIn, numberIn, Listed, groupStart};
 ghost use Rattle.opcode.specs.Reading.{answerOf, Answers, Numbered, byteOr};
 use crate::CompareOp;
 use crate::Role;
+use definition::BAD_SHEET;
+use definition::OUTPUT_SHORT;
 use field::Read;
 
 // Elements of a table.
@@ -25,37 +25,42 @@ const OPCODES: usize = 27;
 
 const FIELDS: usize = 33;
 
-// What a text is: a sheet, or a bad one with a place at fault.
+// What reading answers: a sheet, or a refusal's number and place.
 pub enum SheetRead {
     Accepted,
-    Refused(u32),
+    Refused(u8, u32),
 }
 
-// The opcode of a role. The table is as long as the reader wants it of our own crates.
+// An element of a table of any length, and another where it ends before.
+fn byte_or(bytes: &[u8], i: usize, other: u8) -> u8
+    ensures { λ r. ⌜ r ≡ getD (now (bytes .entry)) i other ⌝ }
+{
+    if i < bytes.len() { bytes[i] } else { other }
+}
+
+// The opcode of a role; 0 where the table ends before it.
 pub fn opcode_of(sheet: &[u8], role: Role) -> u8
-    requires { ⌜ length (now sheet) ≡ tableSize ⌝ }
     ensures { λ r. ⌜ r ≡ opcode (sheetIn (now (sheet .entry))) (roleView role) ⌝ }
 {
     let n = role.number() as usize;
-    sheet[n]
+    byte_or(sheet, n, 0)
 }
 
-// The byte that stands for a comparison in a CMP_BR.
+// The byte that stands for a comparison in a CMP_BR; 0 where the table ends before it.
 pub fn comparison_byte(sheet: &[u8], op: CompareOp) -> u8
-    requires { ⌜ length (now sheet) ≡ tableSize ⌝ }
     ensures { λ r. ⌜ r ≡ comparisonByte (sheetIn (now (sheet .entry))) (compareView op) ⌝ }
 {
     let n = op.index() as usize;
-    sheet[OPCODES + n]
+    byte_or(sheet, OPCODES + n, 0)
 }
 
-// The number of the role of an opcode; UNLISTED for a byte that the sheet does not list.
+// The number of the role of an opcode, as a table that was read lists it (proofs/Tables.antt, `table-number`). UNLISTED for a byte that the
+// sheet does not list, and where the table ends before it.
 pub fn role_number(sheet: &[u8], opcode: u8) -> u8
-    requires { ⌜ IsTable (now sheet) ⌝ }
-    ensures { λ r. ⌜ r ≡ numberOr (roleOf (sheetIn (now (sheet .entry))) opcode) ⌝ }
+    ensures { λ r. ⌜ r ≡ numberIn (now (sheet .entry)) opcode ⌝ }
 {
     let n = opcode as usize;
-    sheet[FIELDS + n]
+    byte_or(sheet, FIELDS + n, UNLISTED)
 }
 
 // Is the byte one of these?
@@ -143,12 +148,12 @@ fn read_numbers(line: &[u8], sheet: &mut [u8]) -> SheetRead
         let stop = field::field_end(line, at);
         let n = byte_of(&line[at..stop]);
         if n > 255 {
-            return SheetRead::Refused(place);
+            return SheetRead::Refused(BAD_SHEET, place);
         }
         let b = n as u8;
         let start = group_start(i);
         if contains(&sheet[start..i], b) {
-            return SheetRead::Refused(place);
+            return SheetRead::Refused(BAD_SHEET, place);
         }
         sheet[i] = b;
         at = stop + 1;
@@ -157,30 +162,31 @@ fn read_numbers(line: &[u8], sheet: &mut [u8]) -> SheetRead
     SheetRead::Accepted
 }
 
-// The table cleared, and 7.
-fn refuse(sheet: &mut [u8], place: u32) -> SheetRead
-    requires { ⌜ length (now sheet) ≡ tableSize ⌝ }
-    ensures { λ r. ⌜ (answerOf r ≡ refuse badSheet place) × (now (sheet .exit) ≡ zeros tableSize) ⌝ }
+// A refusal, which clears the table.
+fn refuse(sheet: &mut [u8], number: u8, place: u32) -> SheetRead
+    ensures { λ r. ⌜ (answerOf r ≡ refuse number place) × (now (sheet .exit) ≡ zeros (length (now (sheet .entry)))) ⌝ }
 {
     fill(sheet, 0);
-    SheetRead::Refused(place)
+    SheetRead::Refused(number, place)
 }
 
-// A sheet from any bytes. The table is as long as TABLE_SIZE says: only our own crates lend one.
+// A sheet from any bytes, into a table of TABLE_SIZE elements: 7, or 14 for a table of any other length.
 pub fn read_sheet(text: &[u8], sheet: &mut [u8]) -> SheetRead
-    requires { ⌜ length (now sheet) ≡ tableSize ⌝ }
-    ensures { λ r. ⌜ Answers (now (text .entry)) (now (sheet .exit)) (answerOf r) ⌝ }
+    ensures { λ r. ⌜ Answers (length (now (sheet .entry))) (now (text .entry)) (now (sheet .exit)) (answerOf r) ⌝ }
 {
+    if sheet.len() != TABLE_SIZE {
+        return refuse(sheet, OUTPUT_SHORT, 0);
+    }
     let end = field::line_end(text, 0);
     if text.len() - end != 1 {
-        return refuse(sheet, 0);
+        return refuse(sheet, BAD_SHEET, 0);
     }
     let line = &text[..end];
     if field_count(line) != FIELDS {
-        return refuse(sheet, 0);
+        return refuse(sheet, BAD_SHEET, 0);
     }
     match read_numbers(line, sheet) {
-        SheetRead::Refused(place) => refuse(sheet, place),
+        SheetRead::Refused(number, place) => refuse(sheet, number, place),
         SheetRead::Accepted => {
             list_roles(sheet);
             SheetRead::Accepted

@@ -1,21 +1,21 @@
 -- The starts and the end of some code, listed in a table by offset.
-use mathlib.Core.Path.{_≡_, refl, ap, sym, _∙_}
+use mathlib.Core.Path.{_≡_, refl, sym, _∙_}
 use mathlib.Core.Bool.{Bool, true, false}
 use mathlib.Core.List.{List, [], _∷_, map}
-use Prim.Native.Nat.{ℕ, zero, suc, _+_, _≤_, _<_}
+use Prim.Native.Nat.{ℕ, _+_, _≤_, _<_}
 use native.Mathlib.Nat.{add-zero}
 use native.Mathlib.Omega.{arith}
 use borrow.Author.Tests.{eq-eqb, ne-eqb, eqb-true, eqb-false}
 use lib.Dec.{eqb}
 use lib.ListN.{length, drop, set, getD, length-set}
 use lib.Seq.{getD-set-other}
-use Rattle.definition.specs.Res.{Res}
+use Rattle.definition.specs.Limits.{maxCode}
 use Rattle.definition.specs.Field.{has}
 use Rattle.definition.specs.Opcode.{Sheet}
 use Rattle.definition.specs.Rewrite.{Bytes, OffsetMap, decode, endFrom, boundariesFrom, movedTo}
 use Rattle.definition.specs.Optimize.{identity}
 use Rattle.definition.specs.Alone.{boundaries}
-use Rattle.rewrite.specs.View.{firstOf, Clear}
+use Rattle.rewrite.specs.View.{slotCount, firstOf, Clear}
 use Rattle.rewrite.proofs.Decoding.{first-is, first-none, first-within}
 use Rattle.rewrite.proofs.Marked.{has-here, has-past}
 use Rattle.rewrite.proofs.Pass.{moved-here, moved-past, moved-set}
@@ -36,10 +36,10 @@ pub record Listing (s : Sheet) (code table : List ℕ) (at : ℕ) : Type 0 where
   pub end : endFrom 0 (decode s code) ≡ endFrom at (decode s (drop at code))
   pub moved : (x : ℕ) → movedTo (identity s code) x ≡ getD table x 0 + movedTo (at-itself (boundariesFrom at (decode s (drop at code)))) x
   pub fresh : (x : ℕ) → at ≤ x → getD table x 0 ≡ 0
-  pub slots : length table ≡ 16385
+  pub slots : length table ≡ slotCount
   pub within : at ≤ length code
 
-module _ (s : Sheet) (code : List ℕ) (few : length code ≤ 16384) where
+module _ (s : Sheet) (code : List ℕ) (few : length code ≤ maxCode) where
   pub list-begins : (table : List ℕ) → Clear table → Listing s code table 0
   unfolding identity
   list-begins table c = record {

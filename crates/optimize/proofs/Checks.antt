@@ -1,24 +1,25 @@
 -- Lists of offsets checked one by one.
 use mathlib.Core.Path.{_≡_, refl, ap, sym, _∙_}
 use mathlib.Core.Bool.{Bool, true, false}
-use mathlib.Core.List.{List, [], _∷_, map}
-use Prim.Native.Nat.{ℕ, zero, suc, _+_, _≤_, _<_}
+use mathlib.Core.List.{List, [], _∷_}
+use Prim.Native.Nat.{ℕ, suc, _+_, _≤_, _<_}
 use native.Mathlib.Numerals.{add-one, add-two, add-three}
 use native.Mathlib.Omega.{arith}
 use lib.ListN.{length, getD, drop, drop-of-length-le, length-drop, List·getD-eq-default}
 use lib.Dec.{leb}
 use borrow.Author.Tests.{leb-true, leb-false}
 use lib.Seq.{drop-cons}
+use Rattle.definition.specs.Limits.{maxCode}
 use Rattle.definition.specs.Limits.{badCode}
-use Rattle.definition.specs.Res.{Res, ok, refuse, _>>_, demand}
+use Rattle.definition.specs.Res.{ok, refuse, _>>_, demand}
 use Rattle.definition.specs.Field.{has}
 use Rattle.definition.specs.Emit as def
 use Rattle.definition.specs.Lent.{entriesOf}
 use Rattle.definition.specs.Alone.{boundaries}
-use Rattle.optimize.specs.declared.Offset.{Offset}
 use Rattle.optimize.specs.declared.Offset.the-variants.{Fine, Bad}
-use Rattle.optimize.specs.View.{Small, fixedIn, entryOffsets, offsetView, Checks}
+use Rattle.optimize.specs.View.{fixedIn, entryOffsets, Checks}
 use Rattle.optimize.proofs.Tables.{fixed-small}
+use Rattle.rewrite.specs.View.{slotCount}
 
 pub bounds-more : (places : List ℕ) (x : ℕ) (xs : List ℕ) → has places x ≡ true → boundaries places (x ∷ xs) ≡ boundaries places xs
 unfolding boundaries _>>_ demand
@@ -32,19 +33,19 @@ bounds-bad places x xs h = ap (λ (t : Bool). demand t badCode x >> boundaries p
 
 pub record Checking (places list : List ℕ) (i : ℕ) : Type 0 where
   pub left : boundaries places list ≡ boundaries places (drop i list)
-  pub small : (k : ℕ) → k < i → getD list k 0 ≤ 16384
+  pub small : (k : ℕ) → k < i → getD list k 0 ≤ maxCode
 
 module _ (table list : List ℕ) where
   pub check-begins : Checking (fixedIn table) list 0
   check-begins = record { left = refl; small = λ k h. absurd (omega arith) }
 
-  pub check-goes-on : (i : ℕ) → length table ≡ 16385 → Checking (fixedIn table) list i → i < length list → true ≡ has (fixedIn table) (getD list i 0) → Checking (fixedIn table) list (i + 1)
+  pub check-goes-on : (i : ℕ) → length table ≡ slotCount → Checking (fixedIn table) list i → i < length list → true ≡ has (fixedIn table) (getD list i 0) → Checking (fixedIn table) list (i + 1)
   check-goes-on i slots c h on = record {
     left = c .left ∙ rw (drop-cons list i 0 h, add-one i) (bounds-more (fixedIn table) (getD list i 0) (drop (suc i) list) (sym on));
     small = λ k q. byPlace k q (leb i k) refl;
   }
     where
-      byPlace : (k : ℕ) → k < i + 1 → (t : Bool) → leb i k ≡ t → getD list k 0 ≤ 16384
+      byPlace : (k : ℕ) → k < i + 1 → (t : Bool) → leb i k ≡ t → getD list k 0 ≤ maxCode
       byPlace k q true e =
           let same : k ≡ i = omega (arith, leb-true i k e) in
           rw same (fixed-small table (getD list i 0) slots (sym on))
@@ -64,7 +65,7 @@ module _ (table list : List ℕ) where
     small = λ _. record { at = λ k. byPlace k (leb (length list) k) refl };
   }
     where
-      byPlace : (k : ℕ) (t : Bool) → leb (length list) k ≡ t → getD list k 0 ≤ 16384
+      byPlace : (k : ℕ) (t : Bool) → leb (length list) k ≡ t → getD list k 0 ≤ maxCode
       byPlace k true e = rw (List·getD-eq-default list 0 (leb-true _ _ e)) (omega arith)
       byPlace k false e = c .small k (omega (arith, leb-false (length list) k e))
 

@@ -1,17 +1,17 @@
 -- The entry that is called alone: 14, 7 and 9 before the rest.
-use mathlib.Core.Path.{_≡_, refl, ap, sym, _∙_}
+use mathlib.Core.Path.{_≡_, refl, sym, _∙_}
 use mathlib.Core.Bool.{Bool, true, false, _&&_}
 use mathlib.Core.Option.{Option, some, none}
 use mathlib.Core.List.{List}
 use Prim.Native.Nat.{ℕ, _*_, _≤_, _<_}
 use native.Mathlib.Omega.{arith}
-use borrow.Author.Tests.{le-leb, lt-leb}
+use borrow.Author.Tests.{le-leb, lt-leb, leb-true}
 use lib.Dec.{leb}
 use lib.ListN.{length}
 use Rattle.definition.specs.Limits.{maxCode, maxProtected, maxLines, entrySize, badSheet, outputShort}
 use Rattle.definition.specs.Res.{Res, ok, refuse, _>>=_, _>>_, demand, given}
 use Rattle.definition.specs.Opcode.{Sheet}
-use Rattle.definition.specs.Sheet.{readSheet, sheetFault}
+use Rattle.definition.specs.Sheet.{readSheet}
 use Rattle.definition.specs.Rules.{Rule, readRules}
 use Rattle.definition.specs.Compile.{Free}
 use Rattle.definition.specs.Alone as alone
@@ -19,7 +19,7 @@ use Rattle.definition.specs.Alone.{Given, Room, roomy, rewriteFiles, rewriteInt
 use Rattle.opcode.specs.declared.sheet.SheetRead.{SheetRead}
 use Rattle.opcode.specs.declared.sheet.SheetRead.the-variants.{Accepted, Refused}
 use Rattle.opcode.specs.Table.{IsTable, sheetIn}
-use Rattle.opcode.specs.Reading.{answerOf, Answers, Accepts, Refuses}
+use Rattle.opcode.specs.Reading.{answerOf, Reads, Accepts, Refuses}
 use Rattle.opcode.proofs.Faults.{some-fault}
 use Rattle.rules.specs.declared.RuleAnswer.{RuleAnswer}
 use Rattle.rules.specs.declared.RuleAnswer.the-variants as answers
@@ -27,7 +27,7 @@ use Rattle.rules.specs.View as rules
 use Rattle.rules.specs.View.{rulesIn, IsRules, tableOf, tableFor, Answered}
 use Rattle.rules.proofs.Table.{rules-back}
 use Rattle.rules.proofs.Pairs.{read-table}
-use Rattle.optimize.specs.View.{Roomy, Tables, afterLimits, afterRules, afterSheet}
+use Rattle.optimize.specs.View.{roomOf, Roomy, afterLimits, afterRules, afterSheet}
 
 -- ---- 9
 
@@ -37,14 +37,14 @@ pub record Read (text table : List ℕ) (count : ℕ) : Type 0 where
   pub held : IsRules table count
   pub same : rulesIn table count ≡ rs
 
-read-from : (text table : List ℕ) (count : ℕ) (x : Res (List Rule)) → readRules text ≡ x → answers.Rules count ≡ rules.answerOf x → table ≡ tableFor x → Read text table count
-unfolding rules.answerOf tableFor
+read-from : (text table : List ℕ) (count : ℕ) (x : Res (List Rule)) → readRules text ≡ x → answers.Rules count ≡ rules.answerOf x → table ≡ tableFor rules.tableSize x → Read text table count
+unfolding rules.answerOf tableFor tableOf
 read-from text table count (ok rs) e q h =
     let n : count ≡ length rs = cc in
     record { rs = rs; is = e; held = rw (h, n) (read-table text e); same = rw (h, n) (rules-back rs) }
 read-from text table count (refuse m p) e q h = absurd (let z : _≡_ {A = ℕ} 0 1 = cc in omega arith)
 
-pub rules-read : {text table : List ℕ} {r : RuleAnswer} {count : ℕ} → Answered (readRules text) r table → r ≡ answers.Rules count → Read text table count
+pub rules-read : {text table : List ℕ} {r : RuleAnswer} {count : ℕ} → Answered rules.tableSize (readRules text) r table → r ≡ answers.Rules count → Read text table count
 rules-read {text} {table} {count = count} a e = read-from text table count (readRules text) refl (sym e ∙ a .is) (a .holds)
 
 rules-bad : (x : Res (List Rule)) (m p : ℕ) → answers.Refused m p ≡ rules.answerOf x → x ≡ refuse m p
@@ -55,7 +55,7 @@ rules-bad (refuse n q) m p e =
     let eq : q ≡ p = cc in
     rw (en, eq)
 
-module _ (s : Sheet) (text : List ℕ) (g : Given) (r : Room) {a : alone.Answer} {table : List ℕ} {f : RuleAnswer} (h : Answered (readRules text) f table) where
+module _ (s : Sheet) (text : List ℕ) (g : Given) (r : Room) {a : alone.Answer} {table : List ℕ} {f : RuleAnswer} (h : Answered rules.tableSize (readRules text) f table) where
   pub refused-9 : {m p : ℕ} → f ≡ answers.Refused m p → a ≡ answer r (refuse m p) → a ≡ answer r (afterSheet s text g)
   unfolding afterSheet _>>=_
   refused-9 {m} {p} e is = is ∙ rw (rules-bad (readRules text) m p (sym e ∙ h .is))
@@ -68,9 +68,29 @@ module _ (s : Sheet) (text : List ℕ) (g : Given) (r : Room) {a : alone.Answer}
 
 -- ---- 14
 
-roomy-is : (r : Room) → Roomy r → roomy r ≡ true
+-- the test of the lent outputs
+module _ (bytes offsets entries : ℕ) where
+  pub no-bytes : bytes < maxCode → false ≡ roomy (roomOf bytes offsets entries)
+  unfolding roomy
+  no-bytes h = rw (lt-leb _ _ h)
+
+  module _ (b : maxCode ≤ bytes) where
+    pub no-offsets : offsets < maxProtected → false ≡ roomy (roomOf bytes offsets entries)
+    unfolding roomy
+    no-offsets h = rw (le-leb _ _ b, lt-leb _ _ h)
+
+    pub by-entries : maxProtected ≤ offsets → leb (maxLines * entrySize) entries ≡ roomy (roomOf bytes offsets entries)
+    unfolding roomy
+    by-entries h = rw (le-leb _ _ b, le-leb _ _ h)
+
+pub roomy-is : {r : Room} → roomy r ≡ true → Roomy r
 unfolding roomy
-roomy-is r m = rw (le-leb _ _ (m .code), le-leb _ _ (m .protected), le-leb _ _ (m .lines))
+roomy-is {r} = go (leb maxCode (r .code)) refl (leb maxProtected (r .protected)) refl
+  where
+    go : (t : Bool) → leb maxCode (r .code) ≡ t → (u : Bool) → leb maxProtected (r .protected) ≡ u → t && (u && leb (maxLines * entrySize) (r .lines)) ≡ true → Roomy r
+    go true a true b e = record { code = leb-true _ _ a; protected = leb-true _ _ b; lines = leb-true _ _ e }
+    go true a false b e = absurd (let z : _≡_ {A = ℕ} 0 1 = cc in omega arith)
+    go false a u b e = absurd (let z : _≡_ {A = ℕ} 0 1 = cc in omega arith)
 
 -- a place at fault, if the sheet is bad
 place-by : (sheet : List ℕ) (o : Option Sheet) → readSheet sheet ≡ o → (n : ℕ) × Free sheet n
@@ -83,38 +103,26 @@ unfolding rewriteInto rewriteFiles afterSheet afterRules afterLimits
 order sheet rules g r place = refl
 
 module _ (sheet rules : List ℕ) (g : Given) (r : Room) {a : alone.Answer} where
-  short : roomy r ≡ false → a ≡ answer r (refuse 14 0) → Rewrites r sheet rules g a
+  pub short : roomy r ≡ false → a ≡ answer r (refuse 14 0) → Rewrites r sheet rules g a
   unfolding _>>_ demand
   short off is =
       let f = place-by sheet (readSheet sheet) refl in
       record { place = f .0; free = f .1; is = is ∙ rw (order sheet rules g r (f .0), off) }
 
-  pub short-code : r .code < maxCode → a ≡ answer r (refuse 14 0) → Rewrites r sheet rules g a
-  unfolding roomy
-  short-code h is = short (rw (lt-leb _ _ h)) is
-
-  pub short-protected : maxCode ≤ r .code → r .protected < maxProtected → a ≡ answer r (refuse 14 0) → Rewrites r sheet rules g a
-  unfolding roomy
-  short-protected c h is = short (rw (le-leb _ _ c, lt-leb _ _ h)) is
-
-  pub short-lines : maxCode ≤ r .code → maxProtected ≤ r .protected → r .lines < maxLines * entrySize → a ≡ answer r (refuse 14 0) → Rewrites r sheet rules g a
-  unfolding roomy
-  short-lines c p h is = short (rw (le-leb _ _ c, le-leb _ _ p, lt-leb _ _ h)) is
-
   -- ---- 7, and the rest
-  module _ (table : List ℕ) (f : SheetRead) (room : Roomy r) (h : Answers sheet table (answerOf f)) where
-    pub refused-7 : {p : ℕ} → f ≡ Refused p → a ≡ answer r (refuse 7 p) → Rewrites r sheet rules g a
+  module _ (table : List ℕ) (f : SheetRead) (room : roomy r ≡ true) (h : Reads sheet table (answerOf f)) where
+    pub refused-7 : {n p : ℕ} → f ≡ Refused n p → a ≡ answer r (refuse n p) → Rewrites r sheet rules g a
     unfolding _>>_ _>>=_ demand given Free
-    refused-7 {p} e is =
-        let d : Refuses sheet table badSheet p = rw e at h in
-        record { place = p; free = λ _. d .fault; is = is ∙ rw (order sheet rules g r p, roomy-is r room, d .is) }
+    refused-7 {n} {p} e is =
+        let d : Refuses sheet table n p = rw e at h in
+        record { place = p; free = λ _. d .fault; is = is ∙ rw (order sheet rules g r p, room, d .is, d .number) }
 
     pub after-sheet : f ≡ Accepted → a ≡ answer r (afterSheet (sheetIn table) rules g) → Rewrites r sheet rules g a
     unfolding _>>_ _>>=_ demand given Free
     after-sheet e is =
         let d : Accepts sheet table = rw e at h in
         let good = d .is in
-        record { place = 0; free = λ q. absurd (let z : _≡_ {A = ℕ} 0 1 = cc in omega arith); is = is ∙ rw (order sheet rules g r 0, roomy-is r room, d .is) }
+        record { place = 0; free = λ q. absurd (let z : _≡_ {A = ℕ} 0 1 = cc in omega arith); is = is ∙ rw (order sheet rules g r 0, room, d .is) }
 
-pub sheet-ready : (sheet table : List ℕ) (f : SheetRead) → Answers sheet table (answerOf f) → f ≡ Accepted → IsTable table
+pub sheet-ready : (sheet table : List ℕ) (f : SheetRead) → Reads sheet table (answerOf f) → f ≡ Accepted → IsTable table
 sheet-ready sheet table f h e = let d : Accepts sheet table = rw e at h in d .ready

@@ -1,7 +1,7 @@
 -- Outputs filled with a list and 0 behind it, and code rewritten in them.
 use mathlib.Core.Path.{_≡_, refl, ap, sym, _∙_}
-use mathlib.Core.List.{List, [], _∷_, _++_, map, append-nil}
-use Prim.Native.Nat.{ℕ, zero, suc, _+_, _-_, _≤_, _<_}
+use mathlib.Core.List.{List, _++_, map}
+use Prim.Native.Nat.{ℕ, _+_, _-_, _≤_, _<_}
 use native.Mathlib.Numerals.{add-one}
 use native.Mathlib.Omega.{arith}
 use lib.ListN.{length, take, drop, set, getD, length-set, length-append, length-map}
@@ -11,7 +11,7 @@ use Rattle.definition.specs.Rules.{Rule}
 use Rattle.definition.specs.Lent.{filled, zeros}
 use Rattle.definition.specs.Optimize.{Pipeline, run}
 use Rattle.rewrite.proofs.Copy.{length-zeros}
-use Rattle.optimize.specs.View.{Small, Runnable, pipeline, passes, mapIn, Ran, Rewrote}
+use Rattle.optimize.specs.View.{Runnable, pipeline, passes, Ran, Rewrote}
 use Rattle.optimize.proofs.Runs.{front, refilled}
 
 -- ---- filling

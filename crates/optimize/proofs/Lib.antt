@@ -4,6 +4,6 @@ pub mod Lines
 pub mod Bounds
 pub mod Runs
 pub mod Filling
-pub mod Alone
+pub mod Handed
 pub mod Whole
 pub mod Entry

@@ -3,24 +3,23 @@ use mathlib.Core.Path.{_≡_, refl, ap, sym, _∙_}
 use mathlib.Core.Bool.{Bool, true, false, _||_}
 use mathlib.Core.Option.{Option, some, none}
 use mathlib.Core.List.{List, [], _∷_, _++_, map, append-assoc}
-use Prim.Native.Nat.{ℕ, zero, suc, _+_, _-_, _≤_, _<_}
+use Prim.Native.Nat.{ℕ, zero, suc, _+_, _-_, _≤_}
 use native.Mathlib.Omega.{arith}
-use borrow.Author.Tests.{eqb-true, eqb-false}
-use lib.Dec.{eqb}
 use lib.ListN.{length, take, drop, getD, length-append}
 use lib.Seq.{take-at, drop-at, length-take-le}
+use Rattle.definition.specs.Limits.{maxCode}
 use Rattle.definition.specs.Field.{has}
 use Rattle.definition.specs.Opcode.{Sheet}
-use Rattle.definition.specs.Rules.{Action, keep, Rule, matches}
+use Rattle.definition.specs.Rules.{Action, Rule}
 use Rattle.definition.specs.Emit as def
-use Rattle.definition.specs.Rewrite.{Bytes, Matcher, OffsetMap, decode, instruction, actions, movedTo, offsets, applyPeephole, boundariesFrom}
-use Rattle.definition.specs.Optimize.{Pipeline, mapThrough, run, identity, optimize, remapLineMap, isLast}
+use Rattle.definition.specs.Rewrite.{Bytes, Matcher, OffsetMap, decode, instruction, actions, movedTo, offsets, applyPeephole}
+use Rattle.definition.specs.Optimize.{Pipeline, mapThrough, run}
 use Rattle.definition.specs.Lent.{filled, zeros}
 use Rattle.rules.specs.View.{rulesIn}
 use Rattle.rewrite.specs.View.{marked, matcher, Peephole}
 use Rattle.rewrite.proofs.Copy.{length-zeros}
-use Rattle.rewrite.proofs.Pass.{acts-pair, paired, moved-here, moved-past}
-use Rattle.optimize.specs.View.{Small, Marks, mapFrom, mapIn, Runnable, Ran, pipeline}
+use Rattle.rewrite.proofs.Pass.{acts-pair, paired}
+use Rattle.optimize.specs.View.{Marks, mapFrom, mapIn, Runnable, Ran, pipeline}
 use Rattle.optimize.proofs.Tables.{moved-in}
 
 -- ---- a pass asks only which offsets are protected
@@ -70,14 +69,14 @@ unfolding mapFrom mapThrough
 map-from m at [] = refl
 map-from m at (y ∷ ys) = ap (λ (r : OffsetMap). (at, movedTo m y) ∷ r) (map-from m (suc at) ys)
 
-small-map : (f : ℕ → ℕ) (xs : List ℕ) → ((x : ℕ) → f x ≤ 16384) → (i : ℕ) → getD (map f xs) i 0 ≤ 16384
+small-map : (f : ℕ → ℕ) (xs : List ℕ) → ((x : ℕ) → f x ≤ maxCode) → (i : ℕ) → getD (map f xs) i 0 ≤ maxCode
 small-map f [] h i = omega arith
 small-map f (x ∷ xs) h zero = h x
 small-map f (x ∷ xs) h (suc i) = small-map f xs h i
 
 -- ---- one pass
 
-pub ran : (s : Sheet) (rules : List ℕ) (count pass : ℕ) {protected marks code code′ moves protected′ total′ : List ℕ} {n : ℕ} (total : List ℕ) → length code ≤ 16384
+pub ran : (s : Sheet) (rules : List ℕ) (count pass : ℕ) {protected marks code code′ moves protected′ total′ : List ℕ} {n : ℕ} (total : List ℕ) → length code ≤ maxCode
     → Marks protected marks → Peephole (applyPeephole s (matcher rules count pass) (marked marks) code) code code′ moves n
     → protected′ ≡ map (movedTo (mapIn moves)) protected → total′ ≡ map (movedTo (mapIn moves)) total
     → Ran (run s (rulesIn rules count) pass (pipeline code protected total)) code code′ protected′ total′ n

@@ -1,21 +1,22 @@
 -- Tables by offset: as maps, as sets of marks and of fixed offsets; offsets marked and moved.
-use mathlib.Core.Path.{_≡_, refl, ap, sym, _∙_}
-use mathlib.Core.Bool.{Bool, true, false, not, _||_}
-use mathlib.Core.List.{List, [], _∷_, _++_, map, append-assoc, append-nil}
+use mathlib.Core.Path.{_≡_, refl, sym, _∙_}
+use mathlib.Core.Bool.{Bool, true, false, _||_}
+use mathlib.Core.List.{List, [], _∷_, _++_, map, append-nil}
 use Prim.Native.Nat.{ℕ, zero, suc, _+_, _≤_, _<_}
 use native.Mathlib.Nat.{add-zero}
 use native.Mathlib.Numerals.{add-one}
 use native.Mathlib.Omega.{arith}
-use borrow.Author.Tests.{eq-eqb, ne-eqb, eqb-true, eqb-false, leb-true, leb-false}
+use borrow.Author.Tests.{ne-eqb, eqb-true, eqb-false, leb-true, leb-false}
 use lib.ListN.{length, getD, set, take, drop, length-set, drop-of-length-le, replicate, length-replicate, List·getD-eq-default}
 use lib.Dec.{eqb, leb}
 use lib.Seq.{getD-set-same, getD-set-other, drop-cons, take-suc-set, drop-set-lt, take-all, append-snoc}
+use Rattle.definition.specs.Limits.{maxCode}
 use Rattle.definition.specs.Field.{has}
-use Rattle.definition.specs.Rewrite.{OffsetMap, movedTo}
-use Rattle.rewrite.specs.View.{marked, Clear}
-use Rattle.rewrite.proofs.Marked.{has-here, has-past, isMark, has-marked}
+use Rattle.definition.specs.Rewrite.{movedTo}
+use Rattle.rewrite.specs.View.{isMark, slotCount, Clear}
+use Rattle.rewrite.proofs.Marked.{has-here, has-past, has-where, has-marked}
 use Rattle.rewrite.proofs.Pass.{moved-here, moved-past}
-use Rattle.optimize.specs.View.{Small, Marks, mapFrom, mapIn, fixedFrom, fixedIn}
+use Rattle.optimize.specs.View.{Small, Marks, mapFrom, mapIn, fixedIn}
 
 -- ---- a table as a map
 
@@ -44,61 +45,12 @@ moved-past-end table x e h = sym (moved-in table x ∙ List·getD-eq-default tab
 
 -- ---- a table's fixed offsets
 
-fixed-cons : (at y : ℕ) (ys : List ℕ) (t : Bool) → eqb y at ≡ t → fixedFrom at (y ∷ ys) ≡ elim t [ true ↦ at ∷ fixedFrom (suc at) ys | false ↦ fixedFrom (suc at) ys ]
-unfolding fixedFrom
-fixed-cons at y ys true e = rw (e, fixedFrom)
-fixed-cons at y ys false e = rw (e, fixedFrom)
-
-skip : (at y x : ℕ) (ys : List ℕ) (b : Bool) → (x ≡ at → ⊥) → has (fixedFrom (suc at) ys) x ≡ b → has (fixedFrom at (y ∷ ys)) x ≡ b
-skip at y x ys b h e = byTest (eqb y at) refl
-  where
-    byTest : (t : Bool) → eqb y at ≡ t → has (fixedFrom at (y ∷ ys)) x ≡ b
-    byTest true q = rw (fixed-cons at y ys true q) (has-past x at (fixedFrom (suc at) ys) h ∙ e)
-    byTest false q = rw (fixed-cons at y ys false q) e
-
-has-low : (at x : ℕ) (ys : List ℕ) → x < at → has (fixedFrom at ys) x ≡ false
-unfolding fixedFrom has
-has-low at x [] h = refl
-has-low at x (y ∷ ys) h = skip at y x ys false (λ q. omega arith) (has-low (suc at) x ys (omega arith))
-
-has-at : (at y : ℕ) (ys : List ℕ) → has (fixedFrom at (y ∷ ys)) at ≡ eqb y at
-has-at at y ys = byTest (eqb y at) refl
-  where
-    byTest : (t : Bool) → eqb y at ≡ t → has (fixedFrom at (y ∷ ys)) at ≡ eqb y at
-    byTest true e = rw (e, fixed-cons at y ys true e) (has-here at (fixedFrom (suc at) ys))
-    byTest false e = rw (e, fixed-cons at y ys false e) (has-low (suc at) at ys (omega arith))
-
-has-from : (at k : ℕ) (ys : List ℕ) → k < length ys → has (fixedFrom at ys) (at + k) ≡ eqb (getD ys k 0) (at + k)
-has-from at k [] h = absurd (omega arith)
-has-from at zero (y ∷ ys) h = rw (add-zero at) (has-at at y ys)
-has-from at (suc k) (y ∷ ys) h =
-    let step : at + suc k ≡ suc at + k = omega arith in
-    skip at y (at + suc k) ys _ (λ q. omega arith) (rw step (has-from (suc at) k ys (omega arith)))
-
-has-past-end : (at k : ℕ) (ys : List ℕ) → length ys ≤ k → has (fixedFrom at ys) (at + k) ≡ false
-unfolding fixedFrom has
-has-past-end at k [] h = refl
-has-past-end at zero (y ∷ ys) h = absurd (omega arith)
-has-past-end at (suc k) (y ∷ ys) h =
-    let step : at + suc k ≡ suc at + k = omega arith in
-    skip at y (at + suc k) ys _ (λ q. omega arith) (rw step (has-past-end (suc at) k ys (omega arith)))
-
-pub fixed-past : (table : List ℕ) (x : ℕ) → length table ≤ x → has (fixedIn table) x ≡ false
-unfolding fixedIn
-fixed-past table x far = let z : 0 + x ≡ x = omega arith in rw z at (has-past-end 0 x table far)
-
-fixed-at : (table : List ℕ) (x : ℕ) → x < length table → has (fixedIn table) x ≡ eqb (getD table x 0) x
-unfolding fixedIn
-fixed-at table x near = let z : 0 + x ≡ x = omega arith in rw z at (has-from 0 x table near)
-
 pub has-fixed : (table : List ℕ) (x : ℕ) → 1 ≤ length table → has (fixedIn table) x ≡ eqb (getD table x 0) x
-has-fixed table x full = byPlace (leb (length table) x) refl
-  where
-    byPlace : (t : Bool) → leb (length table) x ≡ t → has (fixedIn table) x ≡ eqb (getD table x 0) x
-    byPlace true h =
-        let far = leb-true _ _ h in
-        rw (List·getD-eq-default table 0 far, ne-eqb 0 x (λ e. omega arith)) (fixed-past table x far)
-    byPlace false h = fixed-at table x (leb-false _ _ h)
+unfolding fixedIn
+has-fixed table x full = has-where (λ x y. eqb y x) table x (λ far. ne-eqb 0 x (λ e. omega arith))
+
+fixed-past : (table : List ℕ) (x : ℕ) → 1 ≤ length table → length table ≤ x → has (fixedIn table) x ≡ false
+fixed-past table x full far = has-fixed table x full ∙ rw (List·getD-eq-default table 0 far) (ne-eqb 0 x (λ e. omega arith))
 
 -- ---- marks
 
@@ -112,7 +64,7 @@ or-false false = refl
 
 -- what is left to mark from the i-th on
 pub record Marking (protected marks : List ℕ) (i : ℕ) : Type 0 where
-  pub slots : length marks ≡ 16385
+  pub slots : length marks ≡ slotCount
   pub left : (x : ℕ) → has protected x ≡ (isMark (getD marks x 0) || has (drop i protected) x)
 
 module _ (protected : List ℕ) where
@@ -177,19 +129,19 @@ replicate-none zero x = refl
 replicate-none (suc n) zero = refl
 replicate-none (suc n) (suc x) = replicate-none n x
 
-pub clear-table : (n : ℕ) → n ≡ 16385 → Clear (replicate n 0)
+pub clear-table : (n : ℕ) → n ≡ slotCount → Clear (replicate n 0)
 clear-table n e = record { slots = length-replicate n 0 ∙ e; none = replicate-none n }
 
 never : (b : Bool) → b ≡ true → b ≡ false → ⊥
 never b p q = let z : _≡_ {A = ℕ} 0 1 = cc in omega arith
 
-pub fixed-small : (table : List ℕ) (x : ℕ) → length table ≡ 16385 → has (fixedIn table) x ≡ true → x ≤ 16384
+pub fixed-small : (table : List ℕ) (x : ℕ) → length table ≡ slotCount → has (fixedIn table) x ≡ true → x ≤ maxCode
 fixed-small table x slots h = byPlace (leb (length table) x) refl
   where
-    byPlace : (t : Bool) → leb (length table) x ≡ t → x ≤ 16384
-    byPlace true q = absurd (never _ h (fixed-past table x (leb-true _ _ q)))
+    byPlace : (t : Bool) → leb (length table) x ≡ t → x ≤ maxCode
+    byPlace true q = absurd (never _ h (fixed-past table x (omega arith) (leb-true _ _ q)))
     byPlace false q = omega (arith, leb-false (length table) x q)
 
 -- one offset's test in code
-pub is-fixed : (table : List ℕ) (x y : ℕ) → length table ≡ 16385 → y ≡ movedTo (mapIn table) x → eqb y x ≡ has (fixedIn table) x
+pub is-fixed : (table : List ℕ) (x y : ℕ) → length table ≡ slotCount → y ≡ movedTo (mapIn table) x → eqb y x ≡ has (fixedIn table) x
 is-fixed table x y slots e = rw (e, moved-in table x) (sym (has-fixed table x (omega arith)))

@@ -3,25 +3,25 @@ use mathlib.Core.Path.{_≡_, refl, ap, sym, _∙_}
 use mathlib.Core.Bool.{Bool, true, false, _||_}
 use mathlib.Core.Option.{Option, some, none}
 use mathlib.Core.List.{List, [], _∷_, _++_, map}
-use Prim.Native.Nat.{ℕ, zero, suc, _+_, _-_, _*_, _/_, _≤_, _<_}
+use Prim.Native.Nat.{ℕ, _+_, _-_, _/_, _≤_}
 use native.Mathlib.Omega.{arith}
-use borrow.Author.Tests.{eqb-true, eqb-false, le-leb, lt-leb}
+use borrow.Author.Tests.{eqb-true, eqb-false, leb-true}
 use lib.Dec.{eqb, leb}
 use lib.ListN.{length, getD, take}
 use Rattle.definition.specs.Opcode.{Sheet}
 use Rattle.definition.specs.Rules.{Action, Rule, matches}
 use Rattle.definition.specs.Emit as def
-use Rattle.definition.specs.Rewrite.{Bytes, Matcher, OffsetMap, decode, offsets, movedTo, applyPeephole}
-use Rattle.definition.specs.Optimize.{Pipeline, mapThrough, run, identity, optimize, remapLineMap, isLast}
+use Rattle.definition.specs.Rewrite.{Bytes, Matcher, OffsetMap, offsets, movedTo, applyPeephole}
+use Rattle.definition.specs.Optimize.{mapThrough, run, identity, optimize, remapLineMap, isLast}
 use Rattle.rewrite.proofs.Pass.{moved-here, moved-past}
 use Rattle.definition.specs.Limits.{maxCode, maxProtected, maxLines, entrySize, badCode, codeFull, labelsFull, linesFull}
 use Rattle.definition.specs.Res.{Res, ok, refuse, _>>_, demand}
-use Rattle.definition.specs.Lent.{zeros, filled, entriesOf, entryNumbers}
+use Rattle.definition.specs.Lent.{zeros, entriesOf}
 use Rattle.definition.specs.Alone as def-alone
 use Rattle.definition.specs.Alone.{Given, Room, checked, rewritten, answer}
 use Rattle.optimize.specs.declared.Offset.{Offset}
 use Rattle.optimize.specs.declared.Offset.the-variants.{Fine, Bad}
-use Rattle.optimize.specs.View.{pipeline, passes, mapIn, Bounds, given, room, answerView, Passed, Rewrote, Remaps, Roomy, Within, afterLimits, afterRules}
+use Rattle.optimize.specs.View.{pipeline, passes, mapIn, given, room, answerView, Passed, Rewrote, Remaps, Roomy, Within, overLimit, afterLimits, afterRules}
 use Rattle.optimize.proofs.Tables.{moved-in}
 use Rattle.optimize.proofs.Lines.{remap-test}
 use Rattle.optimize.proofs.Filling.{as-many}
@@ -130,24 +130,40 @@ limits : (s : Sheet) (rs : List Rule) (g : Given) → afterRules s rs g
 unfolding afterRules
 limits s rs g = refl
 
-module _ (s : Sheet) (rs : List Rule) (g : Given) (r : Room) {a : def-alone.Answer} where
-  pub over-code : maxCode < length (g .code) → a ≡ answer r (refuse 10 0) → a ≡ answer r (afterRules s rs g)
-  unfolding _>>_ demand
-  over-code h is = is ∙ rw (limits s rs g, lt-leb _ _ h)
+limit-kept : (code protected entries : ℕ) {n : ℕ} → n ≡ overLimit code protected entries → n ≡ 0 → (code ≤ maxCode) × (protected ≤ maxProtected) × (entries ≤ maxLines)
+unfolding overLimit
+limit-kept code protected entries = go (leb code maxCode) refl (leb protected maxProtected) refl (leb entries maxLines) refl
+  where
+    go : (t : Bool) → leb code maxCode ≡ t → (u : Bool) → leb protected maxProtected ≡ u → (v : Bool) → leb entries maxLines ≡ v
+        → {n : ℕ} → n ≡ elim t [ true ↦ elim u [ true ↦ elim v [ true ↦ 0 | false ↦ linesFull ] | false ↦ labelsFull ] | false ↦ codeFull ] → n ≡ 0
+        → (code ≤ maxCode) × (protected ≤ maxProtected) × (entries ≤ maxLines)
+    go true a true b true d e z = (leb-true code maxCode a, leb-true protected maxProtected b, leb-true entries maxLines d)
+    go true a true b false d e z = absurd (omega arith)
+    go true a false b v d e z = absurd (omega arith)
+    go false a u b v d e z = absurd (omega arith)
 
-  module _ (c : length (g .code) ≤ maxCode) where
-    pub over-protected : maxProtected < length (g .protected) → a ≡ answer r (refuse 11 0) → a ≡ answer r (afterRules s rs g)
-    unfolding _>>_ demand
-    over-protected h is = is ∙ rw (limits s rs g, le-leb _ _ c, lt-leb _ _ h)
+-- what follows the limits' tests, t, u and v
+by-limits : {A : Type 0} (t u v : Bool) (x : Res A) {n : ℕ} → n ≡ elim t [ true ↦ elim u [ true ↦ elim v [ true ↦ 0 | false ↦ linesFull ] | false ↦ labelsFull ] | false ↦ codeFull ]
+    → ((n ≡ 0 → ⊥) → (demand t codeFull 0 >> (demand u labelsFull 0 >> (demand v linesFull 0 >> x))) ≡ refuse n 0)
+    × (n ≡ 0 → (demand t codeFull 0 >> (demand u labelsFull 0 >> (demand v linesFull 0 >> x))) ≡ x)
+unfolding _>>_ demand
+by-limits true true true x e = (λ h. absurd (h e), λ _. refl)
+by-limits true true false x e = (λ _. rw e, λ z. absurd (omega arith))
+by-limits true false v x e = (λ _. rw e, λ z. absurd (omega arith))
+by-limits false u v x e = (λ _. rw e, λ z. absurd (omega arith))
 
-    module _ (p : length (g .protected) ≤ maxProtected) where
-      pub over-lines : maxLines < length (g .lines) / 3 → a ≡ answer r (refuse 12 0) → a ≡ answer r (afterRules s rs g)
-      unfolding _>>_ demand
-      over-lines h is = is ∙ rw (limits s rs g, le-leb _ _ c, le-leb _ _ p, count-entries (g .lines), lt-leb _ _ h)
+module _ (s : Sheet) (rs : List Rule) (g : Given) (r : Room) {n : ℕ} (e : n ≡ overLimit (length (g .code)) (length (g .protected)) (length (g .lines) / entrySize)) where
+  tested : ((n ≡ 0 → ⊥) → afterRules s rs g ≡ refuse n 0) × (n ≡ 0 → afterRules s rs g ≡ afterLimits s rs g)
+  unfolding overLimit
+  tested = rw (limits s rs g, count-entries (g .lines)) (by-limits _ _ _ (afterLimits s rs g) e)
 
-      pub within-limits : length (g .lines) / 3 ≤ maxLines → a ≡ answer r (afterLimits s rs g) → a ≡ answer r (afterRules s rs g)
-      unfolding _>>_ demand
-      within-limits h is = is ∙ rw (limits s rs g, le-leb _ _ c, le-leb _ _ p, count-entries (g .lines), le-leb _ _ h)
+  pub over-limits : {a : def-alone.Answer} → (n ≡ 0 → ⊥) → a ≡ answer r (refuse n 0) → a ≡ answer r (afterRules s rs g)
+  over-limits h is = is ∙ ap (answer r) (sym (tested .0 h))
 
-pub holds : {g : Given} {r : Room} → Roomy r → length (g .code) ≤ maxCode → length (g .protected) ≤ maxProtected → length (g .lines) / 3 ≤ maxLines → Within g r
-holds m c p l = record { few = c; code = omega (arith, m .code); protected = omega (arith, m .protected); lines = omega (arith, m .lines) }
+  pub within-limits : {a : def-alone.Answer} → n ≡ 0 → a ≡ answer r (afterLimits s rs g) → a ≡ answer r (afterRules s rs g)
+  within-limits z is = is ∙ ap (answer r) (sym (tested .1 z))
+
+  pub holds : n ≡ 0 → Roomy r → Within g r
+  holds z m =
+      let k = limit-kept _ _ _ e z in
+      record { few = k .0; code = omega (arith, m .code, k .0); protected = omega (arith, m .protected, k .1); lines = omega (arith, m .lines, k .2) }

@@ -1,7 +1,7 @@
 -- What this crate's functions give, said of the definition.
-use Prim.Native.Nat.{ℕ, _+_, _*_, _/_, _≤_, suc, zero}
+use Prim.Native.Nat.{ℕ, _*_, _/_, _≤_, suc}
 use mathlib.Core.Path.{_≡_}
-use mathlib.Core.Bool.{Bool, true, false}
+use mathlib.Core.Bool.{true, false}
 use mathlib.Core.List.{List, [], _∷_, map}
 use mathlib.Core.Option.{Option, some, none}
 use lib.Dec.{eqb, leb}
@@ -13,14 +13,14 @@ use Rattle.definition.specs.Emit as def
 use Rattle.definition.specs.Opcode.{Sheet}
 use Rattle.definition.specs.Rewrite.{OffsetMap, decode, endFrom, movedTo}
 use Rattle.definition.specs.Lent.{filled, entryNumbers, entriesOf}
-use Rattle.definition.specs.Optimize.{Pipeline, run, identity, remapLineMap}
+use Rattle.definition.specs.Optimize.{Pipeline, run, identity}
 use Rattle.definition.specs.Rules.{Rule, readRules}
 use Rattle.opcode.specs.Table.{IsTable}
 use Rattle.rules.specs.View.{IsRules}
 use Rattle.definition.specs.Alone as def-alone
 use Rattle.definition.specs.Alone.{Given, Rewritten, Room, checked, rewritten}
-use Rattle.optimize.specs.declared.Answer.{Answer}
-use Rattle.rewrite.specs.View.{marked}
+use Rattle.optimize.specs.declared.alone.Answer.{Answer}
+use Rattle.rewrite.specs.View.{offsetsWhere, marked, slotCount}
 use Rattle.optimize.specs.declared.LineEntry.{LineEntry}
 use Rattle.optimize.specs.declared.Kept.{Kept}
 use Rattle.optimize.specs.declared.Kept.the-variants.{None, At}
@@ -33,11 +33,11 @@ use Rattle.optimize.specs.declared.Offset.the-variants.{Fine, Bad}
 
 -- offsets that such a table has a place for
 pub record Small (list : List ℕ) : Type 0 where
-  pub at : (i : ℕ) → getD list i 0 ≤ 16384
+  pub at : (i : ℕ) → getD list i 0 ≤ maxCode
 
 -- a table that marks these offsets and no others
 pub record Marks (protected marks : List ℕ) : Type 0 where
-  pub slots : length marks ≡ 16385
+  pub slots : length marks ≡ slotCount
   pub is : (x : ℕ) → has (marked marks) x ≡ has protected x
 
 -- the map that a table is: each offset below its length with what stands there
@@ -49,18 +49,14 @@ unfoldable pub mapIn : List ℕ → OffsetMap
 mapIn table = mapFrom 0 table
 
 -- the offsets that a table leaves where they are
-unfoldable pub fixedFrom : ℕ → List ℕ → List ℕ
-fixedFrom at [] = []
-fixedFrom at (y ∷ ys) = elim (eqb y at) [ true ↦ at ∷ fixedFrom (suc at) ys | false ↦ fixedFrom (suc at) ys ]
-
 unfoldable pub fixedIn : List ℕ → List ℕ
-fixedIn table = fixedFrom 0 table
+fixedIn table = offsetsWhere (λ x y. eqb y x) 0 table
 
 -- the starts and the end of some code, each at its own place, and 0 elsewhere; the end is answered
 pub record Bounds (s : Sheet) (code table : List ℕ) (r : ℕ) : Type 0 where
   pub end : r ≡ endFrom 0 (decode s code)
   pub moved : (x : ℕ) → getD table x 0 ≡ movedTo (identity s code) x
-  pub slots : length table ≡ 16385
+  pub slots : length table ≡ slotCount
   pub within : r ≤ length code
 
 -- ---- the code between passes
@@ -76,7 +72,7 @@ passes s rules p = run s rules 3 (run s rules 2 (run s rules 1 p))
 pub record Runnable (sheet rules : List ℕ) (count : ℕ) (code protected : List ℕ) : Type 0 where
   pub table : IsTable sheet
   pub held : IsRules rules count
-  pub few : length code ≤ 16384
+  pub few : length code ≤ maxCode
   pub small : Small protected
 
 -- the slices hold what is left of the code and then 0, the protected offsets and the map so far; the code's length is answered
@@ -144,8 +140,11 @@ pub record Passed (s : Sheet) (g : Given) (table : List ℕ) (r : Offset) : Type
   pub bounds : Bounds s (g .code) table end
   pub small : r ≡ Fine → Small (g .protected)
 
+abbrev pub roomOf : ℕ → ℕ → ℕ → Room
+roomOf bytes offsets entries = record { code = bytes; protected = offsets; lines = entries }
+
 abbrev pub room : List ℕ → List ℕ → List ℕ → Room
-room bytes offsets entries = record { code = length bytes; protected = length offsets; lines = length entries }
+room bytes offsets entries = roomOf (length bytes) (length offsets) (length entries)
 
 -- the answer with what the outputs hold
 abbrev pub answerView : Answer → List ℕ → List ℕ → List ℕ → def-alone.Answer
@@ -173,10 +172,17 @@ pub record Roomy (r : Room) : Type 0 where
 
 -- what is handed over is within the limits, and the outputs have room for it
 pub record Within (g : Given) (r : Room) : Type 0 where
-  pub few : length (g .code) ≤ 16384
+  pub few : length (g .code) ≤ maxCode
   pub code : length (g .code) ≤ r .code
   pub protected : length (g .protected) ≤ r .protected
   pub lines : 3 * (length (g .lines) / 3) ≤ r .lines
+
+-- the refusal of what is over its limit; 0 if nothing is
+unfoldable pub overLimit : ℕ → ℕ → ℕ → ℕ
+overLimit code protected entries = elim (leb code maxCode) [
+  | true ↦ elim (leb protected maxProtected) [ true ↦ elim (leb entries maxLines) [ true ↦ 0 | false ↦ linesFull ] | false ↦ labelsFull ]
+  | false ↦ codeFull
+]
 
 -- what is left of the call after 10, 11 and 12, and before them
 unfoldable pub afterLimits : Sheet → List Rule → Given → Res Rewritten

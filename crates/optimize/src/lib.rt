@@ -2,20 +2,23 @@
 ghost use mathlib.Core.Path.{_≡_};
 ghost use mathlib.Core.List.{map, [], _∷_, _++_};
 ghost use mathlib.Core.Option.{none};
-ghost use Prim.Native.Nat.{ℕ, _+_, _-_, _*_, _/_, _≤_};
+ghost use Prim.Native.Nat.{_+_, _-_, _*_, _/_, _≤_};
 ghost use lib.ListN.{length, take};
+ghost use Rattle.definition.specs.Limits.{maxCode};
 ghost use Rattle.definition.specs.Field.{has};
 ghost use Rattle.definition.specs.Rewrite.{movedTo};
-ghost use Rattle.definition.specs.Res.{refuse};
-ghost use Rattle.definition.specs.Alone.{boundaries, answer, Rewrites};
+ghost use Rattle.definition.specs.Alone.{boundaries};
 ghost use Rattle.definition.specs.Lent.{filled, entryNumbers, entriesOf, zeros};
 ghost use Rattle.definition.specs.Optimize.{run, remapLineMap};
 ghost use Rattle.opcode.specs.Table.{IsTable, sheetIn};
 ghost use Rattle.rules.specs.View.{rulesIn};
-ghost use Rattle.rewrite.specs.View.{Puts, Clear};
-ghost use Rattle.optimize.specs.View.{Small, Marks, Bounds, Runnable, pipeline, passes, Ran, Rewrote, Passed, given, room, answerView, Tables, Within, Roomy, afterLimits, afterRules, afterSheet, mapIn, fixedIn, Checks, offsetView, entryOffsets, entryView, keptView, remappedView, lastAfter, Remaps};
-use opcode::sheet::SheetRead;
-use rules::RuleAnswer;
+ghost use Rattle.rewrite.specs.View.{slotCount, Puts, Clear};
+ghost use Rattle.optimize.specs.View.{Small, Marks, Bounds, Runnable, pipeline, passes, Ran, Rewrote, Passed, given, mapIn, fixedIn, Checks, offsetView, entryOffsets, entryView, keptView, remappedView, lastAfter, Remaps};
+
+pub mod alone; // alone.rt: the entry that is called alone
+
+pub use alone::Answer;
+pub use alone::rewrite_alone;
 
 // What the check of a list of offsets finds.
 pub enum Offset {
@@ -84,7 +87,7 @@ fn mark(protected: &[u16], marks: &mut [u8])
 // The starts of the instructions and their end, each listed at its own place of a table.
 fn list_boundaries(sheet: &[u8], code: &[u8], table: &mut [u16]) -> usize
     requires { ⌜ IsTable (now sheet) ⌝ }
-    requires { ⌜ length (now code) ≤ 16384 ⌝ }
+    requires { ⌜ length (now code) ≤ maxCode ⌝ }
     requires { ⌜ Clear (now table) ⌝ }
     ensures { λ r. ⌜ Bounds (sheetIn (now (sheet .entry))) (now (code .entry)) (now (table .exit)) r ⌝ }
 {
@@ -102,7 +105,7 @@ fn list_boundaries(sheet: &[u8], code: &[u8], table: &mut [u16]) -> usize
 
 // Whether a table of starts and the end leaves an offset where it is.
 fn is_boundary(table: &[u16], x: u16) -> bool
-    requires { ⌜ length (now table) ≡ 16385 ⌝ }
+    requires { ⌜ length (now table) ≡ slotCount ⌝ }
     ensures { λ r. ⌜ r ≡ has (fixedIn (now (table .entry))) x ⌝ }
 {
     moved_to(table, x) == x
@@ -110,7 +113,7 @@ fn is_boundary(table: &[u16], x: u16) -> bool
 
 // The first of the protected offsets that is no boundary.
 fn check_protected(table: &[u16], list: &[u16]) -> Offset
-    requires { ⌜ length (now table) ≡ 16385 ⌝ }
+    requires { ⌜ length (now table) ≡ slotCount ⌝ }
     ensures { λ r. ⌜ Checks (boundaries (fixedIn (now (table .entry))) (now (list .entry))) (now (list .entry)) r ⌝ }
 {
     let mut i = 0;
@@ -126,7 +129,7 @@ fn check_protected(table: &[u16], list: &[u16]) -> Offset
 
 // The first of the line entries' offsets that is no boundary.
 fn check_lines(table: &[u16], lines: &[u16]) -> Offset
-    requires { ⌜ length (now table) ≡ 16385 ⌝ }
+    requires { ⌜ length (now table) ≡ slotCount ⌝ }
     ensures { λ r. ⌜ offsetView r ≡ boundaries (fixedIn (now (table .entry))) (entryOffsets (now (lines .entry))) ⌝ }
 {
     let mut i = 0;
@@ -249,9 +252,9 @@ fn run(
     requires { ⌜ Runnable (now sheet) (now rules) count (now code) (now protected) ⌝ }
     ensures { λ r. ⌜ Ran (run (sheetIn (now (sheet .entry))) (rulesIn (now (rules .entry)) count) pass (pipeline (now (code .entry)) (now (protected .entry)) (now (total .entry)))) (now (code .entry)) (now (code .exit)) (now (protected .exit)) (now (total .exit)) r ⌝ }
 {
-    let mut marks = [0u8; 16385];
+    let mut marks = [0u8; rewrite::SLOTS];
     mark(protected, &mut marks);
-    let mut moves = [0u16; 16385];
+    let mut moves = [0u16; rewrite::SLOTS];
     let n = rewrite::apply_peephole(sheet, rules, count, pass, &marks, code, &mut moves);
     move_all(&moves, protected);
     move_all(&moves, total);
@@ -334,7 +337,7 @@ fn rewrite_into(
 // 8, in its order: code, then protected offsets, then line offsets. The table then lists the boundaries.
 fn check(sheet: &[u8], code: &[u8], protected: &[u16], lines: &[u16], table: &mut [u16]) -> Offset
     requires { ⌜ IsTable (now sheet) ⌝ }
-    requires { ⌜ length (now code) ≤ 16384 ⌝ }
+    requires { ⌜ length (now code) ≤ maxCode ⌝ }
     requires { ⌜ Clear (now table) ⌝ }
     ensures { λ r. ⌜ Passed (sheetIn (now (sheet .entry))) (given (now (code .entry)) (now (protected .entry)) (now (lines .entry))) (now (table .exit)) r ⌝ }
 {
@@ -345,198 +348,5 @@ fn check(sheet: &[u8], code: &[u8], protected: &[u16], lines: &[u16], table: &mu
     match check_protected(table, protected) {
         Offset::Bad(x) => Offset::Bad(x),
         Offset::Fine => check_lines(table, lines),
-    }
-}
-
-// ---- called alone
-
-// What is answered: a refusal's number and place, or 0, 0 and how many bytes, protected offsets and entries the outputs hold.
-pub struct Answer {
-    pub number: u8,
-    pub place: u32,
-    pub bytes: usize,
-    pub protected: usize,
-    pub entries: usize,
-}
-
-// A refusal, which zeroes every output.
-fn refuse(
-    number: u8,
-    place: u32,
-    bytes: &mut [u8],
-    offsets: &mut [u16],
-    entries: &mut [u16],
-) -> Answer
-    ensures { λ r. ⌜ answerView r (now (bytes .exit)) (now (offsets .exit)) (now (entries .exit)) ≡ answer (room (now (bytes .entry)) (now (offsets .entry)) (now (entries .entry))) (refuse number place) ⌝ }
-{
-    rewrite::zero_from(bytes, 0);
-    zero_from(offsets, 0);
-    zero_from(entries, 0);
-    Answer {
-        number: number,
-        place: place,
-        bytes: 0,
-        protected: 0,
-        entries: 0,
-    }
-}
-
-fn place_of(x: u16) -> u32
-    ensures { λ r. ⌜ r ≡ x ⌝ }
-{
-    x as u32
-}
-
-// Within the limits: 8, or the code rewritten and the lines mapped.
-fn rewrite_checked(
-    sheet: &[u8],
-    rules: &[u16],
-    count: usize,
-    code: &[u8],
-    protected: &[u16],
-    lines: &[u16],
-    bytes: &mut [u8],
-    offsets: &mut [u16],
-    entries: &mut [u16],
-) -> Answer
-    requires { ⌜ Tables (now sheet) (now rules) count ⌝ }
-    requires { ⌜ Within (given (now code) (now protected) (now lines)) (room (now bytes) (now offsets) (now entries)) ⌝ }
-    ensures { λ r. ⌜ answerView r (now (bytes .exit)) (now (offsets .exit)) (now (entries .exit)) ≡ answer (room (now (bytes .entry)) (now (offsets .entry)) (now (entries .entry))) (afterLimits (sheetIn (now (sheet .entry))) (rulesIn (now (rules .entry)) count) (given (now (code .entry)) (now (protected .entry)) (now (lines .entry)))) ⌝ }
-{
-    let mut total = [0u16; 16385];
-    match check(sheet, code, protected, lines, &mut total) {
-        Offset::Bad(x) => {
-            let place = place_of(x);
-            refuse(8, place, bytes, offsets, entries)
-        }
-        Offset::Fine => {
-            let k = protected.len();
-            let n = rewrite_into(
-                sheet,
-                rules,
-                count,
-                code,
-                protected,
-                bytes,
-                offsets,
-                &mut total,
-            );
-            let e = remap_line_map(&total, n, lines, entries);
-            Answer {
-                number: 0,
-                place: 0,
-                bytes: n,
-                protected: k,
-                entries: e,
-            }
-        }
-    }
-}
-
-// 10, 11 and 12, then the rest.
-fn rewrite_limited(
-    sheet: &[u8],
-    rules: &[u16],
-    count: usize,
-    code: &[u8],
-    protected: &[u16],
-    lines: &[u16],
-    bytes: &mut [u8],
-    offsets: &mut [u16],
-    entries: &mut [u16],
-) -> Answer
-    requires { ⌜ Tables (now sheet) (now rules) count ⌝ }
-    requires { ⌜ Roomy (room (now bytes) (now offsets) (now entries)) ⌝ }
-    ensures { λ r. ⌜ answerView r (now (bytes .exit)) (now (offsets .exit)) (now (entries .exit)) ≡ answer (room (now (bytes .entry)) (now (offsets .entry)) (now (entries .entry))) (afterRules (sheetIn (now (sheet .entry))) (rulesIn (now (rules .entry)) count) (given (now (code .entry)) (now (protected .entry)) (now (lines .entry)))) ⌝ }
-{
-    if code.len() > 16384 {
-        return refuse(10, 0, bytes, offsets, entries);
-    }
-    if protected.len() > 4096 {
-        return refuse(11, 0, bytes, offsets, entries);
-    }
-    if lines.len() / 3 > 4096 {
-        return refuse(12, 0, bytes, offsets, entries);
-    }
-    rewrite_checked(
-        sheet,
-        rules,
-        count,
-        code,
-        protected,
-        lines,
-        bytes,
-        offsets,
-        entries,
-    )
-}
-
-// The rules read (9), then the rest.
-fn rewrite_ruled(
-    sheet: &[u8],
-    rules: &[u8],
-    code: &[u8],
-    protected: &[u16],
-    lines: &[u16],
-    bytes: &mut [u8],
-    offsets: &mut [u16],
-    entries: &mut [u16],
-) -> Answer
-    requires { ⌜ IsTable (now sheet) ⌝ }
-    requires { ⌜ Roomy (room (now bytes) (now offsets) (now entries)) ⌝ }
-    ensures { λ r. ⌜ answerView r (now (bytes .exit)) (now (offsets .exit)) (now (entries .exit)) ≡ answer (room (now (bytes .entry)) (now (offsets .entry)) (now (entries .entry))) (afterSheet (sheetIn (now (sheet .entry))) (now (rules .entry)) (given (now (code .entry)) (now (protected .entry)) (now (lines .entry)))) ⌝ }
-{
-    let mut table = [0u16; 576];
-    match rules::read_rules(rules, &mut table) {
-        RuleAnswer::Refused(number, place) => refuse(number, place, bytes, offsets, entries),
-        RuleAnswer::Rules(count) => rewrite_limited(
-            sheet,
-            &table,
-            count,
-            code,
-            protected,
-            lines,
-            bytes,
-            offsets,
-            entries,
-        ),
-    }
-}
-
-// Rewriting and line mapping called alone, from any bytes and numbers: line entries are three numbers each, in and out.
-pub fn rewrite_alone(
-    sheet: &[u8],
-    rules: &[u8],
-    code: &[u8],
-    protected: &[u16],
-    lines: &[u16],
-    bytes: &mut [u8],
-    offsets: &mut [u16],
-    entries: &mut [u16],
-) -> Answer
-    ensures { λ r. ⌜ Rewrites (room (now (bytes .entry)) (now (offsets .entry)) (now (entries .entry))) (now (sheet .entry)) (now (rules .entry)) (given (now (code .entry)) (now (protected .entry)) (now (lines .entry))) (answerView r (now (bytes .exit)) (now (offsets .exit)) (now (entries .exit))) ⌝ }
-{
-    if bytes.len() < 16384 {
-        return refuse(14, 0, bytes, offsets, entries);
-    }
-    if offsets.len() < 4096 {
-        return refuse(14, 0, bytes, offsets, entries);
-    }
-    if entries.len() < 12288 {
-        return refuse(14, 0, bytes, offsets, entries);
-    }
-    let mut table = [0u8; 289];
-    match opcode::sheet::read_sheet(sheet, &mut table) {
-        SheetRead::Refused(place) => refuse(7, place, bytes, offsets, entries),
-        SheetRead::Accepted => rewrite_ruled(
-            &table,
-            rules,
-            code,
-            protected,
-            lines,
-            bytes,
-            offsets,
-            entries,
-        ),
     }
 }

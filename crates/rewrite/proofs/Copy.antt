@@ -5,8 +5,8 @@ use Prim.Native.Nat.{ℕ, zero, suc, _+_, _-_, _≤_, _<_, _/_, _%_}
 use native.Mathlib.Numerals.{add-one, add-two}
 use native.Mathlib.Nat.{add-zero}
 use native.Mathlib.Omega.{arith}
-use lib.ListN.{length, take, drop, set, getD, length-set, length-take, length-drop, length-append, take-append-drop}
-use lib.Seq.{length-take-le, getD-drop, getD-take, take-suc-set, take-all, paste, paste-zero, paste-suc, length-paste, drop-paste, sets-eq}
+use lib.ListN.{length, take, drop, set, getD, length-set, length-drop, take-append-drop}
+use lib.Seq.{length-take-le, getD-drop, getD-take, take-suc-set, take-all, paste, paste-zero, paste-suc, drop-paste, sets-eq}
 use Rattle.definition.specs.Rules.{Action, keep, remove, rewriteOperand}
 use Rattle.definition.specs.Emit.{le16}
 use Rattle.definition.specs.Rewrite.{applied, opcodeOf}

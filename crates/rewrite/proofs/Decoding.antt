@@ -2,18 +2,17 @@
 use mathlib.Core.Path.{_≡_, refl, ap, sym, _∙_}
 use mathlib.Core.Bool.{Bool, true, false}
 use mathlib.Core.Option.{Option, some, none}
-use mathlib.Core.List.{List, [], _∷_, _++_, append-assoc}
+use mathlib.Core.List.{List, [], _∷_}
 use Prim.Native.Nat.{ℕ, zero, suc, _+_, _-_, _≤_, _<_}
-use native.Mathlib.Numerals.{add-one}
 use native.Mathlib.Nat.{add-zero}
 use native.Mathlib.Omega.{arith}
-use borrow.Author.Tests.{le-ltb, lt-ltb, le-leb, lt-leb, eq-eqb, ne-eqb, leb-true, leb-false}
-use lib.ListN.{length, take, drop, set, getD, length-set, length-take, length-drop, drop-of-length-le}
-use lib.Dec.{ltb, leb}
+use borrow.Author.Tests.{le-leb, lt-leb, leb-true, leb-false}
+use lib.ListN.{length, take, drop, getD, length-drop, drop-of-length-le}
+use lib.Dec.{leb}
 use lib.Seq.{drop-cons, drop-drop, length-take-le, getD-take, getD-drop}
 use Rattle.definition.specs.Field.{onto}
 use Rattle.definition.specs.Opcode.{Role, Sheet, roleOf, size, traits, row, dup, pop, loadVar, storeVar, loadConst, loadTrue, loadFalse, binary, unary, compare, jmp, jmpIfNot, cmpBr, ret}
-use Rattle.definition.specs.Rewrite.{Bytes, opcodeOf, ends, sizeOr1, cut, decode, startsFrom, endFrom, boundariesFrom}
+use Rattle.definition.specs.Rewrite.{Bytes, opcodeOf, ends, sizeOr1, cut, decode}
 use Rattle.rewrite.specs.View.{firstOf}
 
 -- every instruction has its opcode

@@ -1,16 +1,14 @@
--- A table of marks, and the offsets that it marks.
-use mathlib.Core.Path.{_≡_, refl, ap, sym, _∙_}
-use mathlib.Core.Bool.{Bool, true, false, not, _||_}
+-- The offsets that a table has by a test, such as those that a table of marks marks.
+use mathlib.Core.Path.{_≡_, refl, sym, _∙_}
+use mathlib.Core.Bool.{Bool, true, false, not}
 use mathlib.Core.List.{List, [], _∷_}
 use Prim.Native.Nat.{ℕ, zero, suc, _+_, _≤_, _<_}
-use native.Mathlib.Nat.{add-zero, add-suc, suc-add}
+use native.Mathlib.Nat.{add-zero}
 use native.Mathlib.Omega.{arith}
-use borrow.Author.Tests.{eq-eqb, ne-eqb, eqb-true, eqb-false}
-use lib.ListN.{length, getD, set, drop}
-use lib.Dec.{eqb}
-use lib.Seq.{getD-set-same, getD-set-other, drop-cons}
+use borrow.Author.Tests.{eq-eqb, ne-eqb}
+use lib.ListN.{length, getD}
 use Rattle.definition.specs.Field.{has}
-use Rattle.rewrite.specs.View.{marked, markedFrom}
+use Rattle.rewrite.specs.View.{offsetsWhere, isMark, marked}
 
 pub has-here : (y : ℕ) (ys : List ℕ) → has (y ∷ ys) y ≡ true
 unfolding has
@@ -20,44 +18,46 @@ pub has-past : (x y : ℕ) (ys : List ℕ) → (x ≡ y → ⊥) → has (y ∷ 
 unfolding has
 has-past x y ys h = rw (ne-eqb x y h, has)
 
--- a mark is any number but 0
-unfoldable pub isMark : ℕ → Bool
-isMark n = not (eqb n 0)
+-- ---- the offsets whose number passes a test
 
-marked-cons : (at m : ℕ) (ms : List ℕ) (t : Bool) → eqb m 0 ≡ t → markedFrom at (m ∷ ms) ≡ elim t [ true ↦ markedFrom (suc at) ms | false ↦ at ∷ markedFrom (suc at) ms ]
-unfolding markedFrom
-marked-cons at m ms true e = rw (e, markedFrom)
-marked-cons at m ms false e = rw (e, markedFrom)
+module _ (test : ℕ → ℕ → Bool) where
+  where-cons : (at n : ℕ) (ns : List ℕ) (t : Bool) → test at n ≡ t → offsetsWhere test at (n ∷ ns) ≡ elim t [ true ↦ at ∷ offsetsWhere test (suc at) ns | false ↦ offsetsWhere test (suc at) ns ]
+  unfolding offsetsWhere
+  where-cons at n ns true e = rw (e, offsetsWhere)
+  where-cons at n ns false e = rw (e, offsetsWhere)
 
--- a table's first number is a mark, or none; the rest is as it is
-skip : (at m x : ℕ) (ms : List ℕ) (b : Bool) → (x ≡ at → ⊥) → has (markedFrom (suc at) ms) x ≡ b → has (markedFrom at (m ∷ ms)) x ≡ b
-skip at m x ms b h e = byTest (eqb m 0) refl
-  where
-    byTest : (t : Bool) → eqb m 0 ≡ t → has (markedFrom at (m ∷ ms)) x ≡ b
-    byTest true q = rw (marked-cons at m ms true q) e
-    byTest false q = rw (marked-cons at m ms false q) (has-past x at (markedFrom (suc at) ms) h ∙ e)
+  -- a table's first number passes or not; the rest is as it is
+  skip : (at n x : ℕ) (ns : List ℕ) (b : Bool) → (x ≡ at → ⊥) → has (offsetsWhere test (suc at) ns) x ≡ b → has (offsetsWhere test at (n ∷ ns)) x ≡ b
+  skip at n x ns b h e = byTest (test at n) refl
+    where
+      byTest : (t : Bool) → test at n ≡ t → has (offsetsWhere test at (n ∷ ns)) x ≡ b
+      byTest true q = rw (where-cons at n ns true q) (has-past x at (offsetsWhere test (suc at) ns) h ∙ e)
+      byTest false q = rw (where-cons at n ns false q) e
 
-has-below : (at x : ℕ) (ms : List ℕ) → x < at → has (markedFrom at ms) x ≡ false
-unfolding markedFrom has
-has-below at x [] h = refl
-has-below at x (m ∷ ms) h = skip at m x ms false (λ q. omega arith) (has-below (suc at) x ms (omega arith))
+  has-below : (at x : ℕ) (ns : List ℕ) → x < at → has (offsetsWhere test at ns) x ≡ false
+  unfolding offsetsWhere has
+  has-below at x [] h = refl
+  has-below at x (n ∷ ns) h = skip at n x ns false (λ q. omega arith) (has-below (suc at) x ns (omega arith))
 
-has-first : (at m : ℕ) (ms : List ℕ) → has (markedFrom at (m ∷ ms)) at ≡ isMark m
-unfolding isMark
-has-first at m ms = byTest (eqb m 0) refl
-  where
-    byTest : (t : Bool) → eqb m 0 ≡ t → has (markedFrom at (m ∷ ms)) at ≡ not (eqb m 0)
-    byTest true e = rw (e, marked-cons at m ms true e) (has-below (suc at) at ms (omega arith))
-    byTest false e = rw (e, marked-cons at m ms false e) (has-here at (markedFrom (suc at) ms))
+  has-first : (at n : ℕ) (ns : List ℕ) → has (offsetsWhere test at (n ∷ ns)) at ≡ test at n
+  has-first at n ns = byTest (test at n) refl
+    where
+      byTest : (t : Bool) → test at n ≡ t → has (offsetsWhere test at (n ∷ ns)) at ≡ test at n
+      byTest true e = rw (e, where-cons at n ns true e) (has-here at (offsetsWhere test (suc at) ns))
+      byTest false e = rw (e, where-cons at n ns false e) (has-below (suc at) at ns (omega arith))
 
-has-from : (at k : ℕ) (ms : List ℕ) → has (markedFrom at ms) (at + k) ≡ isMark (getD ms k 0)
-unfolding markedFrom has isMark
-has-from at k [] = refl
-has-from at zero (m ∷ ms) = rw (add-zero at) (has-first at m ms)
-has-from at (suc k) (m ∷ ms) =
-    let step : at + suc k ≡ suc at + k = omega arith in
-    skip at m (at + suc k) ms _ (λ q. omega arith) (rw step (has-from (suc at) k ms))
+  has-from : (at k : ℕ) (ns : List ℕ) → (length ns ≤ k → test (at + k) 0 ≡ false) → has (offsetsWhere test at ns) (at + k) ≡ test (at + k) (getD ns k 0)
+  unfolding offsetsWhere has
+  has-from at k [] h = sym (h (omega arith))
+  has-from at zero (n ∷ ns) h = rw (add-zero at) (has-first at n ns)
+  has-from at (suc k) (n ∷ ns) h =
+      let step : at + suc k ≡ suc at + k = omega arith in
+      skip at n (at + suc k) ns _ (λ q. omega arith) (rw step (has-from (suc at) k ns (λ l. rw step at (h (omega arith)))))
+
+  -- where no offset past the table passes with 0
+  pub has-where : (ns : List ℕ) (x : ℕ) → (length ns ≤ x → test x 0 ≡ false) → has (offsetsWhere test 0 ns) x ≡ test x (getD ns x 0)
+  has-where ns x h = let z : 0 + x ≡ x = omega arith in rw z at (has-from 0 x ns (λ l. rw z (h l)))
 
 pub has-marked : (ms : List ℕ) (x : ℕ) → has (marked ms) x ≡ isMark (getD ms x 0)
-unfolding marked
-has-marked ms x = let z : 0 + x ≡ x = omega arith in rw z at (has-from 0 x ms)
+unfolding marked isMark
+has-marked ms x = has-where (λ x m. isMark m) ms x (λ _. refl)

@@ -4,21 +4,21 @@ use mathlib.Core.Bool.{Bool, true, false, _||_}
 use mathlib.Core.Option.{Option, some, none}
 use mathlib.Core.List.{List, [], _∷_, _++_, append-assoc, append-nil}
 use Prim.Native.Nat.{ℕ, zero, suc, _+_, _-_, _≤_, _<_}
-use native.Mathlib.Numerals.{add-one}
 use native.Mathlib.Nat.{add-zero}
 use native.Mathlib.Omega.{arith}
-use borrow.Author.Tests.{le-ltb, lt-ltb, le-leb, lt-leb, eq-eqb, ne-eqb, leb-true, leb-false, eqb-true, eqb-false}
-use lib.ListN.{length, take, drop, set, getD, length-set, length-take, length-drop, length-append, drop-of-length-le, take-append-drop}
-use lib.Dec.{ltb, leb, eqb}
-use lib.Seq.{drop-cons, drop-drop, length-take-le, take-at, drop-at, getD-set-same, getD-set-other}
+use borrow.Author.Tests.{eq-eqb, ne-eqb, eqb-true, eqb-false}
+use lib.ListN.{length, take, drop, set, getD, length-set, length-drop, length-append}
+use lib.Dec.{eqb}
+use lib.Seq.{drop-drop, length-take-le, take-at, drop-at, getD-set-same, getD-set-other}
+use Rattle.definition.specs.Limits.{maxCode}
 use Rattle.definition.specs.Field.{has}
-use Rattle.definition.specs.Opcode.{Role, Sheet, roleOf, size}
-use Rattle.definition.specs.Rules.{Action, keep, remove, rewriteOperand, Instruction}
+use Rattle.definition.specs.Opcode.{Sheet}
+use Rattle.definition.specs.Rules.{Action, keep, remove, rewriteOperand}
 use Rattle.definition.specs.Emit.{le16}
 use Rattle.definition.specs.Rewrite.{Bytes, Matcher, OffsetMap, decode, instruction, actions, applied, output, offsets, movedTo, applyPeephole}
 use Rattle.definition.specs.Lent.{filled, zeros}
-use Rattle.rewrite.specs.View.{firstOf, actionsAfter, Fitting, FittingNext, Planned, put, Peephole}
-use Rattle.rewrite.proofs.Decoding.{First, first, first-is, first-none, first-taken, first-within}
+use Rattle.rewrite.specs.View.{slotCount, firstOf, actionsAfter, Fitting, FittingNext, Planned, put, Peephole}
+use Rattle.rewrite.proofs.Decoding.{First, first, first-is, first-none}
 
 -- ---- bytes put over others
 
@@ -180,7 +180,7 @@ module _ (s : Sheet) (matches : Matcher) (protected code₀ : List ℕ) where
     pub behind : to ≤ at
     pub within : at ≤ length code
     pub room : length code ≡ length code₀
-    pub slots : length map ≡ 16385
+    pub slots : length map ≡ slotCount
     pub later : FittingNext next (firstOf (decode s (drop at code)))
     pub out : applyPeephole s matches protected code₀ .0
         ≡ take to code ++ output (actionsAfter s matches protected next at (decode s (drop at code))) (decode s (drop at code))
@@ -189,7 +189,7 @@ module _ (s : Sheet) (matches : Matcher) (protected code₀ : List ℕ) where
     pub fresh : (x : ℕ) → at ≤ x → getD map x 0 ≡ 0
     pub small : (x : ℕ) → getD map x 0 ≤ length code₀
 
-  pub begins : (map : List ℕ) → length map ≡ 16385 → ((x : ℕ) → getD map x 0 ≡ 0) → Going code₀ map 0 0 none
+  pub begins : (map : List ℕ) → length map ≡ slotCount → ((x : ℕ) → getD map x 0 ≡ 0) → Going code₀ map 0 0 none
   unfolding FittingNext actionsAfter applyPeephole
   begins map slots free = record {
     behind = omega arith;
@@ -204,7 +204,7 @@ module _ (s : Sheet) (matches : Matcher) (protected code₀ : List ℕ) where
   }
 
   pub goes-on : {code map : List ℕ} {at to z : ℕ} {next then : Option Action} {x : Action} → Going code map at to next
-      → Planned s matches protected code at next z x then → 1 ≤ z → length code₀ ≤ 16384
+      → Planned s matches protected code at next z x then → 1 ≤ z → length code₀ ≤ maxCode
       → Going (put code to (applied x (take z (drop at code)))) (set map at to) (at + z) (to + length (applied x (take z (drop at code)))) then
   unfolding output offsets
   goes-on {code} {map} {at} {to} {z} {next} {then} {x} g p h small =
@@ -233,7 +233,7 @@ module _ (s : Sheet) (matches : Matcher) (protected code₀ : List ℕ) where
       }
 
   -- nothing is left
-  pub ends : {code map : List ℕ} {at to : ℕ} {next : Option Action} → Going code map at to next → decode s (drop at code) ≡ [] → length code₀ ≤ 16384
+  pub ends : {code map : List ℕ} {at to : ℕ} {next : Option Action} → Going code map at to next → decode s (drop at code) ≡ [] → length code₀ ≤ maxCode
       → Peephole (applyPeephole s matches protected code₀) code₀ (take to code ++ zeros (length code - to)) (set map at to) to
   unfolding output offsets actionsAfter actions movedTo filled
   ends {code} {map} {at} {to} {next} g e small =

@@ -1,13 +1,13 @@
 -- What `decide` answers at each return, and what the loop makes of it.
-use mathlib.Core.Path.{_≡_, refl, ap, sym, _∙_}
-use mathlib.Core.Bool.{Bool, true, false, not, _||_}
+use mathlib.Core.Path.{_≡_, sym, _∙_}
+use mathlib.Core.Bool.{true, false, _||_}
 use mathlib.Core.Option.{Option, some, none}
-use mathlib.Core.List.{List, [], _∷_, _++_, map}
-use Prim.Native.Nat.{ℕ, zero, suc, _+_, _-_, _≤_, _<_}
+use mathlib.Core.List.{List, _++_, map}
+use Prim.Native.Nat.{ℕ, _+_, _-_, _≤_}
 use native.Mathlib.Omega.{arith}
 use borrow.Author.Tests.{eq-eqb, ne-eqb}
-use lib.Dec.{eqb}
 use lib.ListN.{length, take, drop, set, getD}
+use Rattle.definition.specs.Limits.{maxCode}
 use Rattle.definition.specs.Field.{has}
 use Rattle.definition.specs.Opcode.{Sheet}
 use Rattle.definition.specs.Rules as def
@@ -17,15 +17,16 @@ use Rattle.definition.specs.Lent.{zeros}
 use Rattle.rules.specs.declared.Action.{Action}
 use Rattle.rules.specs.declared.Found.{Found}
 use Rattle.rules.specs.declared.Found.the-variants.{At, Nothing}
-use Rattle.rules.specs.View.{actionView, rulesIn, IsRules, ruleAt, pairAt}
-use Rattle.rules.proofs.Lookup.{first-action, second-action}
+use Rattle.rules.specs.View.{actionView, IsRules, ruleAt, actionsIn, pairAt}
+use Rattle.rules.proofs.Lookup.{actions-there, first-action, second-action}
+use Rattle.rewrite.proofs.Looking.{looked-inside}
 use Rattle.rewrite.specs.declared.Next.{Next}
 use Rattle.rewrite.specs.declared.Next.the-variants.{Ask, Do}
 use Rattle.rewrite.specs.declared.Plan.{Plan}
-use Rattle.rewrite.specs.View.{firstOf, marked, matcher, nextView, Looked, Kept, Ready, Fitting, FittingNext, Planned, Puts, Clear, Peephole, put}
+use Rattle.rewrite.specs.View.{isMark, firstOf, marked, matcher, nextView, Looked, Kept, Ready, FittingNext, Planned, Puts, Peephole}
 use Rattle.rewrite.proofs.Decoding.{First, first, first-within, listed}
 use Rattle.rewrite.proofs.Fits.{found-fits}
-use Rattle.rewrite.proofs.Marked.{isMark, has-marked}
+use Rattle.rewrite.proofs.Marked.{has-marked}
 use Rattle.rewrite.proofs.Pass.{plan-none, plan-known, plan-last, plan-protected, plan-unmatched, plan-matched, Going, goes-on, ends}
 
 -- ---- a plan to keep
@@ -90,10 +91,11 @@ module _ (s : Sheet) (table : List ℕ) (count pass : ℕ) (marks code : List �
             let m : matcher table count pass (instruction s a) (instruction s b) ≡ none = sym (l .is) ∙ rw e in
             rw asked (kept k (plan-unmatched s _ _ code at a here b after (omega arith) (omega arith) (neither marks at (at + length a) free free-next) m))
 
-        pub decided-matched : (i : ℕ) (pair : List Action) (d : Action) → f ≡ At i → IsRules table count → map actionView pair ≡ ruleAt table i .one ∷ ruleAt table i .two ∷ []
+        pub decided-matched : (i : ℕ) (pair : List Action) (d : Action) → f ≡ At i → IsRules table count → map actionView pair ≡ actionsIn table i
             → Planned s (matcher table count pass) (marked marks) code at (nextView next) (length a) (actionView (getD pair 0 d)) (some (actionView (getD pair 1 d)))
         unfolding pairAt
-        decided-matched i pair d e held two =
+        decided-matched i pair d e held acts =
+            let two = acts ∙ actions-there held (looked-inside l e) in
             let m : matcher table count pass (instruction s a) (instruction s b) ≡ some (ruleAt table i .one, ruleAt table i .two) = sym (l .is) ∙ rw e in
             let fit = found-fits s table count pass a b _ _ held (listed s code at a here (omega arith)) (listed s code (at + length a) b after (omega arith)) m in
             rw (asked, first-action d pair two, second-action d pair two) (plan-matched s _ _ code at a here b after (omega arith) (omega arith) _ _ (neither marks at (at + length a) free free-next) m (fit .0) (fit .1))
@@ -101,7 +103,7 @@ module _ (s : Sheet) (table : List ℕ) (count pass : ℕ) (marks code : List �
 -- ---- the loop
 
 module _ {s : Sheet} {matches : Matcher} {protected code₀ code code′ moves : List ℕ} {at to n z : ℕ} {next then : Option def.Action} {x : def.Action}
-    (g : Going s matches protected code₀ code moves at to next) (p : Planned s matches protected code at next z x then) (same : n ≡ to) (small : length code₀ ≤ 16384) where
+    (g : Going s matches protected code₀ code moves at to next) (p : Planned s matches protected code at next z x then) (same : n ≡ to) (small : length code₀ ≤ maxCode) where
   pub turns : {to′ : ℕ} → (z ≡ 0 → ⊥) → Puts (applied x (take z (drop at code))) code code′ to to′ → Going s matches protected code₀ code′ (set moves at n) (at + z) to′ then
   turns full q = rw (same, q .is, q .end) (goes-on s matches protected code₀ g p (omega arith) small)
 

@@ -1,14 +1,15 @@
 -- What this crate's functions give, said of the definition: the first instruction of some bytes, and what is left of a pass at a place.
-use Prim.Native.Nat.{ℕ, _+_, _≤_, suc, zero}
+use Prim.Native.Nat.{ℕ, _+_, _≤_, suc}
 use mathlib.Core.Path.{_≡_}
-use mathlib.Core.Bool.{Bool, true, false}
+use mathlib.Core.Bool.{Bool, true, false, not}
 use mathlib.Core.List.{List, [], _∷_, _++_}
 use mathlib.Core.Option.{Option, some, none}
 use lib.Dec.{eqb}
 use lib.ListN.{length, getD, take, drop}
+use Rattle.definition.specs.Limits.{maxCode}
 use Rattle.definition.specs.Opcode.{Sheet}
 use Rattle.definition.specs.Rules.{Action, keep, remove, rewriteOperand, matches}
-use Rattle.definition.specs.Rewrite.{Bytes, Matcher, OffsetMap, decode, actions, applied, output, offsets, movedTo, applyPeephole}
+use Rattle.definition.specs.Rewrite.{Bytes, Matcher, OffsetMap, decode, actions, offsets, movedTo}
 use Rattle.definition.specs.Lent.{filled}
 use Rattle.opcode.specs.Table.{IsTable}
 use Rattle.rules.specs.View.{actionView, rulesIn, IsRules, Inside, pairAt}
@@ -22,13 +23,18 @@ unfoldable pub firstOf : List Bytes → Bytes
 firstOf [] = []
 firstOf (i ∷ is) = i
 
--- the offsets that a table of marks marks
-unfoldable pub markedFrom : ℕ → List ℕ → List ℕ
-markedFrom at [] = []
-markedFrom at (m ∷ ms) = elim (eqb m 0) [ true ↦ markedFrom (suc at) ms | false ↦ at ∷ markedFrom (suc at) ms ]
+-- the offsets, from `at` on, whose number in a table passes a test
+unfoldable pub offsetsWhere : (ℕ → ℕ → Bool) → ℕ → List ℕ → List ℕ
+offsetsWhere test at [] = []
+offsetsWhere test at (n ∷ ns) = elim (test at n) [ true ↦ at ∷ offsetsWhere test (suc at) ns | false ↦ offsetsWhere test (suc at) ns ]
 
+-- a mark is any number but 0
+unfoldable pub isMark : ℕ → Bool
+isMark n = not (eqb n 0)
+
+-- the offsets that a table of marks marks
 unfoldable pub marked : List ℕ → List ℕ
-marked ms = markedFrom 0 ms
+marked ms = offsetsWhere (λ x m. isMark m) 0 ms
 
 -- the actions from `at` on, where the first of them may be known: the second of a pair that matched
 unfoldable pub actionsAfter : Sheet → Matcher → List ℕ → Option Action → ℕ → List Bytes → List Action
@@ -65,16 +71,20 @@ pub record Kept (z : ℕ) (r : Plan) : Type 0 where
   pub action : actionView (r .action) ≡ keep
   pub next : nextView (r .next) ≡ none
 
+-- elements of a table by offset: one for each offset of the longest code, its end among them
+abbrev pub slotCount : ℕ
+slotCount = maxCode + 1
+
 -- what is lent to a pass: the tables of a sheet and of rules, a mark for each offset, and code within its limit
 pub record Ready (sheet rules : List ℕ) (count : ℕ) (marks code : List ℕ) : Type 0 where
   pub table : IsTable sheet
   pub held : IsRules rules count
-  pub slots : length marks ≡ 16385
-  pub small : length code ≤ 16384
+  pub slots : length marks ≡ slotCount
+  pub small : length code ≤ maxCode
 
 -- a table by offset with nothing in it
 pub record Clear (table : List ℕ) : Type 0 where
-  pub slots : length table ≡ 16385
+  pub slots : length table ≡ slotCount
   pub none : (x : ℕ) → getD table x 0 ≡ 0
 
 -- what is decided for the instruction at a place: its size (0: there is none), its action, and what is then known of the next one's
@@ -99,6 +109,6 @@ pub record Peephole (result : List ℕ × OffsetMap) (code code′ map′ : List
   pub is : code′ ≡ filled (length code) (result .0)
   pub end : r ≡ length (result .0)
   pub moved : (x : ℕ) → getD map′ x 0 ≡ movedTo (result .1) x
-  pub slots : length map′ ≡ 16385
+  pub slots : length map′ ≡ slotCount
   pub small : (x : ℕ) → getD map′ x 0 ≤ length code
   pub within : r ≤ length code

@@ -3,15 +3,20 @@ ghost use mathlib.Core.Path.{_≡_};
 ghost use mathlib.Core.List.{_++_};
 ghost use Prim.Native.Nat.{_+_, _-_, _≤_};
 ghost use lib.ListN.{length, take, drop, getD};
+ghost use Rattle.definition.specs.Limits.{maxCode};
 ghost use Rattle.definition.specs.Rewrite.{decode, operandOf, instruction, applied, applyPeephole};
 ghost use Rattle.definition.specs.Lent.{zeros};
 ghost use Rattle.opcode.specs.Table.{IsTable, sheetIn};
 ghost use Rattle.rules.specs.View.{actionView, instructionView, IsRules};
 ghost use Rattle.rewrite.specs.View.{firstOf, marked, matcher, Looked, Kept, nextView, Fitting, FittingNext, Ready, Planned, Puts, Clear, Peephole};
+use definition::MAX_CODE;
 use opcode::sheet;
 use rules::Action;
 use rules::Found;
 use rules::Instruction;
+
+// Elements of a table by offset: one for each offset of the longest code, its end among them.
+pub const SLOTS: usize = MAX_CODE + 1;
 
 // What is known of the next instruction's action: the second of a matched pair is decided with the first.
 pub enum Next {
@@ -207,7 +212,7 @@ pub fn zero_from(list: &mut [u8], from: usize)
 }
 
 pub fn narrow(x: usize) -> u16
-    requires { ⌜ x ≤ 16384 ⌝ }
+    requires { ⌜ x ≤ maxCode ⌝ }
     ensures { λ r. ⌜ r ≡ x ⌝ }
 {
     x as u16

@@ -1,15 +1,14 @@
 -- A rule file, read line by line.
 use mathlib.Core.Path.{_≡_, refl, ap, sym, _∙_}
-use mathlib.Core.Bool.{Bool, true, false}
+use mathlib.Core.Bool.{true, false}
 use mathlib.Core.Option.{Option, some, none}
 use mathlib.Core.List.{List, [], _∷_, _++_, append-assoc, append-nil}
-use Prim.Native.Nat.{ℕ, zero, suc, _+_, _-_, _*_, _≤_, _<_}
+use Prim.Native.Nat.{ℕ, _+_, _-_, _*_, _≤_, _<_}
 use native.Mathlib.Omega.{arith}
-use borrow.Author.Tests.{le-leb, lt-leb}
-use lib.Dec.{leb}
+use borrow.Author.Tests.{eq-eqb, ne-eqb, le-leb, lt-leb}
 use lib.ListN.{length, take, drop, length-append, length-drop, drop-of-length-le}
 use lib.Seq.{paste, length-take-le}
-use Rattle.definition.specs.Limits.{maxRules, badRule}
+use Rattle.definition.specs.Limits.{maxRules, badRule, outputShort}
 use Rattle.definition.specs.Res.{Res, ok, refuse, _>>=_, _>>_, demand, given}
 use Rattle.definition.specs.Field.{lf, split, firstLine}
 use Rattle.definition.specs.Lent.{zeros}
@@ -19,7 +18,7 @@ use Rattle.field.proofs.Parts.{Some, some-part, split-some, line-part, parts-la
 use Rattle.rules.specs.declared.Line.{Line}
 use Rattle.rules.specs.declared.RuleAnswer.{RuleAnswer}
 use Rattle.rules.specs.declared.RuleAnswer.the-variants.{Rules, Refused}
-use Rattle.rules.specs.View.{rowSize, tableSize, rowOf, tableOf, answerOf, tableFor, Answered, lineOf}
+use Rattle.rules.specs.View.{rowSize, tableSize, rowOf, tableOf, readInto, answerOf, tableFor, Answered, lineOf}
 use Rattle.rules.proofs.Table.{table-long, table-none, table-more}
 
 -- ---- the definition, one line at a time
@@ -72,6 +71,24 @@ line-some : (o : Option Rule) {l : Line} → l ≡ lineOf o → l .good ≡ true
 unfolding lineOf
 line-some none e g = absurd (let t : false ≡ true = sym (ap (λ (x : Line). x .good) e) ∙ g in let z : _≡_ {A = ℕ} 0 1 = cc in omega arith)
 line-some (some r) e g = (r, refl, ap (λ (x : Line). x .numbers) e)
+
+-- ---- the table's length
+
+module _ (text : List ℕ) {room : ℕ} where
+  pub read-fit : room ≡ tableSize → readInto room text ≡ readRules text
+  unfolding readInto _>>_ demand
+  read-fit e = rw (eq-eqb room tableSize e)
+
+  read-unfit : (room ≡ tableSize → ⊥) → readInto room text ≡ refuse outputShort 0
+  unfolding readInto _>>_ demand
+  read-unfit e = rw (ne-eqb room tableSize e)
+
+  pub file-unfit : {table : List ℕ} {a : RuleAnswer} → (room ≡ tableSize → ⊥) → Answered room (refuse outputShort 0) a table → Answered room (readInto room text) a table
+  file-unfit e d = rw (read-unfit e) d
+
+  -- what was read into a whole table
+  pub file-fit : {table : List ℕ} {a : RuleAnswer} → room ≡ tableSize → Answered room (readInto room text) a table → Answered tableSize (readRules text) a table
+  file-fit e d = rw (← read-fit e, ← e) d
 
 -- ---- the walk over the lines
 
@@ -140,15 +157,15 @@ module _ {text table : List ℕ} {at count : ℕ} (f : FileRead text table at co
               more = f .more ∙ rw (next, rules-good (count + 1) (take (r - at) (drop at text)) (split-some lf (drop (r + 1) text)) (omega arith) o) (prepended-more (f .rules) q _);
             }
 
-  pub file-done : length text ≤ at → Answered (readRules text) (Rules count) table
-  unfolding prepended rulesFrom split isEmpty _>>_ demand answerOf tableFor
-  file-done h =
+  pub file-done : {room : ℕ} → room ≡ tableSize → length text ≤ at → Answered room (readInto room text) (Rules count) table
+  unfolding prepended rulesFrom split isEmpty _>>_ demand answerOf tableFor tableOf
+  file-done fit h =
       let is : readRules text ≡ ok (f .rules) = f .more ∙ rw (drop-of-length-le text h) (ap ok (append-nil (f .rules))) in
-      rw is (record { is = ap Rules (f .many); holds = f .holds })
+      rw (read-fit text fit, is, fit) (record { is = ap Rules (f .many); holds = f .holds })
 
-pub file-refused : {x y : Res (List Rule)} {a : RuleAnswer} {table : List ℕ} → x ≡ y → Answered y a table → Answered x a table
-file-refused e d = rw e d
+pub file-refused : (text : List ℕ) {table : List ℕ} {room k : ℕ} {y : Res (List Rule)} {a : RuleAnswer} → room ≡ tableSize → k ≡ tableSize → readRules text ≡ y → Answered k y a table → Answered room (readInto room text) a table
+file-refused text h q e d = rw (read-fit text h, e, h, ← q) d
 
-pub refused-is : {n line : ℕ} {table : List ℕ} → n ≡ tableSize → table ≡ zeros n → Answered (refuse badRule line) (Refused 9 line) table
+pub refused-is : {room n p : ℕ} {table : List ℕ} → table ≡ zeros room → Answered room (refuse n p) (Refused n p) table
 unfolding answerOf tableFor
-refused-is k e = record { is = refl; holds = e ∙ ap zeros k }
+refused-is e = record { is = refl; holds = e }

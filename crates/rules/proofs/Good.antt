@@ -1,11 +1,10 @@
 -- What makes a rule good, by the numbers of its line.
-use mathlib.Core.Path.{_≡_, refl, ap, sym, _∙_}
+use mathlib.Core.Path.{_≡_, refl}
 use mathlib.Core.Bool.{Bool, true, false, _&&_}
-use mathlib.Core.List.{List, [], _∷_}
-use Prim.Native.Nat.{ℕ, zero, suc, _+_, _≤_, _<_}
-use native.Mathlib.Omega.{arith}
+use mathlib.Core.List.{List}
+use Prim.Native.Nat.{ℕ, zero, suc, _≤_, _<_}
 use borrow.Author.Tests.{le-leb, lt-leb}
-use lib.Dec.{leb, ltb, eqb}
+use lib.Dec.{ltb, eqb}
 use lib.ListN.{getD}
 use Rattle.definition.specs.Opcode.{Role, Effect, same, effect}
 use Rattle.definition.specs.Rules.{hasOperand, testNumbered, actionNumbered, testable, allowed, removed, cancel, isVariable, goodRule, ruleOf, roleNumbered, passes, keep, remove, rewriteOperand}

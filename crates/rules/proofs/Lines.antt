@@ -1,8 +1,8 @@
 -- A line's nine numbers, read field by field.
 use mathlib.Core.Path.{_≡_, refl, ap, sym, _∙_}
 use mathlib.Core.Bool.{Bool, true, false}
-use mathlib.Core.Option.{Option, some, none}
-use mathlib.Core.List.{List, [], _∷_, _++_, map, append-assoc, append-nil}
+use mathlib.Core.Option.{some, none}
+use mathlib.Core.List.{List, [], _∷_, _++_, map, append-nil}
 use Prim.Native.Nat.{ℕ, zero, suc, _+_, _-_, _≤_, _<_}
 use native.Mathlib.Numerals.{add-one}
 use native.Mathlib.Omega.{arith}
@@ -11,7 +11,7 @@ use lib.ListN.{length, getD, take, drop, set, length-set}
 use lib.Seq.{drop-cons, take-suc-set, take-all, append-snoc}
 use Rattle.definition.specs.Field as def
 use Rattle.definition.specs.Field.{comma, split, Field, upTo, below, field, malformed, outside, is, Numbers, wrong, far, are, andThese, numbers}
-use Rattle.definition.specs.Rules.{Rule, ruleFields, ruleFrom, goodOnly, goodRule, ruleOf, readRule}
+use Rattle.definition.specs.Rules.{ruleFields, ruleFrom, goodOnly, goodRule, ruleOf, readRule}
 use Rattle.field.specs.View.{before, Ends}
 use Rattle.field.proofs.Numbers.{up-to-bound, below-up-to}
 use Rattle.field.proofs.Parts.{partsFrom, parts-whole, parts-past, parts-at, parts-next, Some, some-part, split-some}

@@ -1,40 +1,47 @@
 -- The lookup, row by row.
 use mathlib.Core.Path.{_≡_, refl, ap, sym, _∙_}
 use mathlib.Core.Bool.{Bool, true, false, _&&_}
-use mathlib.Core.Option.{Option, some, none}
+use mathlib.Core.Option.{some, none}
 use mathlib.Core.List.{List, [], _∷_, map}
-use Prim.Native.Nat.{ℕ, zero, suc, _+_, _-_, _*_, _≤_, _<_}
-use native.Mathlib.Nat.{add-zero}
+use Prim.Native.Nat.{ℕ, zero, suc, _+_, _-_, _*_, _≤_, _<_, min}
+use native.Mathlib.Nat.{add-zero, min-eq-left}
+use native.Mathlib.Numerals.{add-one}
 use native.Mathlib.Omega.{arith}
-use borrow.Author.Tests.{eq-eqb, ne-eqb}
+use borrow.Author.Tests.{eq-eqb, ne-eqb, lt-ltb, le-ltb}
 use lib.Dec.{eqb}
 use lib.ListN.{getD, take, drop}
 use lib.Seq.{drop-drop, getD-take, getD-drop}
-use Rattle.definition.specs.Opcode.{number, roles}
 use Rattle.definition.specs.Rules as def
-use Rattle.definition.specs.Rules.{Rule, ruleOf, roleNumbered, testNumbered, actionNumbered, hasRole, passes, fits, matches}
+use Rattle.definition.specs.Rules.{keep, ruleOf, roleNumbered, testNumbered, actionNumbered, passes, fits, matches}
 use Rattle.rules.specs.declared.Action.{Action}
 use Rattle.rules.specs.declared.Instruction.{Instruction}
 use Rattle.rules.specs.declared.Found.{Found}
 use Rattle.rules.specs.declared.Found.the-variants.{At, Nothing}
-use Rattle.rules.specs.View.{rowSize, actionView, instructionView, rulesIn, ruleAt, RowAt, Inside, pairAt, Finds}
+use Rattle.rules.specs.View.{rowSize, actionView, instructionView, rulesIn, rowAt, ruleAt, rowCount, rowFits, foundFrom, foundIn, actionsIn, IsRules, RowAt, Inside, pairAt, Finds}
 use Rattle.rules.proofs.Rows.{number-back, has-number}
+use Rattle.rules.proofs.Table.{rules-long, row-at}
 
 cell : (table : List ℕ) (at k : ℕ) → k < rowSize → getD (take rowSize (drop (at * rowSize) table)) k 0 ≡ getD table (at * rowSize + k) 0
 cell table at k h = getD-take rowSize (drop (at * rowSize) table) k 0 h ∙ getD-drop (at * rowSize) table k 0
 
 -- ---- one row
-module _ (table : List ℕ) (at pass : ℕ) (a b : Instruction) (row : RowAt table at) where
+module _ (table : List ℕ) (at pass : ℕ) (a b : Instruction) where
   abbrev Cell : ℕ → ℕ
   Cell k = getD table (at * rowSize + k) 0
 
-  fits-is : fits pass (ruleAt table at) (instructionView a) (instructionView b)
+  cells : rowFits pass (rowAt table at) a b
       ≡ eqb (Cell 0) pass && (eqb (Cell 1) (a .role) && (eqb (Cell 2) (b .role) && passes (testNumbered (Cell 3) (Cell 4)) (a .operand) (b .operand)))
+  unfolding rowFits
+  cells = rw (cell table at 0 (omega arith), cell table at 1 (omega arith), cell table at 2 (omega arith), cell table at 3 (omega arith), cell table at 4 (omega arith))
+
+  -- a row fits by its numbers where its rule does
+  fits-row : RowAt table at → fits pass (ruleAt table at) (instructionView a) (instructionView b) ≡ rowFits pass (rowAt table at) a b
   unfolding fits ruleAt ruleOf
-  fits-is =
+  fits-row row =
       rw (
-        has-number (roleNumbered (getD (take rowSize (drop (at * rowSize) table)) 1 0)) (a .role),
-        has-number (roleNumbered (getD (take rowSize (drop (at * rowSize) table)) 2 0)) (b .role),
+        cells,
+        has-number (roleNumbered (getD (rowAt table at) 1 0)) (a .role),
+        has-number (roleNumbered (getD (rowAt table at) 2 0)) (b .role),
         cell table at 0 (omega arith),
         cell table at 1 (omega arith),
         cell table at 2 (omega arith),
@@ -44,59 +51,104 @@ module _ (table : List ℕ) (at pass : ℕ) (a b : Instruction) (row : RowAt tab
         number-back (Cell 2) (row .second),
       )
 
-  pub other-pass : (getD table (at * rowSize) 0 ≡ pass → ⊥) → false ≡ fits pass (ruleAt table at) (instructionView a) (instructionView b)
-  other-pass h = rw (fits-is, ne-eqb (Cell 0) pass (λ e. h (rw (add-zero (at * rowSize)) at e)))
+  pub other-pass : (getD table (at * rowSize) 0 ≡ pass → ⊥) → false ≡ rowFits pass (rowAt table at) a b
+  other-pass h = rw (cells, ne-eqb (Cell 0) pass (λ e. h (rw (add-zero (at * rowSize)) at e)))
 
   module _ (p : getD table (at * rowSize) 0 ≡ pass) where
     same-pass : eqb (Cell 0) pass ≡ true
     same-pass = eq-eqb (Cell 0) pass (rw (add-zero (at * rowSize)) p)
 
-    pub other-first : (Cell 1 ≡ a .role → ⊥) → false ≡ fits pass (ruleAt table at) (instructionView a) (instructionView b)
-    other-first h = rw (fits-is, same-pass, ne-eqb (Cell 1) (a .role) h)
+    pub other-first : (Cell 1 ≡ a .role → ⊥) → false ≡ rowFits pass (rowAt table at) a b
+    other-first h = rw (cells, same-pass, ne-eqb (Cell 1) (a .role) h)
 
-    pub other-second : Cell 1 ≡ a .role → (Cell 2 ≡ b .role → ⊥) → false ≡ fits pass (ruleAt table at) (instructionView a) (instructionView b)
-    other-second q h = rw (fits-is, same-pass, eq-eqb (Cell 1) (a .role) q, ne-eqb (Cell 2) (b .role) h)
+    pub other-second : Cell 1 ≡ a .role → (Cell 2 ≡ b .role → ⊥) → false ≡ rowFits pass (rowAt table at) a b
+    other-second q h = rw (cells, same-pass, eq-eqb (Cell 1) (a .role) q, ne-eqb (Cell 2) (b .role) h)
 
     pub same-roles : Cell 1 ≡ a .role → Cell 2 ≡ b .role → {x : Bool} → x ≡ passes (testNumbered (Cell 3) (Cell 4)) (a .operand) (b .operand)
-        → x ≡ fits pass (ruleAt table at) (instructionView a) (instructionView b)
-    same-roles q r e = rw (fits-is, same-pass, eq-eqb (Cell 1) (a .role) q, eq-eqb (Cell 2) (b .role) r) e
+        → x ≡ rowFits pass (rowAt table at) a b
+    same-roles q r e = rw (cells, same-pass, eq-eqb (Cell 1) (a .role) q, eq-eqb (Cell 2) (b .role) r) e
 
 -- the pair of actions of a row
+module _ (table : List ℕ) (at : ℕ) where
+  pub actions-whole : at < rowCount table → actionsIn table at ≡ ruleAt table at .one ∷ ruleAt table at .two ∷ []
+  unfolding actionsIn
+  actions-whole h = rw (actionsIn, lt-ltb at (rowCount table) h)
+
+  pub actions-past : rowCount table ≤ at → keep ∷ keep ∷ [] ≡ actionsIn table at
+  unfolding actionsIn
+  actions-past h = rw (actionsIn, le-ltb at (rowCount table) h)
+
 pub pair-is : (table : List ℕ) (at : ℕ) (x y : Action)
+    → at < rowCount table
     → actionView x ≡ actionNumbered (getD table (at * rowSize + 5) 0) (getD table (at * rowSize + 6) 0)
     → actionView y ≡ actionNumbered (getD table (at * rowSize + 7) 0) (getD table (at * rowSize + 8) 0)
-    → map actionView (x ∷ y ∷ []) ≡ ruleAt table at .one ∷ ruleAt table at .two ∷ []
+    → map actionView (x ∷ y ∷ []) ≡ actionsIn table at
 unfolding ruleAt ruleOf
-pair-is table at x y e f = rw (cell table at 5 (omega arith), cell table at 6 (omega arith), cell table at 7 (omega arith), cell table at 8 (omega arith), e, f)
+pair-is table at x y h e f = rw (actions-whole table at h, cell table at 5 (omega arith), cell table at 6 (omega arith), cell table at 7 (omega arith), cell table at 8 (omega arith), e, f)
 
 -- ---- all rows
-rules-from : (table : List ℕ) (count i : ℕ) → i < count → rulesIn (drop (i * rowSize) table) (count - i) ≡ ruleAt table i ∷ rulesIn (drop ((i + 1) * rowSize) table) (count - (i + 1))
-unfolding rulesIn ruleAt
-rules-from table count i h =
-    let one : count - i ≡ suc (count - (i + 1)) = omega arith in
-    let far : (i + 1) * rowSize ≡ i * rowSize + rowSize = omega arith in
-    rw (one, far, ← drop-drop rowSize (i * rowSize) table)
 
--- no rule before i fits
-pub record Seeking (table : List ℕ) (count pass : ℕ) (a b : Instruction) (i : ℕ) : Type 0 where
-  pub near : i ≤ count
-  pub more : matches pass (rulesIn table count) (instructionView a) (instructionView b) ≡ matches pass (rulesIn (drop (i * rowSize) table) (count - i)) (instructionView a) (instructionView b)
+next-row : (table : List ℕ) (i : ℕ) → drop rowSize (drop (i * rowSize) table) ≡ drop (suc i * rowSize) table
+next-row table i = let far : suc i * rowSize ≡ i * rowSize + rowSize = omega arith in rw (far, ← drop-drop rowSize (i * rowSize) table)
 
-pub seeks-start : (table : List ℕ) (count pass : ℕ) (a b : Instruction) → Seeking table count pass a b 0
-seeks-start table count pass a b = record { near = omega arith; more = let e : count - 0 ≡ count = omega arith in rw e }
+-- none of the rows before i fits
+pub record Seeking (table : List ℕ) (n pass : ℕ) (a b : Instruction) (i : ℕ) : Type 0 where
+  pub near : i ≤ n
+  pub more : foundFrom pass a b 0 n table ≡ foundFrom pass a b i (n - i) (drop (i * rowSize) table)
 
-module _ {table : List ℕ} {count pass : ℕ} {a b : Instruction} {i : ℕ} (s : Seeking table count pass a b i) where
-  pub seeks-next : i < count → false ≡ fits pass (ruleAt table i) (instructionView a) (instructionView b) → Seeking table count pass a b (i + 1)
-  unfolding matches
-  seeks-next h f = record { near = omega arith; more = s .more ∙ rw (rules-from table count i h, matches, ← f) }
+pub seeks-start : (table : List ℕ) (n pass : ℕ) (a b : Instruction) → Seeking table n pass a b 0
+seeks-start table n pass a b = record { near = omega arith; more = let e : n - 0 ≡ n = omega arith in rw e }
 
-  pub seeks-here : i < count → true ≡ fits pass (ruleAt table i) (instructionView a) (instructionView b) → Finds table count pass a b (At i)
-  unfolding matches Inside pairAt
-  seeks-here h f = record { inside = h; is = sym (s .more ∙ rw (rules-from table count i h, matches, ← f)) }
+module _ {table : List ℕ} {n pass : ℕ} {a b : Instruction} {i : ℕ} (s : Seeking table n pass a b i) where
+  module _ (h : i < n) where
+    left : n - i ≡ suc (n - (i + 1))
+    left = omega arith
 
-  pub seeks-end : count ≤ i → Finds table count pass a b Nothing
-  unfolding matches Inside pairAt rulesIn
-  seeks-end h = let none-left : count - i ≡ 0 = omega arith in record { inside = tt; is = sym (s .more ∙ rw none-left) }
+    pub seeks-next : false ≡ rowFits pass (rowAt table i) a b → Seeking table n pass a b (i + 1)
+    unfolding foundFrom
+    seeks-next f = record { near = omega arith; more = s .more ∙ rw (left, foundFrom, ← f, add-one i, next-row table i) }
+
+    pub seeks-here : true ≡ rowFits pass (rowAt table i) a b → At i ≡ foundFrom pass a b 0 n table
+    unfolding foundFrom
+    seeks-here f = sym (s .more ∙ rw (left, foundFrom, ← f))
+
+  pub seeks-end : n ≤ i → Nothing ≡ foundFrom pass a b 0 n table
+  unfolding foundFrom
+  seeks-end h = let none-left : n - i ≡ 0 = omega arith in sym (s .more ∙ rw none-left)
+
+-- ---- in a table that was read
+module _ {table : List ℕ} {count : ℕ} (t : IsRules table count) where
+  rules-whole : count ≤ rowCount table
+  unfolding rowCount
+  rules-whole = omega (arith, rules-long t, t .few)
+
+  module _ (pass : ℕ) (a b : Instruction) where
+    finds-from : (n i : ℕ) (l : List ℕ) → l ≡ drop (i * rowSize) table → i + n ≡ count
+        → (Inside count (foundFrom pass a b i n l)) × (pairAt table (foundFrom pass a b i n l) ≡ matches pass (rulesIn l n) (instructionView a) (instructionView b))
+    unfolding foundFrom rulesIn matches Inside pairAt ruleAt
+    finds-from zero i l e c = (tt, refl)
+    finds-from (suc n) i l e c =
+        let here : fits pass (ruleOf (take rowSize l)) (instructionView a) (instructionView b) ≡ rowFits pass (take rowSize l) a b = rw e (fits-row table i pass a b (row-at t (omega arith))) in
+        let more = finds-from n (suc i) (drop rowSize l) (ap (drop rowSize) e ∙ next-row table i) (omega arith) in
+        go (rowFits pass (take rowSize l) a b) refl here more
+      where
+        go : (r : Bool) → rowFits pass (take rowSize l) a b ≡ r → fits pass (ruleOf (take rowSize l)) (instructionView a) (instructionView b) ≡ rowFits pass (take rowSize l) a b
+            → (Inside count (foundFrom pass a b (suc i) n (drop rowSize l))) × (pairAt table (foundFrom pass a b (suc i) n (drop rowSize l)) ≡ matches pass (rulesIn (drop rowSize l) n) (instructionView a) (instructionView b))
+            → (Inside count (foundFrom pass a b i (suc n) l)) × (pairAt table (foundFrom pass a b i (suc n) l) ≡ matches pass (rulesIn l (suc n)) (instructionView a) (instructionView b))
+        go true q f more = rw (foundFrom, matches, f, q) (omega arith, rw e)
+        go false q f more = rw (foundFrom, matches, f, q) more
+
+    -- what is found is the definition's
+    pub found-finds : Finds table count pass a b (foundIn table count pass a b)
+    unfolding foundIn
+    found-finds =
+        let n : min count (rowCount table) ≡ count = min-eq-left rules-whole in
+        let f = finds-from count 0 table refl (omega arith) in
+        rw n (record { inside = f .0; is = f .1 })
+
+  -- the actions of a rule that was found
+  pub actions-there : {i : ℕ} → i < count → actionsIn table i ≡ ruleAt table i .one ∷ ruleAt table i .two ∷ []
+  actions-there h = actions-whole table _ (omega (arith, rules-whole))
 
 -- ---- for whoever asks: `find`, then `actions` of the rule found
 module _ {table : List ℕ} {count pass : ℕ} {a b : Instruction} {f : Found} (d : Finds table count pass a b f) where

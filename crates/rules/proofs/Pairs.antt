@@ -11,13 +11,13 @@ use lib.ListN.{length, getD}
 use Rattle.definition.specs.Limits.{maxRules, maxVariables, badRule}
 use Rattle.definition.specs.Res.{Res, ok, refuse, _>>=_, _>>_, demand, given}
 use Rattle.definition.specs.Field.{lf, comma, split, Numbers, wrong, far, are, numbers}
-use Rattle.definition.specs.Opcode.{Role, dup, pop, loadVar, storeVar, loadConst, loadTrue, loadFalse, binary, unary, compare, jmp, jmpIfNot, cmpBr, ret, number, Effect, up, down, same, shift, Flow, onward, row, traits, needs, effect, flow}
-use Rattle.definition.specs.Rules.{Action, keep, remove, rewriteOperand, Rule, Instruction, nameable, ruleFields, ruleOf, isVariable, allowed, removed, cancel, testable, goodRule, goodOnly, ruleFrom, readRule, isEmpty, rulesFrom, readRules, roleNumbered, hasRole, passes, fits, matches}
-use Rattle.rules.specs.View.{Accepted, Each, Bounded, tableOf, rulesIn, IsRules}
+use Rattle.definition.specs.Opcode.{Role, dup, pop, loadVar, storeVar, loadConst, loadTrue, loadFalse, binary, unary, compare, jmp, jmpIfNot, cmpBr, ret, number, Effect, up, down, same, shift, onward, row, traits, needs, effect, flow}
+use Rattle.definition.specs.Rules.{Action, keep, remove, rewriteOperand, Rule, Instruction, nameable, ruleFields, ruleOf, isVariable, allowed, removed, cancel, testable, goodRule, goodOnly, ruleFrom, readRule, isEmpty, rulesFrom, readRules, roleNumbered, hasRole, fits, matches}
+use Rattle.rules.specs.View.{Accepted, Each, Bounded, tableOf, IsRules}
 use Rattle.rules.proofs.Lines.{bounded}
 use Rattle.opcode.proofs.Sheets.{role-number}
 use Rattle.rules.proofs.Rows.{number-back, small}
-use Rattle.rules.proofs.Table.{is-rules, rules-back}
+use Rattle.rules.proofs.Table.{is-rules}
 
 never : {A : Type 0} → false ≡ true → A
 never e = absurd (let z : _≡_ {A = ℕ} 0 1 = cc in omega arith)

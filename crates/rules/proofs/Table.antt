@@ -5,13 +5,13 @@ use Prim.Native.Nat.{ℕ, zero, suc, _+_, _-_, _*_, _≤_, _<_}
 use native.Mathlib.Numerals.{add-one}
 use native.Mathlib.Omega.{arith}
 use borrow.Author.Fill.{fill-more}
-use lib.ListN.{length, getD, take, drop, set, replicate, length-append, length-set, length-drop}
-use lib.Seq.{take-at, drop-append-add, take-all, drop-length, drop-drop, getD-drop, paste, paste-zero, paste-suc, length-paste}
+use lib.ListN.{length, getD, take, drop, set, replicate, length-append, length-set}
+use lib.Seq.{take-at, drop-append-add, drop-length, drop-drop, getD-drop, paste, paste-zero, paste-suc}
 use Rattle.definition.specs.Limits.{maxRules}
 use Rattle.definition.specs.Lent.{zeros, filled}
-use Rattle.definition.specs.Opcode.{number, roles}
-use Rattle.definition.specs.Rules.{Rule, ruleOf}
-use Rattle.rules.specs.View.{rowSize, tableSize, rowOf, rowsOf, tableOf, rulesIn, ruleAt, Each, IsRules, RowAt}
+use Rattle.definition.specs.Opcode.{number}
+use Rattle.definition.specs.Rules.{Rule}
+use Rattle.rules.specs.View.{rowSize, tableSize, rowOf, rowsOf, tableOf, rulesIn, Each, IsRules, RowAt}
 use Rattle.rules.proofs.Rows.{rule-back, number-small}
 
 -- ---- clearing
@@ -156,6 +156,9 @@ second-is : (r : Rule) (y : List ℕ) → getD (rowOf r ++ y) 2 0 ≡ number (r 
 unfolding rowOf
 second-is r y = refl
 
+pub rules-long : {table : List ℕ} {count : ℕ} → IsRules table count → length table ≡ tableSize
+rules-long {table} {count} t = ap length (t .is) ∙ table-long (rulesIn table count) (rw (rules-many table count) (t .few))
+
 pub row-at : {table : List ℕ} {count i : ℕ} → IsRules table count → i < count → RowAt table i
 row-at {table} {count} {i} t h =
     let rs = rulesIn table count in
@@ -165,7 +168,7 @@ row-at {table} {count} {i} t h =
     let at-2 : getD table (i * rowSize + 2) 0 ≡ number (r .second) = sym (getD-drop (i * rowSize) table 2 0) ∙ ap (λ (l : List ℕ). getD l 2 0) (ap (drop (i * rowSize)) (t .is) ∙ e) ∙ second-is r y in
     record {
       there = omega (arith, t .few);
-      long = ap length (t .is) ∙ table-long rs (omega (arith, t .few));
+      long = rules-long t;
       first = rw at-1 (number-small (r .first));
       second = rw at-2 (number-small (r .second));
     }

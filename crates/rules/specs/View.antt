@@ -1,17 +1,18 @@
 -- Rules in a lent table: nine numbers each, in the order of a rule line, with 0 for a number or an operand that no test or action reads.
 use mathlib.Core.Path.{_≡_}
-use mathlib.Core.Bool.{Bool, true, false}
+use mathlib.Core.Bool.{Bool, true, false, _&&_}
 use mathlib.Core.Option.{Option, some, none}
 use mathlib.Core.List.{List, [], _∷_, _++_}
-use Prim.Native.Nat.{ℕ, zero, suc, _+_, _*_, _≤_, _<_}
+use Prim.Native.Nat.{ℕ, zero, suc, _+_, _*_, _/_, _≤_, _<_, min}
+use lib.Dec.{eqb, ltb}
 use lib.ListN.{length, getD, take, drop, getElem?}
-use Rattle.definition.specs.Limits.{maxRules}
-use Rattle.definition.specs.Res.{Res, ok, refuse}
+use Rattle.definition.specs.Limits.{maxRules, outputShort}
+use Rattle.definition.specs.Res.{Res, ok, refuse, _>>_, demand}
 use Rattle.definition.specs.Field.{Numbers, are}
 use Rattle.definition.specs.Opcode.{number, roles}
 use Rattle.definition.specs.Lent.{zeros, filled}
 use Rattle.definition.specs.Rules as def
-use Rattle.definition.specs.Rules.{Rule, Test, always, operandsEqual, firstIs, secondIs, keep, remove, rewriteOperand, nameable, goodRule, ruleOf, ruleFrom}
+use Rattle.definition.specs.Rules.{Rule, Test, always, operandsEqual, firstIs, secondIs, keep, remove, rewriteOperand, nameable, goodRule, readRules, ruleOf, ruleFrom, testNumbered}
 use Rattle.rules.specs.declared.Action.{Action}
 use Rattle.rules.specs.declared.Action.the-variants.{Keep, Remove, RewriteOperand}
 use Rattle.rules.specs.declared.Instruction.{Instruction}
@@ -74,17 +75,21 @@ tableOf rs = filled tableSize (rowsOf rs)
 
 -- ---- what reading answers
 
+-- reading into a table of `room` numbers: 14 for any but a whole table
+unfoldable pub readInto : ℕ → List ℕ → Res (List Rule)
+readInto room text = demand (eqb room tableSize) outputShort 0 >> readRules text
+
 unfoldable pub answerOf : Res (List Rule) → RuleAnswer
 answerOf (ok rs) = Rules (length rs)
 answerOf (refuse n p) = Refused n p
 
-unfoldable pub tableFor : Res (List Rule) → List ℕ
-tableFor (ok rs) = tableOf rs
-tableFor (refuse n p) = zeros tableSize
+unfoldable pub tableFor : ℕ → Res (List Rule) → List ℕ
+tableFor room (ok rs) = filled room (rowsOf rs)
+tableFor room (refuse n p) = zeros room
 
-pub record Answered (x : Res (List Rule)) (r : RuleAnswer) (table : List ℕ) : Type 0 where
+pub record Answered (room : ℕ) (x : Res (List Rule)) (r : RuleAnswer) (table : List ℕ) : Type 0 where
   pub is : r ≡ answerOf x
-  pub holds : table ≡ tableFor x
+  pub holds : table ≡ tableFor room x
 
 -- one line: its row, or that it is bad and no numbers
 unfoldable pub lineOf : Option Rule → Line
@@ -111,8 +116,11 @@ Numbered false ns x = ruleFrom x ≡ none
 
 -- ---- the rules of a table
 
+abbrev pub rowAt : List ℕ → ℕ → List ℕ
+rowAt table i = take rowSize (drop (i * rowSize) table)
+
 unfoldable pub ruleAt : List ℕ → ℕ → Rule
-ruleAt table i = ruleOf (take rowSize (drop (i * rowSize) table))
+ruleAt table i = ruleOf (rowAt table i)
 
 -- the first n
 unfoldable pub rulesIn : List ℕ → ℕ → List Rule
@@ -135,7 +143,7 @@ pub record IsRules (table : List ℕ) (count : ℕ) : Type 0 where
   pub is : table ≡ tableOf (rulesIn table count)
   pub accepted : Each (rulesIn table count)
 
--- a row that the lookup reads: it is there, and its roles are roles
+-- a row as reading leaves it: it is there, and its roles are roles
 pub record RowAt (table : List ℕ) (at : ℕ) : Type 0 where
   pub there : at < maxRules
   pub long : length table ≡ tableSize
@@ -144,6 +152,28 @@ pub record RowAt (table : List ℕ) (at : ℕ) : Type 0 where
 
 -- ---- the lookup
 
+-- the rows that are whole in a table of any length
+unfoldable pub rowCount : List ℕ → ℕ
+rowCount table = length table / rowSize
+
+-- does a row, by its numbers, fit two instructions of a pass?
+unfoldable pub rowFits : ℕ → List ℕ → Instruction → Instruction → Bool
+rowFits pass row a b = eqb (getD row 0 0) pass && (eqb (getD row 1 0) (a .role) && (eqb (getD row 2 0) (b .role)
+    && def.passes (testNumbered (getD row 3 0) (getD row 4 0)) (a .operand) (b .operand)))
+
+-- the first of n rows that fits, where the first of them has number i
+unfoldable pub foundFrom : ℕ → Instruction → Instruction → ℕ → ℕ → List ℕ → Found
+foundFrom pass a b i zero table = Nothing
+foundFrom pass a b i (suc n) table = elim (rowFits pass (take rowSize table) a b) [ true ↦ At i | false ↦ foundFrom pass a b (suc i) n (drop rowSize table) ]
+
+unfoldable pub foundIn : List ℕ → ℕ → ℕ → Instruction → Instruction → Found
+foundIn table count pass a b = foundFrom pass a b 0 (min count (rowCount table)) table
+
+-- the actions of a row; a row that is not there changes nothing
+unfoldable pub actionsIn : List ℕ → ℕ → List def.Action
+actionsIn table i = elim (ltb i (rowCount table)) [ true ↦ ruleAt table i .one ∷ ruleAt table i .two ∷ [] | false ↦ keep ∷ keep ∷ [] ]
+
+-- what the lookup finds in a table that was read
 unfoldable pub Inside : ℕ → Found → Type 0
 Inside count (At i) = i < count
 Inside count Nothing = Unit {0}

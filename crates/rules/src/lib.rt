@@ -1,21 +1,21 @@
 // Pair rules: reading a rule file from any bytes into a lent table, and the lookup that the rewriter asks.
-// The table is a buffer of our own crates: 64 rows of nine numbers, no more and no less, which they can show.
 ghost use mathlib.Core.Path.{_≡_};
 ghost use mathlib.Core.Option.{none};
-ghost use mathlib.Core.List.{_∷_, [], map};
-ghost use Prim.Native.Nat.{ℕ, _≤_, _<_, _+_};
+ghost use mathlib.Core.List.{map};
+ghost use Prim.Native.Nat.{ℕ, _≤_, _+_, _*_, min};
 ghost use lib.ListN.{length};
 ghost use lib.Seq.{paste};
-ghost use Rattle.definition.specs.Limits.{maxRules, badRule};
 ghost use Rattle.definition.specs.Res.{refuse};
 ghost use Rattle.definition.specs.Field.{comma, split, numbers};
 ghost use Rattle.definition.specs.Lent.{zeros};
-ghost use Rattle.definition.specs.Rules.{ruleFields, ruleOf, testNumbered, actionNumbered, testable, allowed, removed, cancel, hasOperand, isVariable, goodRule, readRule, readRules, passes, fits};
+ghost use Rattle.definition.specs.Rules.{ruleFields, ruleOf, testNumbered, actionNumbered, testable, allowed, removed, cancel, hasOperand, isVariable, goodRule, readRule, passes};
 ghost use Rattle.opcode.specs.View.{roleView, effectView};
-ghost use Rattle.rules.specs.View.{actionView, instructionView, rowSize, tableSize, Answered, Numbered, Bounded, used, rowOf, lineOf, RowAt, ruleAt, IsRules, Finds};
+ghost use Rattle.rules.specs.View.{actionView, rowSize, tableSize, readInto, Answered, Numbered, Bounded, used, rowOf, lineOf, rowAt, rowFits, foundIn, actionsIn};
+use definition::BAD_RULE;
 use definition::MAX_FIELD;
 use definition::MAX_RULES;
 use definition::MAX_VARIABLES;
+use definition::OUTPUT_SHORT;
 use definition::PASS_COUNT;
 use field::Read;
 use opcode::Effect;
@@ -54,6 +54,8 @@ struct Line {
 
 // Numbers of a rule.
 const ROW: usize = 9;
+// Numbers of a table: a row for each rule that a file may have.
+pub const TABLE_SIZE: usize = MAX_RULES * ROW;
 
 // The largest number of each field.
 const MAXIMA: [u32; 9] = [PASS_COUNT, 22, 22, 3, MAX_FIELD, 2, MAX_FIELD, 2, MAX_FIELD];
@@ -270,33 +272,36 @@ fn put(table: &mut [u16], at: usize, row: [u16; 9])
     }
 }
 
-fn refuse(table: &mut [u16], line: usize) -> RuleAnswer
-    requires { ⌜ (length (now table) ≡ tableSize) × (line ≤ tableSize) ⌝ }
-    ensures { λ r. ⌜ Answered (refuse badRule line) r (now (table .exit)) ⌝ }
+// A refusal, which clears the table.
+fn refuse(table: &mut [u16], number: u8, place: usize) -> RuleAnswer
+    requires { ⌜ place ≤ tableSize ⌝ }
+    ensures { λ r. ⌜ Answered (length (now (table .entry))) (refuse number place) r (now (table .exit)) ⌝ }
 {
     clear(table);
-    RuleAnswer::Refused(9, line as u32)
+    RuleAnswer::Refused(number, place as u32)
 }
 
-// The rules of a file, from any bytes.
+// The rules of a file, from any bytes, into a table of TABLE_SIZE numbers: 9, or 14 for a table of any other length.
 pub fn read_rules(text: &[u8], table: &mut [u16]) -> RuleAnswer
-    requires { ⌜ length (now table) ≡ tableSize ⌝ }
-    ensures { λ r. ⌜ Answered (readRules (now (text .entry))) r (now (table .exit)) ⌝ }
+    ensures { λ r. ⌜ Answered (length (now (table .entry))) (readInto (length (now (table .entry))) (now (text .entry))) r (now (table .exit)) ⌝ }
 {
+    if table.len() != TABLE_SIZE {
+        return refuse(table, OUTPUT_SHORT, 0);
+    }
     clear(table);
     let mut at = 0;
     let mut count = 0;
     while at < text.len() {
         let end = field::line_end(text, at);
         if end >= text.len() {
-            return refuse(table, count + 1);
+            return refuse(table, BAD_RULE, count + 1);
         }
         if count >= MAX_RULES {
-            return refuse(table, count + 1);
+            return refuse(table, BAD_RULE, count + 1);
         }
         let line = read_line(&text[at..end]);
         if !line.good {
-            return refuse(table, count + 1);
+            return refuse(table, BAD_RULE, count + 1);
         }
         let row = line.numbers;
         put(table, count * ROW, row);
@@ -330,8 +335,8 @@ fn passes(test: u16, n: u16, a: u16, b: u16) -> bool
 }
 
 fn fits(table: &[u16], at: usize, pass: u8, a: Instruction, b: Instruction) -> bool
-    requires { ⌜ RowAt (now table) at ⌝ }
-    ensures { λ r. ⌜ r ≡ fits pass (ruleAt (now (table .entry)) at) (instructionView a) (instructionView b) ⌝ }
+    requires { ⌜ at * rowSize + rowSize ≤ length (now table) ⌝ }
+    ensures { λ r. ⌜ r ≡ rowFits pass (rowAt (now (table .entry)) at) a b ⌝ }
 {
     let row = at * ROW;
     if table[row] != pass as u16 {
@@ -346,13 +351,20 @@ fn fits(table: &[u16], at: usize, pass: u8, a: Instruction, b: Instruction) -> b
     passes(table[row + 3], table[row + 4], a.operand, b.operand)
 }
 
-// The first rule of a pass that fits two instructions.
-pub fn find(table: &[u16], count: usize, pass: u8, a: Instruction, b: Instruction) -> Found
-    requires { ⌜ IsRules (now table) count ⌝ }
-    ensures { λ r. ⌜ Finds (now (table .entry)) count pass a b r ⌝ }
+fn least(a: usize, b: usize) -> usize
+    ensures { λ r. ⌜ r ≡ min a b ⌝ }
 {
+    if a < b { a } else { b }
+}
+
+// The first rule of a pass that fits two instructions, among so many of a table of any length. Of a table that was read it is the
+// definition's (proofs/Lookup.antt, `found-finds`).
+pub fn find(table: &[u16], count: usize, pass: u8, a: Instruction, b: Instruction) -> Found
+    ensures { λ r. ⌜ r ≡ foundIn (now (table .entry)) count pass a b ⌝ }
+{
+    let rows = least(count, table.len() / ROW);
     let mut i = 0;
-    while i < count {
+    while i < rows {
         if fits(table, i, pass, a, b) {
             return Found::At(i);
         }
@@ -361,11 +373,13 @@ pub fn find(table: &[u16], count: usize, pass: u8, a: Instruction, b: Instructio
     Found::Nothing
 }
 
-// The pair of actions of a rule that was found.
+// The pair of actions of a rule of a table of any length, which are Keep for one that is not there.
 pub fn actions(table: &[u16], at: usize) -> [Action; 2]
-    requires { ⌜ (length (now table) ≡ tableSize) × (at < maxRules) ⌝ }
-    ensures { λ r. ⌜ map actionView r ≡ ruleAt (now (table .entry)) at .one ∷ ruleAt (now (table .entry)) at .two ∷ [] ⌝ }
+    ensures { λ r. ⌜ map actionView r ≡ actionsIn (now (table .entry)) at ⌝ }
 {
+    if at >= table.len() / ROW {
+        return [Action::Keep, Action::Keep];
+    }
     let row = at * ROW;
     let one = action_of(table[row + 5], table[row + 6]);
     let two = action_of(table[row + 7], table[row + 8]);

@@ -7,7 +7,6 @@ use native.Mathlib.Numerals.{add-one}
 use native.Mathlib.Omega.{arith}
 use lib.ListN.{length, drop, getD, length-drop, drop-of-length-le}
 use lib.Seq.{drop-cons}
-use Rattle.definition.specs.Limits.{badSheet}
 use Rattle.definition.specs.Field.{lf}
 use Rattle.definition.specs.Opcode.{Sheet}
 use Rattle.definition.specs.Lent.{entriesOf}
@@ -18,7 +17,7 @@ use Rattle.definition.specs.Sheet.{readSheet}
 use Rattle.opcode.specs.declared.sheet.SheetRead.{SheetRead}
 use Rattle.opcode.specs.declared.sheet.SheetRead.the-variants.{Accepted, Refused}
 use Rattle.opcode.specs.Table.{sheetIn, IsTable}
-use Rattle.opcode.specs.Reading.{answerOf, Answers, Accepts, Refuses}
+use Rattle.opcode.specs.Reading.{answerOf, Reads, Accepts, Refuses}
 use Rattle.rewrite.specs.View.{firstOf}
 use Rattle.rewrite.proofs.Decoding.{first-is, first-none, first-within}
 use Rattle.store.specs.Store.{Store, at, push, pushAll}
@@ -125,7 +124,7 @@ module _ (s : Sheet) (l : List ℕ) (w : Store) {t : Store} {i : ℕ} (p : Putti
   decoded-end z = put-ends-none (decodedFrom s l) (length l) w p (rw (first-none s l i a here z))
 
 -- by a sheet's text
-module _ (text table : List ℕ) (f : SheetRead) (h : Answers text table (answerOf f)) where
+module _ (text table : List ℕ) (f : SheetRead) (h : Reads text table (answerOf f)) where
   pub sheet-ready : f ≡ Accepted → IsTable table
   sheet-ready e = let d : Accepts text table = rw e at h in d .ready
 
@@ -135,8 +134,8 @@ module _ (text table : List ℕ) (f : SheetRead) (h : Answers text table (answer
       let d : Accepts text table = rw e at h in
       rw (d .is) p
 
-  pub put-no-sheet : {p : ℕ} (s : Store) (l : List ℕ) → f ≡ Refused p → s ≡ pushAll s (instructionsBy (readSheet text) l)
+  pub put-no-sheet : {n p : ℕ} (s : Store) (l : List ℕ) → f ≡ Refused n p → s ≡ pushAll s (instructionsBy (readSheet text) l)
   unfolding instructionsBy pushAll
-  put-no-sheet {p} s l e =
-      let d : Refuses text table badSheet p = rw e at h in
+  put-no-sheet {n} {p} s l e =
+      let d : Refuses text table n p = rw e at h in
       rw (d .is)

@@ -191,7 +191,7 @@ pub fn put_instructions(out: &mut [u8], used: usize, text: &[u8], code: &[u8]) -
 {
     let mut table = [0u8; 289];
     match sheet::read_sheet(text, &mut table) {
-        SheetRead::Refused(_) => used,
+        SheetRead::Refused(_, _) => used,
         SheetRead::Accepted => put_decoded(out, used, &table, code),
     }
 }

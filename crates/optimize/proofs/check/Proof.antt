@@ -1,7 +1,6 @@
 -- Made by `answers` from crates/optimize/answers/check.txt: edit that file, not this one.
 use native.Mathlib.Omega.{arith}
-use Rattle.optimize.proofs.Alone.{bad-end, bad-protected, checked-lines}
-use Rattle.opcode.specs.Table.{sheetIn}
+use Rattle.optimize.proofs.Handed.{bad-end, bad-protected, checked-lines}
 use borrow.Author.Needs.{needs}
 use Rattle.optimize.proofs.check.Statement.{statement}
 use Rattle.optimize.proofs.check.Tie as tie

@@ -1,7 +1,6 @@
 -- Made by `answers` from crates/optimize/answers/move_all.txt: edit that file, not this one.
 use lib.ListN.{length}
-use Prim.Native.Nat.{ℕ, _-_}
-use native.Mathlib.Omega.{arith}
+use Prim.Native.Nat.{_-_}
 use Rattle.definition.specs.Rewrite.{movedTo}
 use Rattle.optimize.specs.View.{mapIn}
 use Rattle.optimize.proofs.Tables.{Moving, move-begins, move-goes-on, move-ends}

@@ -1,8 +1,5 @@
 -- Made by `answers` from crates/optimize/answers/moved_to.txt: edit that file, not this one.
-use mathlib.Core.Path.{sym, _∙_, ap}
-use Prim.Native.Nat.{ℕ}
-use lib.ListN.{getD, List·getD-eq-default}
-use Rattle.optimize.proofs.Tables.{moved-in, moved-past-end, moved-at}
+use Rattle.optimize.proofs.Tables.{moved-past-end, moved-at}
 use borrow.Author.Needs.{needs}
 use Rattle.optimize.proofs.moved_to.Statement.{statement}
 use Rattle.optimize.proofs.moved_to.Tie as tie

@@ -1,8 +1,6 @@
 -- Made by `answers` from crates/optimize/answers/optimize.txt: edit that file, not this one.
-use native.Mathlib.Omega.{arith}
-use mathlib.Core.Path.{_∙_, sym}
 use Rattle.optimize.specs.View.{passes}
-use Rattle.optimize.proofs.Runs.{then-run, runnable, ran-long, part-long, part-within}
+use Rattle.optimize.proofs.Runs.{then-run, runnable, part-long, part-within}
 use Rattle.opcode.specs.Table.{sheetIn}
 use Rattle.rules.specs.View.{rulesIn}
 use borrow.Author.Needs.{needs}

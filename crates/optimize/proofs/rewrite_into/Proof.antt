@@ -1,8 +1,4 @@
 -- Made by `answers` from crates/optimize/answers/rewrite_into.txt: edit that file, not this one.
-use native.Mathlib.Omega.{arith}
-use mathlib.Core.Path.{refl}
-use Rattle.opcode.specs.Table.{sheetIn}
-use Rattle.rules.specs.View.{rulesIn}
 use Rattle.optimize.proofs.Filling.{rewrote, front-long, lent}
 use borrow.Author.Needs.{needs}
 use Rattle.optimize.proofs.rewrite_into.Statement.{statement}

@@ -1,6 +1,5 @@
 -- Made by `answers` from crates/optimize/answers/run.txt: edit that file, not this one.
-use mathlib.Core.Path.{refl, _∙_, sym}
-use native.Mathlib.Omega.{arith}
+use mathlib.Core.Path.{refl}
 use Rattle.optimize.proofs.Tables.{clear-table}
 use Rattle.optimize.proofs.Runs.{ran}
 use borrow.Author.Needs.{needs}
@@ -12,10 +11,10 @@ run-spec =
     tie.close
     (tie.spec
     (λ c. search needs)  -- slice-aggregate-mark
-    (λ c κs. (c .before .before .before .before .before .before .before .pre .small, clear-table 16385 refl))  -- mark-requires
+    (λ c κs. (c .before .before .before .before .before .before .before .pre .small, clear-table _ refl))  -- mark-requires
     (λ c. search needs)  -- slice-aggregate-apply-peephole
     (λ c. search needs)  -- slice-aggregate-apply-peephole-2
-    (λ c κs. (record { table = c .before .before .before .before .before .before .before .before .before .before .before .before .pre .table; held = c .before .before .before .before .before .before .before .before .before .before .before .before .pre .held; slots = c .before .before .before .before .mark .ensures .slots; small = c .before .before .before .before .before .before .before .before .before .before .before .before .pre .few }, clear-table 16385 refl))  -- apply-peephole-requires
+    (λ c κs. (record { table = c .before .before .before .before .before .before .before .before .before .before .before .before .pre .table; held = c .before .before .before .before .before .before .before .before .before .before .before .before .pre .held; slots = c .before .before .before .before .mark .ensures .slots; small = c .before .before .before .before .before .before .before .before .before .before .before .before .pre .few }, clear-table _ refl))  -- apply-peephole-requires
     (λ c. search needs)  -- slice-aggregate-move-all
     (λ c κs. search needs)  -- move-all-requires
     (λ c. search needs)  -- slice-aggregate-move-all-2

@@ -1,7 +1,5 @@
 -- Made by `answers` from crates/rewrite/answers/copy_down.txt: edit that file, not this one.
-use lib.ListN.{length-set}
 use Prim.Native.Nat.{_-_}
-use native.Mathlib.Omega.{arith}
 use Rattle.rewrite.proofs.Copy.{Copying, copy-begins, copy-goes-on, copy-ends}
 use Rattle.rewrite.proofs.copy_down.Statement.{statement}
 use Rattle.rewrite.proofs.copy_down.Tie as tie

@@ -1,10 +1,7 @@
 -- Made by `answers` from crates/rewrite/answers/decide.txt: edit that file, not this one.
 use native.Mathlib.Omega.{arith}
-use mathlib.Core.Path.{_∙_, sym}
-use lib.ListN.{length}
 use Rattle.opcode.specs.Table.{sheetIn}
-use Rattle.rewrite.proofs.Plans.{decided-none, decided-known, decided-within, decided-last, decided-within-next, decided-first, decided-second, decided-unmatched, decided-matched}
-use Rattle.rewrite.proofs.Looking.{rules-long, looked-inside}
+use Rattle.rewrite.proofs.Plans.{decided-none, decided-known, decided-within, decided-last, decided-first, decided-second, decided-unmatched, decided-matched}
 use borrow.Author.Needs.{needs}
 use Rattle.rewrite.proofs.decide.Statement.{statement}
 use Rattle.rewrite.proofs.decide.Tie as tie
@@ -34,7 +31,7 @@ decide-spec =
     (λ c. search needs)  -- enum-told-2
     (λ c κs. search needs)  -- keep-requires-5
     (λ c. decided-unmatched (sheetIn (c .before .before .before .before .before .before .before .before .before .before .before .before .before .before .before .before .before .before .args .sheet .now)) (c .before .before .before .before .before .before .before .before .before .before .before .before .before .before .before .before .before .before .args .rules .now) (c .before .before .before .before .before .before .before .before .before .before .before .before .before .before .before .before .before .before .args .count) (c .before .before .before .before .before .before .before .before .before .before .before .before .before .before .before .before .before .before .args .pass) (c .before .before .before .before .before .before .before .before .before .before .before .before .before .before .before .before .before .before .args .marks .now) (c .before .before .before .before .before .before .before .before .before .before .before .before .before .before .before .before .before .before .args .code .now) (c .before .before .before .before .before .before .before .before .before .before .before .before .before .before .before .before .before .before .args .at) (c .before .before .before .before .before .before .before .before .before .before .before .before .before .before .before .before .before .before .args .next) _ (c .before .before .before .before .before .before .before .before .before .before .before .before .before .decode .ensures) _ (c .before .before .before .before .before .before .before .before .before .decode2 .ensures) (c .before .before .before .before .before .before .before .before .before .before .enum-told .given .1) (c .before .before .before .before .before .before .before .before .before .before .before .before .if1 .left) (c .before .before .before .before .before .before .before .before .if2 .left) (c .before .before .before .before .before .before .if3 .left) (c .before .before .before .before .if4 .left) (c .before .before .before .look-up .ensures) (c .before .enum-told2 .given .1) (c .keep5 .ensures))  -- returns-6
-    (λ c κs. (rules-long (c .before .before .before .before .before .before .before .before .before .before .before .before .before .before .before .before .before .before .pre .0 .held), omega (arith, c .before .before .before .before .before .before .before .before .before .before .before .before .before .before .before .before .before .before .pre .0 .held .few, looked-inside (c .before .before .before .look-up .ensures) (c .before .i .given .1))))  -- actions-requires
+    (λ c κs. search needs)  -- actions-requires
     (λ c. search needs)  -- array-copy-out-one
     (λ c. search needs)  -- array-copy-out-two
     (λ c. decided-matched (sheetIn (c .before .before .before .before .before .before .before .before .before .before .before .before .before .before .before .before .before .before .before .before .before .args .sheet .now)) (c .before .before .before .before .before .before .before .before .before .before .before .before .before .before .before .before .before .before .before .before .before .args .rules .now) (c .before .before .before .before .before .before .before .before .before .before .before .before .before .before .before .before .before .before .before .before .before .args .count) (c .before .before .before .before .before .before .before .before .before .before .before .before .before .before .before .before .before .before .before .before .before .args .pass) (c .before .before .before .before .before .before .before .before .before .before .before .before .before .before .before .before .before .before .before .before .before .args .marks .now) (c .before .before .before .before .before .before .before .before .before .before .before .before .before .before .before .before .before .before .before .before .before .args .code .now) (c .before .before .before .before .before .before .before .before .before .before .before .before .before .before .before .before .before .before .before .before .before .args .at) (c .before .before .before .before .before .before .before .before .before .before .before .before .before .before .before .before .before .before .before .before .before .args .next) _ (c .before .before .before .before .before .before .before .before .before .before .before .before .before .before .before .before .decode .ensures) _ (c .before .before .before .before .before .before .before .before .before .before .before .before .decode2 .ensures) (c .before .before .before .before .before .before .before .before .before .before .before .before .before .enum-told .given .1) (c .before .before .before .before .before .before .before .before .before .before .before .before .before .before .before .if1 .left) (c .before .before .before .before .before .before .before .before .before .before .before .if2 .left) (c .before .before .before .before .before .before .before .before .before .if3 .left) (c .before .before .before .before .before .before .before .if4 .left) (c .before .before .before .before .before .before .look-up .ensures) _ (c .before .before .actions .result) _ (c .before .before .before .before .i .given .1) (c .before .before .before .before .before .before .before .before .before .before .before .before .before .before .before .before .before .before .before .before .before .pre .0 .held) (c .before .before .actions .ensures)))  -- returns-7

@@ -11,4 +11,4 @@ look-up-spec =
     (λ c κs. search needs)  -- seen-requires
     (λ c κs. search needs)  -- seen-requires-2
     (λ c κs. search needs)  -- find-requires
-    (λ c. looked _ _ _ (c .find .ensures) (c .before .before .seen .ensures) (c .before .seen2 .ensures)))  -- returns
+    (λ c. looked _ _ _ _ _ _ (c .before .before .before .before .before .before .before .pre .1) (c .find .ensures) (c .before .before .seen .ensures) (c .before .seen2 .ensures)))  -- returns

@@ -1,4 +1,6 @@
 -- Made by `answers` from crates/rewrite/answers/seen.txt: edit that file, not this one.
+use mathlib.Core.Path.{_∙_}
+use Rattle.opcode.proofs.Tables.{table-number}
 use Rattle.rewrite.proofs.Sizes.{saw}
 use borrow.Author.Needs.{needs}
 use Rattle.rewrite.proofs.seen.Statement.{statement}
@@ -11,4 +13,4 @@ seen-spec =
     (λ c κs. search needs)  -- byte-at-requires
     (λ c κs. search needs)  -- role-number-requires
     (λ c κs. search needs)  -- u16-operand-requires
-    (λ c. saw _ _ (c .before .before .byte-at .ensures) (c .before .role-number .ensures) (c .u16-operand .ensures)))  -- returns
+    (λ c. saw _ _ (c .before .before .byte-at .ensures) (c .before .role-number .ensures ∙ table-number (c .before .before .before .before .before .pre) _ (search needs)) (c .u16-operand .ensures)))  -- returns

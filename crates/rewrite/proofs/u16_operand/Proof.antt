@@ -1,5 +1,4 @@
 -- Made by `answers` from crates/rewrite/answers/u16_operand.txt: edit that file, not this one.
-use native.Mathlib.Omega.{arith}
 use Rattle.definition.specs.Rewrite.{operandOf}
 use borrow.Author.Needs.{needs}
 use Rattle.rewrite.proofs.u16_operand.Statement.{statement}

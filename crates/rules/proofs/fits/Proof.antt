@@ -11,17 +11,17 @@ fits-spec =
     (λ c. search needs)  -- mul-row
     (λ c. search needs)  -- mul-if1
     (λ c. search needs)  -- shared-slice-read-if1
-    (λ c. other-pass (c .before .before .before .args .table .now) _ _ _ _ (c .before .before .before .pre) (c .if1 .taken))  -- returns
+    (λ c. other-pass (c .before .before .before .args .table .now) _ _ _ _ (c .if1 .taken))  -- returns
     (λ c. search needs)  -- add-if2
     (λ c. search needs)  -- mul-if2
     (λ c. search needs)  -- shared-slice-read-if2
     (λ c. search needs)  -- cast-if2
-    (λ c. other-first (c .before .before .before .before .before .before .args .table .now) _ _ _ _ (c .before .before .before .before .before .before .pre) (c .before .before .before .if1 .left) (c .if2 .taken))  -- returns-2
+    (λ c. other-first (c .before .before .before .before .before .before .args .table .now) _ _ _ _ (c .before .before .before .if1 .left) (c .if2 .taken))  -- returns-2
     (λ c. search needs)  -- add-if3
     (λ c. search needs)  -- mul-if3
     (λ c. search needs)  -- shared-slice-read-if3
     (λ c. search needs)  -- cast-if3
-    (λ c. other-second (c .before .before .before .before .before .before .before .before .before .args .table .now) _ _ _ _ (c .before .before .before .before .before .before .before .before .before .pre) (c .before .before .before .before .before .before .if1 .left) (c .before .before .before .if2 .left) (c .if3 .taken))  -- returns-3
+    (λ c. other-second (c .before .before .before .before .before .before .before .before .before .args .table .now) _ _ _ _ (c .before .before .before .before .before .before .if1 .left) (c .before .before .before .if2 .left) (c .if3 .taken))  -- returns-3
     (λ c. search needs)  -- add-passes
     (λ c. search needs)  -- mul-passes
     (λ c. search needs)  -- shared-slice-read-passes
@@ -29,4 +29,4 @@ fits-spec =
     (λ c. search needs)  -- mul-passes-2
     (λ c. search needs)  -- shared-slice-read-passes-2
     (λ c κs. search needs)  -- passes-requires
-    (λ c. same-roles (c .before .before .before .before .before .before .before .before .before .before .before .before .args .table .now) _ _ _ _ (c .before .before .before .before .before .before .before .before .before .before .before .before .pre) (c .before .before .before .before .before .before .before .before .before .if1 .left) (c .before .before .before .before .before .before .if2 .left) (c .before .before .before .if3 .left) (c .passes .ensures)))  -- returns-4
+    (λ c. same-roles (c .before .before .before .before .before .before .before .before .before .before .before .before .args .table .now) _ _ _ _ (c .before .before .before .before .before .before .before .before .before .if1 .left) (c .before .before .before .before .before .before .if2 .left) (c .before .before .before .if3 .left) (c .passes .ensures)))  -- returns-4

@@ -1,5 +1,5 @@
 -- Made by `answers` from crates/rules/answers/is_good.txt: edit that file, not this one.
-use mathlib.Core.Path.{ap, sym, _∙_}
+use mathlib.Core.Path.{sym, _∙_}
 use borrow.Author.Tests.{not-true, not-false}
 use Rattle.rules.proofs.Good.{no-pass, no-test, no-one, no-two, heights, cancel-is}
 use borrow.Author.Needs.{needs}

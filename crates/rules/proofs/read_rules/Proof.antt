@@ -1,9 +1,8 @@
 -- Made by `answers` from crates/rules/answers/read_rules.txt: edit that file, not this one.
 use Prim.Native.Nat.{_-_}
-use mathlib.Core.Path.{sym, _∙_}
 use borrow.Author.Tests.{not-true, not-false}
 use lib.ListN.{length}
-use Rattle.rules.proofs.File.{FileRead, file-starts, file-unended, file-full, file-bad, file-next, file-done, file-refused}
+use Rattle.rules.proofs.File.{FileRead, file-unfit, file-starts, file-unended, file-full, file-bad, file-next, file-done, file-refused}
 use Rattle.rules.proofs.read_rules.Statement.{statement}
 use Rattle.rules.proofs.read_rules.Tie as tie
 use borrow.Author.Needs.{needs}
@@ -20,30 +19,33 @@ read-rules-spec =
     (tie.spec
     Inv-loop
     μ-loop
-    (λ c κs. search needs)  -- clear-requires
-    (λ c. file-starts _ (c .before .before .before .before .before .before .pre) (c .before .before .clear .ensures))  -- loop-holds
-    (λ c κs. search needs)  -- line-end-requires
-    (λ c. search needs)  -- add-refuse
     (λ c κs. search needs)  -- refuse-requires
     (λ c. search needs)  -- same-length
-    (λ c. file-refused (file-unended (c .before .before .before .before .before .before .before .loop .inv) (c .before .before .before .before .before .line-end .ensures) (search needs) (search needs)) (c .before .before .refuse .ensures))  -- returns
-    (λ c. search needs)  -- add-refuse-2
+    (λ c. file-unfit _ (c .before .before .before .before .if1 .taken) (c .before .before .refuse .ensures))  -- returns
+    (λ c κs. search needs)  -- clear-requires
+    (λ c. file-starts _ (c .before .before .before .before .if1 .left) (c .before .before .clear .ensures))  -- loop-holds
+    (λ c κs. search needs)  -- line-end-requires
+    (λ c. search needs)  -- add-refuse
     (λ c κs. search needs)  -- refuse-requires-2
     (λ c. search needs)  -- same-length-2
-    (λ c. file-refused (file-full (c .before .before .before .before .before .before .before .before .loop .inv) (c .before .before .before .before .before .before .line-end .ensures) (search needs) (search needs)) (c .before .before .refuse2 .ensures))  -- returns-2
+    (λ c. file-refused _ (c .before .before .before .before .before .before .before .before .before .before .before .before .if1 .left) (c .before .before .before .before .before .before .before .loop .inv .long) (file-unended (c .before .before .before .before .before .before .before .loop .inv) (c .before .before .before .before .before .line-end .ensures) (search needs) (search needs)) (c .before .before .refuse2 .ensures))  -- returns-2
+    (λ c. search needs)  -- add-refuse-2
+    (λ c κs. search needs)  -- refuse-requires-3
+    (λ c. search needs)  -- same-length-3
+    (λ c. file-refused _ (c .before .before .before .before .before .before .before .before .before .before .before .before .before .if1 .left) (c .before .before .before .before .before .before .before .before .loop .inv .long) (file-full (c .before .before .before .before .before .before .before .before .loop .inv) (c .before .before .before .before .before .before .line-end .ensures) (search needs) (search needs)) (c .before .before .refuse3 .ensures))  -- returns-3
     (λ c. search needs)  -- sub-read-line
     (λ c. search needs)  -- part-read-line-start
     (λ c. search needs)  -- part-read-line-end
     (λ c κs. search needs)  -- read-line-requires
     (λ c. search needs)  -- add-refuse-3
-    (λ c κs. search needs)  -- refuse-requires-3
-    (λ c. search needs)  -- same-length-3
-    (λ c. file-refused (file-bad (c .before .before .before .before .before .before .before .before .before .before .before .before .loop .inv) (c .before .before .before .before .before .before .before .before .before .before .line-end .ensures) (search needs) (search needs) (c .before .before .before .before .before .before .read-line .ensures) (not-true _ (c .before .before .before .before .if3 .taken))) (c .before .before .refuse3 .ensures))  -- returns-3
+    (λ c κs. search needs)  -- refuse-requires-4
+    (λ c. search needs)  -- same-length-4
+    (λ c. file-refused _ (c .before .before .before .before .before .before .before .before .before .before .before .before .before .before .before .before .before .if1 .left) (c .before .before .before .before .before .before .before .before .before .before .before .before .loop .inv .long) (file-bad (c .before .before .before .before .before .before .before .before .before .before .before .before .loop .inv) (c .before .before .before .before .before .before .before .before .before .before .line-end .ensures) (search needs) (search needs) (c .before .before .before .before .before .before .read-line .ensures) (not-true _ (c .before .before .before .before .if4 .taken))) (c .before .before .refuse4 .ensures))  -- returns-4
     (λ c. search needs)  -- mul-put
     (λ c κs. search needs)  -- put-requires
     (λ c. search needs)  -- add-count
     (λ c. search needs)  -- add-at
     (λ c. search needs)  -- loop-less
-    (λ c. file-next (c .before .before .before .before .before .before .before .before .before .before .before .before .before .loop .inv) (c .before .before .before .before .before .before .before .before .before .before .before .line-end .ensures) (search needs) (search needs) (c .before .before .before .before .before .before .before .read-line .ensures) (not-false _ (c .before .before .before .before .before .if3 .left)) (c .before .before .put .ensures))  -- loop-again
-    (λ c. search needs)  -- same-length-4
-    (λ c. file-done (c .before .loop .inv) (search needs)))  -- returns-4
+    (λ c. file-next (c .before .before .before .before .before .before .before .before .before .before .before .before .before .loop .inv) (c .before .before .before .before .before .before .before .before .before .before .before .line-end .ensures) (search needs) (search needs) (c .before .before .before .before .before .before .before .read-line .ensures) (not-false _ (c .before .before .before .before .before .if4 .left)) (c .before .before .put .ensures))  -- loop-again
+    (λ c. search needs)  -- same-length-5
+    (λ c. file-done (c .before .loop .inv) (c .before .before .before .before .before .before .if1 .left) (search needs)))  -- returns-5

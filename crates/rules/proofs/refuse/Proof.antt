@@ -9,6 +9,6 @@ refuse-spec =
     tie.close
     (tie.spec
     (λ c κs. search needs)  -- clear-requires
-    (λ c. search needs)  -- cast-t6
+    (λ c. search needs)  -- cast-t7
     (λ c. search needs)  -- same-length
-    (λ c. refused-is (c .before .before .before .before .before .pre .0) (c .before .before .clear .ensures)))  -- returns
+    (λ c. refused-is (c .before .before .clear .ensures)))  -- returns

@@ -1,64 +1,66 @@
 -- Made by `answers` from crates/opcode/answers/Role/traits.txt: edit that file, not this one.
+use mathlib.Core.Path.{refl}
 use Rattle.definition.specs.Opcode.{traits, row}
+use Rattle.opcode.proofs.Roles.{is-row}
 use borrow.Author.Needs.{needs}
 use Rattle.opcode.proofs.Role.traits.Statement.{statement}
 use Rattle.opcode.proofs.Role.traits.Tie as tie
 
 returns : tie.Need-returns
 unfolding traits row
-returns c = record { size = cc; needs = cc; effect = cc }
+returns c = is-row (c .before .enum-told .given .1) (c .row .ensures) refl
 
 returns-2 : tie.Need-returns-2
 unfolding traits row
-returns-2 c = record { size = cc; needs = cc; effect = cc }
+returns-2 c = is-row (c .before .enum-told2 .given .1) (c .row2 .ensures) refl
 
 returns-3 : tie.Need-returns-3
 unfolding traits row
-returns-3 c = record { size = cc; needs = cc; effect = cc }
+returns-3 c = is-row (c .before .enum-told3 .given .1) (c .row3 .ensures) refl
 
 returns-4 : tie.Need-returns-4
 unfolding traits row
-returns-4 c = record { size = cc; needs = cc; effect = cc }
+returns-4 c = is-row (c .before .enum-told4 .given .1) (c .row4 .ensures) refl
 
 returns-5 : tie.Need-returns-5
 unfolding traits row
-returns-5 c = record { size = cc; needs = cc; effect = cc }
+returns-5 c = is-row (c .before .enum-told5 .given .1) (c .row5 .ensures) refl
 
 returns-6 : tie.Need-returns-6
 unfolding traits row
-returns-6 c = record { size = cc; needs = cc; effect = cc }
+returns-6 c = is-row (c .before .enum-told6 .given .1) (c .row6 .ensures) refl
 
 returns-7 : tie.Need-returns-7
 unfolding traits row
-returns-7 c = record { size = cc; needs = cc; effect = cc }
+returns-7 c = is-row (c .before .enum-told7 .given .1) (c .row7 .ensures) refl
 
 returns-8 : tie.Need-returns-8
 unfolding traits row
-returns-8 c = record { size = cc; needs = cc; effect = cc }
+returns-8 c = is-row (c .before .enum-told8 .given .1) (c .row8 .ensures) refl
 
 returns-9 : tie.Need-returns-9
 unfolding traits row
-returns-9 c = record { size = cc; needs = cc; effect = cc }
+returns-9 c = is-row (c .before .enum-told9 .given .1) (c .row9 .ensures) refl
 
 returns-10 : tie.Need-returns-10
 unfolding traits row
-returns-10 c = record { size = cc; needs = cc; effect = cc }
+returns-10 c = is-row (c .before .enum-told10 .given .1) (c .row10 .ensures) refl
 
 returns-11 : tie.Need-returns-11
 unfolding traits row
-returns-11 c = record { size = cc; needs = cc; effect = cc }
+returns-11 c = is-row (c .before .enum-told11 .given .1) (c .row11 .ensures) refl
 
 returns-12 : tie.Need-returns-12
 unfolding traits row
-returns-12 c = record { size = cc; needs = cc; effect = cc }
+returns-12 c = is-row (c .before .enum-told12 .given .1) (c .row12 .ensures) refl
 
 returns-13 : tie.Need-returns-13
 unfolding traits row
-returns-13 c = record { size = cc; needs = cc; effect = cc }
+returns-13 c = is-row (c .before .enum-told13 .given .1) (c .row13 .ensures) refl
 
 returns-14 : tie.Need-returns-14
 unfolding traits row
-returns-14 c = record { size = cc; needs = cc; effect = cc }
+returns-14 c = is-row (c .before .enum-told14 .given .1) (c .row14 .ensures) refl
 
 pub traits-spec : {M : Type 1} → statement M
 traits-spec =

@@ -1,4 +1,5 @@
 -- Made by `answers` from crates/opcode/answers/sheet/comparison_byte.txt: edit that file, not this one.
+use mathlib.Core.Path.{_∙_}
 use Rattle.opcode.specs.View.{compareView}
 use Rattle.opcode.proofs.Tables.{table-comparison}
 use borrow.Author.Needs.{needs}
@@ -11,6 +12,6 @@ comparison-byte-spec =
     (tie.spec
     (λ c κs. search needs)  -- index-requires
     (λ c. search needs)  -- cast-n
-    (λ c. search needs)  -- add-result
-    (λ c. search needs)  -- shared-slice-read-result
-    (λ c. rw (c .before .index .ensures) (table-comparison (c .before .before .before .args .sheet .now) (compareView (c .before .before .before .args .op)))))  -- returns
+    (λ c. search needs)  -- add-byte-or
+    (λ c κs. search needs)  -- byte-or-requires
+    (λ c. c .byte-or .ensures ∙ rw (c .before .index .ensures) (table-comparison (c .before .before .before .args .sheet .now) (compareView (c .before .before .before .args .op)))))  -- returns

@@ -1,4 +1,5 @@
 -- Made by `answers` from crates/opcode/answers/sheet/opcode_of.txt: edit that file, not this one.
+use mathlib.Core.Path.{_∙_}
 use Rattle.opcode.specs.View.{roleView}
 use Rattle.opcode.proofs.Tables.{table-opcode}
 use borrow.Author.Needs.{needs}
@@ -11,5 +12,5 @@ opcode-of-spec =
     (tie.spec
     (λ c κs. search needs)  -- number-requires
     (λ c. search needs)  -- cast-n
-    (λ c. search needs)  -- shared-slice-read-result
-    (λ c. rw (c .before .number .ensures) (table-opcode (c .before .before .before .args .sheet .now) (roleView (c .before .before .before .args .role)))))  -- returns
+    (λ c κs. search needs)  -- byte-or-requires
+    (λ c. c .byte-or .ensures ∙ rw (c .before .number .ensures) (table-opcode (c .before .before .before .args .sheet .now) (roleView (c .before .before .before .args .role)))))  -- returns

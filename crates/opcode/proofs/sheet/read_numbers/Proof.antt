@@ -1,5 +1,5 @@
 -- Made by `answers` from crates/opcode/answers/sheet/read_numbers.txt: edit that file, not this one.
-use mathlib.Core.Path.{_∙_, sym}
+use mathlib.Core.Path.{refl, _∙_, sym}
 use Prim.Native.Nat.{_-_}
 use native.Mathlib.Omega.{arith}
 use Rattle.opcode.proofs.Readings.{Reading, reading-starts, reading-goes, reading-no-byte, reading-repeats, reading-ends, group-before}
@@ -28,7 +28,7 @@ read-numbers-spec =
     (λ c. omega (arith, c .field-end .ensures .high, c .before .before .loop .inv .near (c .before .loop-test .taken)))  -- part-byte-of-end
     (λ c κs. search needs)  -- byte-of-requires
     (λ c. c .before .before .before .before .before .loop .inv .room ∙ sym (c .before .before .before .before .before .before .before .before .pre .0))  -- same-length
-    (λ c. reading-no-byte (c .before .before .before .before .before .loop .inv) (c .before .before .before .before .before .before .before .before .pre .1) (c .before .before .before .before .loop-test .taken) (c .before .before .before .field-end .ensures) (c .before .byte-of .ensures) (c .if1 .taken))  -- returns
+    (λ c. (refl, reading-no-byte (c .before .before .before .before .before .loop .inv) (c .before .before .before .before .before .before .before .before .pre .1) (c .before .before .before .before .loop-test .taken) (c .before .before .before .field-end .ensures) (c .before .byte-of .ensures) (c .if1 .taken)))  -- returns
     (λ c. search needs)  -- cast-b
     (λ c κs. search needs)  -- group-start-requires
     (λ c. group-before _ (c .group-start .ensures))  -- sub-contains
@@ -36,7 +36,7 @@ read-numbers-spec =
     (λ c. search needs)  -- part-contains-end
     (λ c κs. search needs)  -- contains-requires
     (λ c. c .before .before .before .before .before .before .before .before .before .before .loop .inv .room ∙ sym (c .before .before .before .before .before .before .before .before .before .before .before .before .before .pre .0))  -- same-length-2
-    (λ c. reading-repeats (c .before .before .before .before .before .before .before .before .before .before .loop .inv) (c .before .before .before .before .before .before .before .before .before .before .before .before .before .pre .1) (c .before .before .before .before .before .before .before .before .before .loop-test .taken) (c .before .before .before .before .before .before .before .before .field-end .ensures) (c .before .before .before .before .before .before .byte-of .ensures) (c .before .before .before .before .before .if1 .left) (c .before .before .before .before .group-start .ensures) (c .before .contains .ensures) (c .if2 .taken))  -- returns-2
+    (λ c. (refl, reading-repeats (c .before .before .before .before .before .before .before .before .before .before .loop .inv) (c .before .before .before .before .before .before .before .before .before .before .before .before .before .pre .1) (c .before .before .before .before .before .before .before .before .before .loop-test .taken) (c .before .before .before .before .before .before .before .before .field-end .ensures) (c .before .before .before .before .before .before .byte-of .ensures) (c .before .before .before .before .before .if1 .left) (c .before .before .before .before .group-start .ensures) (c .before .contains .ensures) (c .if2 .taken)))  -- returns-2
     (λ c. search needs)  -- slice-write-sheet
     (λ c. omega (arith, c .before .before .before .before .before .before .before .before .field-end .ensures .high, c .before .before .before .before .before .before .before .before .before .before .loop .inv .near (c .before .before .before .before .before .before .before .before .before .loop-test .taken), c .before .before .before .before .before .before .before .before .before .before .before .before .before .good .0 .1))  -- add-at
     (λ c. search needs)  -- add-i

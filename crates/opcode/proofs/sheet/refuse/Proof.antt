@@ -1,6 +1,5 @@
 -- Made by `answers` from crates/opcode/answers/sheet/refuse.txt: edit that file, not this one.
-use mathlib.Core.Path.{_∙_, refl, ap}
-use lib.ListN.{replicate}
+use mathlib.Core.Path.{_∙_, refl}
 use Rattle.opcode.proofs.Tables.{zeros-replicate}
 use borrow.Author.Needs.{needs}
 use Rattle.opcode.proofs.sheet.refuse.Statement.{statement}
@@ -12,4 +11,4 @@ refuse-spec =
     (tie.spec
     (λ c κs. search needs)  -- fill-requires
     (λ c. search needs)  -- same-length
-    (λ c. (refl, c .before .before .fill .ensures ∙ ap (λ n. replicate n 0) (c .before .before .before .before .before .pre) ∙ zeros-replicate 289)))  -- returns
+    (λ c. (refl, c .before .before .fill .ensures ∙ zeros-replicate _)))  -- returns

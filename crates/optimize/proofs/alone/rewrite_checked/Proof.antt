@@ -1,5 +1,4 @@
--- Made by `answers` from crates/optimize/answers/rewrite_checked.txt: edit that file, not this one.
-use native.Mathlib.Omega.{arith}
+-- Made by `answers` from crates/optimize/answers/alone/rewrite_checked.txt: edit that file, not this one.
 use mathlib.Core.Path.{refl}
 use Rattle.opcode.specs.Table.{sheetIn}
 use Rattle.rules.specs.View.{rulesIn}
@@ -7,15 +6,15 @@ use Rattle.optimize.specs.View.{given}
 use Rattle.optimize.proofs.Tables.{clear-table}
 use Rattle.optimize.proofs.Whole.{refused-8, finished}
 use borrow.Author.Needs.{needs}
-use Rattle.optimize.proofs.rewrite_checked.Statement.{statement}
-use Rattle.optimize.proofs.rewrite_checked.Tie as tie
+use Rattle.optimize.proofs.alone.rewrite_checked.Statement.{statement}
+use Rattle.optimize.proofs.alone.rewrite_checked.Tie as tie
 
 pub rewrite-checked-spec : {M : Type 1} → statement M
 rewrite-checked-spec =
     tie.close
     (tie.spec
     (λ c. search needs)  -- slice-aggregate-check
-    (λ c κs. (c .before .before .before .before .before .before .before .before .before .pre .0 .table, (c .before .before .before .before .before .before .before .before .before .pre .1 .few, clear-table 16385 refl)))  -- check-requires
+    (λ c κs. (c .before .before .before .before .before .before .before .before .before .pre .0 .table, (c .before .before .before .before .before .before .before .before .before .pre .1 .few, clear-table _ refl)))  -- check-requires
     (λ c. search needs)  -- enum-known-x
     (λ c κs. search needs)  -- place-of-requires
     (λ c κs. search needs)  -- refuse-requires

@@ -1,20 +1,20 @@
 -- The check of what is handed over alone.
-use mathlib.Core.Path.{_≡_, refl, ap, sym, _∙_}
-use mathlib.Core.Bool.{Bool, true, false}
-use mathlib.Core.List.{List, [], _∷_, map}
-use Prim.Native.Nat.{ℕ, _≤_}
+use mathlib.Core.Path.{_≡_, refl, _∙_}
+use mathlib.Core.Bool.{true, false}
+use mathlib.Core.List.{List}
+use Prim.Native.Nat.{ℕ}
 use native.Mathlib.Omega.{arith}
 use borrow.Author.Tests.{eq-eqb, ne-eqb}
 use lib.Dec.{eqb}
 use lib.ListN.{length}
 use Rattle.definition.specs.Limits.{badCode}
-use Rattle.definition.specs.Res.{Res, ok, refuse, _>>_, demand}
+use Rattle.definition.specs.Res.{ok, refuse, _>>_, demand}
 use Rattle.definition.specs.Opcode.{Sheet}
 use Rattle.definition.specs.Rewrite.{decode, endFrom, boundariesFrom}
-use Rattle.definition.specs.Alone.{Given, boundaries, checked}
+use Rattle.definition.specs.Alone.{boundaries, checked}
 use Rattle.optimize.specs.declared.Offset.{Offset}
 use Rattle.optimize.specs.declared.Offset.the-variants.{Fine, Bad}
-use Rattle.optimize.specs.View.{Small, fixedIn, Bounds, entryOffsets, offsetView, Checks, given, Passed}
+use Rattle.optimize.specs.View.{fixedIn, Bounds, entryOffsets, offsetView, Checks, given, Passed}
 use Rattle.optimize.proofs.Bounds.{table-has, same-bounds}
 
 module _ (s : Sheet) (code protected lines table : List ℕ) (end : ℕ) (b : Bounds s code table end) where

@@ -1,8 +1,8 @@
--- Made by `answers` from crates/optimize/answers/refuse.txt: edit that file, not this one.
+-- Made by `answers` from crates/optimize/answers/alone/refuse.txt: edit that file, not this one.
 use Rattle.optimize.proofs.Whole.{refused}
 use borrow.Author.Needs.{needs}
-use Rattle.optimize.proofs.refuse.Statement.{statement}
-use Rattle.optimize.proofs.refuse.Tie as tie
+use Rattle.optimize.proofs.alone.refuse.Statement.{statement}
+use Rattle.optimize.proofs.alone.refuse.Tie as tie
 
 pub refuse-spec : {M : Type 1} → statement M
 refuse-spec =

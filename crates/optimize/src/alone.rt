@@ -1,0 +1,228 @@
+// Rewriting and line mapping called alone: refusals in their order (14, 7, 9, 10, 11, 12, 8), then the passes.
+ghost use mathlib.Core.Path.{_≡_};
+ghost use Rattle.definition.specs.Res.{refuse};
+ghost use Rattle.definition.specs.Alone.{roomy, answer, Rewrites};
+ghost use Rattle.opcode.specs.Table.{IsTable, sheetIn};
+ghost use Rattle.rules.specs.View.{rulesIn};
+ghost use Rattle.optimize.specs.View.{given, room, roomOf, overLimit, answerView, Tables, Within, Roomy, afterLimits, afterRules, afterSheet};
+use crate::Offset;
+use definition::BAD_CODE;
+use definition::CODE_FULL;
+use definition::ENTRY_SIZE;
+use definition::LABELS_FULL;
+use definition::LINES_FULL;
+use definition::MAX_CODE;
+use definition::MAX_LINES;
+use definition::MAX_PROTECTED;
+use definition::OUTPUT_SHORT;
+use opcode::sheet::SheetRead;
+use rules::RuleAnswer;
+
+// What is answered: a refusal's number and place, or 0, 0 and how many bytes, protected offsets and entries the outputs hold.
+pub struct Answer {
+    pub number: u8,
+    pub place: u32,
+    pub bytes: usize,
+    pub protected: usize,
+    pub entries: usize,
+}
+
+// A refusal, which zeroes every output.
+fn refuse(
+    number: u8,
+    place: u32,
+    bytes: &mut [u8],
+    offsets: &mut [u16],
+    entries: &mut [u16],
+) -> Answer
+    ensures { λ r. ⌜ answerView r (now (bytes .exit)) (now (offsets .exit)) (now (entries .exit)) ≡ answer (room (now (bytes .entry)) (now (offsets .entry)) (now (entries .entry))) (refuse number place) ⌝ }
+{
+    rewrite::zero_from(bytes, 0);
+    crate::zero_from(offsets, 0);
+    crate::zero_from(entries, 0);
+    Answer {
+        number: number,
+        place: place,
+        bytes: 0,
+        protected: 0,
+        entries: 0,
+    }
+}
+
+fn place_of(x: u16) -> u32
+    ensures { λ r. ⌜ r ≡ x ⌝ }
+{
+    x as u32
+}
+
+// Has each lent output room for any result?
+fn roomy(bytes: usize, offsets: usize, entries: usize) -> bool
+    ensures { λ r. ⌜ r ≡ roomy (roomOf bytes offsets entries) ⌝ }
+{
+    if bytes < MAX_CODE {
+        return false;
+    }
+    if offsets < MAX_PROTECTED {
+        return false;
+    }
+    entries >= MAX_LINES * ENTRY_SIZE
+}
+
+// The refusal of what is over its limit, 10, 11 or 12; 0 if nothing is.
+fn over_limit(code: usize, protected: usize, entries: usize) -> u8
+    ensures { λ r. ⌜ r ≡ overLimit code protected entries ⌝ }
+{
+    if code > MAX_CODE {
+        return CODE_FULL;
+    }
+    if protected > MAX_PROTECTED {
+        return LABELS_FULL;
+    }
+    if entries > MAX_LINES {
+        return LINES_FULL;
+    }
+    0
+}
+
+// Within the limits: 8, or the code rewritten and the lines mapped.
+fn rewrite_checked(
+    sheet: &[u8],
+    rules: &[u16],
+    count: usize,
+    code: &[u8],
+    protected: &[u16],
+    lines: &[u16],
+    bytes: &mut [u8],
+    offsets: &mut [u16],
+    entries: &mut [u16],
+) -> Answer
+    requires { ⌜ Tables (now sheet) (now rules) count ⌝ }
+    requires { ⌜ Within (given (now code) (now protected) (now lines)) (room (now bytes) (now offsets) (now entries)) ⌝ }
+    ensures { λ r. ⌜ answerView r (now (bytes .exit)) (now (offsets .exit)) (now (entries .exit)) ≡ answer (room (now (bytes .entry)) (now (offsets .entry)) (now (entries .entry))) (afterLimits (sheetIn (now (sheet .entry))) (rulesIn (now (rules .entry)) count) (given (now (code .entry)) (now (protected .entry)) (now (lines .entry)))) ⌝ }
+{
+    let mut total = [0u16; rewrite::SLOTS];
+    match crate::check(sheet, code, protected, lines, &mut total) {
+        Offset::Bad(x) => {
+            let place = place_of(x);
+            refuse(BAD_CODE, place, bytes, offsets, entries)
+        }
+        Offset::Fine => {
+            let k = protected.len();
+            let n = crate::rewrite_into(
+                sheet,
+                rules,
+                count,
+                code,
+                protected,
+                bytes,
+                offsets,
+                &mut total,
+            );
+            let e = crate::remap_line_map(&total, n, lines, entries);
+            Answer {
+                number: 0,
+                place: 0,
+                bytes: n,
+                protected: k,
+                entries: e,
+            }
+        }
+    }
+}
+
+// 10, 11 and 12, then the rest.
+fn rewrite_limited(
+    sheet: &[u8],
+    rules: &[u16],
+    count: usize,
+    code: &[u8],
+    protected: &[u16],
+    lines: &[u16],
+    bytes: &mut [u8],
+    offsets: &mut [u16],
+    entries: &mut [u16],
+) -> Answer
+    requires { ⌜ Tables (now sheet) (now rules) count ⌝ }
+    requires { ⌜ Roomy (room (now bytes) (now offsets) (now entries)) ⌝ }
+    ensures { λ r. ⌜ answerView r (now (bytes .exit)) (now (offsets .exit)) (now (entries .exit)) ≡ answer (room (now (bytes .entry)) (now (offsets .entry)) (now (entries .entry))) (afterRules (sheetIn (now (sheet .entry))) (rulesIn (now (rules .entry)) count) (given (now (code .entry)) (now (protected .entry)) (now (lines .entry)))) ⌝ }
+{
+    let over = over_limit(code.len(), protected.len(), lines.len() / ENTRY_SIZE);
+    if over != 0 {
+        return refuse(over, 0, bytes, offsets, entries);
+    }
+    rewrite_checked(
+        sheet,
+        rules,
+        count,
+        code,
+        protected,
+        lines,
+        bytes,
+        offsets,
+        entries,
+    )
+}
+
+// The rules read (9), then the rest.
+fn rewrite_ruled(
+    sheet: &[u8],
+    rules: &[u8],
+    code: &[u8],
+    protected: &[u16],
+    lines: &[u16],
+    bytes: &mut [u8],
+    offsets: &mut [u16],
+    entries: &mut [u16],
+) -> Answer
+    requires { ⌜ IsTable (now sheet) ⌝ }
+    requires { ⌜ Roomy (room (now bytes) (now offsets) (now entries)) ⌝ }
+    ensures { λ r. ⌜ answerView r (now (bytes .exit)) (now (offsets .exit)) (now (entries .exit)) ≡ answer (room (now (bytes .entry)) (now (offsets .entry)) (now (entries .entry))) (afterSheet (sheetIn (now (sheet .entry))) (now (rules .entry)) (given (now (code .entry)) (now (protected .entry)) (now (lines .entry)))) ⌝ }
+{
+    let mut table = [0u16; rules::TABLE_SIZE];
+    match rules::read_rules(rules, &mut table) {
+        RuleAnswer::Refused(number, place) => refuse(number, place, bytes, offsets, entries),
+        RuleAnswer::Rules(count) => rewrite_limited(
+            sheet,
+            &table,
+            count,
+            code,
+            protected,
+            lines,
+            bytes,
+            offsets,
+            entries,
+        ),
+    }
+}
+
+// Rewriting and line mapping called alone, from any bytes and numbers: line entries are three numbers each, in and out.
+pub fn rewrite_alone(
+    sheet: &[u8],
+    rules: &[u8],
+    code: &[u8],
+    protected: &[u16],
+    lines: &[u16],
+    bytes: &mut [u8],
+    offsets: &mut [u16],
+    entries: &mut [u16],
+) -> Answer
+    ensures { λ r. ⌜ Rewrites (room (now (bytes .entry)) (now (offsets .entry)) (now (entries .entry))) (now (sheet .entry)) (now (rules .entry)) (given (now (code .entry)) (now (protected .entry)) (now (lines .entry))) (answerView r (now (bytes .exit)) (now (offsets .exit)) (now (entries .exit))) ⌝ }
+{
+    if !roomy(bytes.len(), offsets.len(), entries.len()) {
+        return refuse(OUTPUT_SHORT, 0, bytes, offsets, entries);
+    }
+    let mut table = [0u8; opcode::sheet::TABLE_SIZE];
+    match opcode::sheet::read_sheet(sheet, &mut table) {
+        SheetRead::Refused(number, place) => refuse(number, place, bytes, offsets, entries),
+        SheetRead::Accepted => rewrite_ruled(
+            &table,
+            rules,
+            code,
+            protected,
+            lines,
+            bytes,
+            offsets,
+            entries,
+        ),
+    }
+}
