@@ -49,8 +49,8 @@ pub finished-by : (st : State) (before : List ℕ) {after : Store} {room : Room}
 finished-by st before v h full e r p z k = finished st before v h full r (rw (← e) p) z k
 
 -- no more of the output is used than there is
-pub finish-within : (st : State) (before after : List ℕ) (n : ℕ) → Finishes st before (at after n) → n ≤ length after
-finish-within st before after n f = subst Fits (sym (f .is)) (fits-pushAll (at before 0) (text (concluded (f .place) st)) (omega arith))
+pub put-within : (before after xs : List ℕ) (n : ℕ) → at after n ≡ pushAll (at before 0) xs → n ≤ length after
+put-within before after xs n e = subst Fits (sym e) (fits-pushAll (at before 0) xs (omega arith))
 
-pub finish-part : (st : State) (before after : List ℕ) (n : ℕ) → Finishes st before (at after n) → n ≡ length (take n after)
-finish-part st before after n f = sym (length-take-le n after (finish-within st before after n f))
+pub put-part : (before after xs : List ℕ) (n : ℕ) → at after n ≡ pushAll (at before 0) xs → n ≡ length (take n after)
+put-part before after xs n e = sym (length-take-le n after (put-within before after xs n e))

@@ -1,0 +1,16 @@
+-- Made by `answers` from crates/passes_test/answers/is_answered.txt: edit that file, not this one.
+use Rattle.passes_answer.proofs.Ending.{put-within, put-part}
+use borrow.Author.Needs.{needs}
+use Rattle.passes_test.proofs.is_answered.Statement.{statement}
+use Rattle.passes_test.proofs.is_answered.Tie as tie
+
+pub is-answered-spec : {M : Type 1} → statement M
+is-answered-spec =
+    tie.close
+    (tie.spec
+    (λ c. search needs)  -- slice-aggregate-answer
+    (λ c κs. search needs)  -- answer-requires
+    (λ c. put-within _ _ _ _ (c .before .answer .ensures .is))  -- array-share-prefix-out
+    (λ c. put-part _ _ _ _ (c .before .before .answer .ensures .is))  -- slice-aggregate-is-same
+    (λ c κs. search needs)  -- is-same-requires
+    (λ c. search needs))  -- returns
