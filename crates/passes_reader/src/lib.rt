@@ -507,57 +507,28 @@ fn keep(
 ) -> Used
     ensures { λ r. ⌜ storesView r (now (sheet .exit)) (now (rules .exit)) (now (code .exit)) (now (offsets .exit)) (now (entries .exit)) ≡ def.stored (storesView used (now (sheet .entry)) (now (rules .entry)) (now (code .entry)) (now (offsets .entry)) (now (entries .entry))) (putView what) ⌝ }
 {
+    let mut kept = used;
     match what {
         Put::Nothing => used,
         Put::IntoSheet(x) => {
-            let n = store::push_byte(sheet, used.sheet, x);
-            Used {
-                sheet: n,
-                rules: used.rules,
-                code: used.code,
-                offsets: used.offsets,
-                entries: used.entries,
-            }
+            kept.sheet = store::push_byte(sheet, used.sheet, x);
+            kept
         }
         Put::IntoRules(x) => {
-            let n = store::push_byte(rules, used.rules, x);
-            Used {
-                sheet: used.sheet,
-                rules: n,
-                code: used.code,
-                offsets: used.offsets,
-                entries: used.entries,
-            }
+            kept.rules = store::push_byte(rules, used.rules, x);
+            kept
         }
         Put::IntoCode(x) => {
-            let n = store::push_byte(code, used.code, x);
-            Used {
-                sheet: used.sheet,
-                rules: used.rules,
-                code: n,
-                offsets: used.offsets,
-                entries: used.entries,
-            }
+            kept.code = store::push_byte(code, used.code, x);
+            kept
         }
         Put::IntoOffsets(x) => {
-            let n = store::push_number(offsets, used.offsets, x);
-            Used {
-                sheet: used.sheet,
-                rules: used.rules,
-                code: used.code,
-                offsets: n,
-                entries: used.entries,
-            }
+            kept.offsets = store::push_number(offsets, used.offsets, x);
+            kept
         }
         Put::IntoEntries(x) => {
-            let n = store::push_number(entries, used.entries, x);
-            Used {
-                sheet: used.sheet,
-                rules: used.rules,
-                code: used.code,
-                offsets: used.offsets,
-                entries: n,
-            }
+            kept.entries = store::push_number(entries, used.entries, x);
+            kept
         }
     }
 }
