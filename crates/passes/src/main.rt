@@ -1,7 +1,13 @@
 // Rewriting called alone, as the rig uses it: reads a sheet, rules, code, protected offsets and line entries from standard input, and prints
 // the rewritten code, the moved offsets and the mapped lines, or a refusal. Nothing is printed where the input cannot be read.
 ghost use Rattle.passes_reader.specs.View.{stateView, begun, Reading};
+use passes_reader::CODE_ROOM;
+use passes_reader::ENTRY_ROOM;
+use passes_reader::OFFSET_ROOM;
+use passes_reader::RULE_ROOM;
 use passes_reader::Reader;
+use passes_reader::SHEET_ROOM;
+use text::TEXT_ROOM;
 
 // What was read, and whether there may be more; or that a read failed.
 struct Turn {
@@ -68,17 +74,17 @@ fn print(
     offsets: &[u16],
     entries: &[u16],
 ) {
-    let mut out = [0u8; 311329];
+    let mut out = [0u8; TEXT_ROOM];
     let n = passes_answer::finish(reader, sheet, rules, code, offsets, entries, &mut out);
     io::write_all(1, &out[..n]);
 }
 
 fn main() {
-    let mut sheet = [0u8; 238];
-    let mut rules = [0u8; 15232];
-    let mut code = [0u8; 16385];
-    let mut offsets = [0u16; 4097];
-    let mut entries = [0u16; 12291];
+    let mut sheet = [0u8; SHEET_ROOM];
+    let mut rules = [0u8; RULE_ROOM];
+    let mut code = [0u8; CODE_ROOM];
+    let mut offsets = [0u16; OFFSET_ROOM];
+    let mut entries = [0u16; ENTRY_ROOM];
     let turn = read_all(
         &mut sheet,
         &mut rules,

@@ -2,6 +2,7 @@
 ghost use mathlib.Core.Path.{_≡_};
 ghost use Prim.Native.Nat.{_*_, min};
 ghost use lib.ListN.{take};
+ghost use Rattle.definition.specs.Limits.{entrySize};
 ghost use Rattle.definition.specs.Sheet.{readSheet};
 ghost use Rattle.definition.specs.Alone.{Rewrites};
 ghost use Rattle.store.specs.Store.{at, contents, pushAll};
@@ -9,9 +10,22 @@ ghost use Rattle.passes_machine.specs.Machine.{ending};
 ghost use Rattle.passes_reader.specs.View.{headView, endingView, storesView, stateView};
 ghost use Rattle.optimize.specs.View.{answerView, room};
 ghost use Rattle.passes_answer.specs.View.{handedRules, handed, handedCount, isWhole, isCounted, wholeText, answerText, Known, Finishes, Printed};
+use definition::BAD_RULE;
+use definition::ENTRY_SIZE;
+use definition::MAX_CODE;
+use definition::MAX_LINES;
+use definition::MAX_PROTECTED;
 use optimize::Answer;
+use passes_reader::CODE_ROOM;
+use passes_reader::ENTRY_ROOM;
 use passes_reader::Ending;
+use passes_reader::OFFSET_ROOM;
+use passes_reader::RULE_ROOM;
 use passes_reader::Reader;
+use passes_reader::SHEET_ROOM;
+
+// Numbers that a full line list takes.
+const LINE_NUMBERS: usize = MAX_LINES * ENTRY_SIZE;
 
 fn least(a: usize, b: usize) -> usize
     ensures { λ r. ⌜ r ≡ min a b ⌝ }
@@ -83,7 +97,7 @@ fn rewrite_read(
 
 // Numbers that so many entries take in a list of them.
 fn entry_numbers(entries: usize, room: usize) -> usize
-    ensures { λ r. ⌜ r ≡ min (entries * 3) room ⌝ }
+    ensures { λ r. ⌜ r ≡ min (entries * entrySize) room ⌝ }
 {
     if entries > room / 3 {
         room
@@ -128,7 +142,7 @@ fn put_answer(
     match end {
         Ending::Whole => put_whole(a, sheet, bytes, moved, lines, out),
         Ending::Cut(n) => text::put_malformed(out, 0, n),
-        Ending::Countless => text::put_refusal(out, 0, 9, 0),
+        Ending::Countless => text::put_refusal(out, 0, BAD_RULE as u64, 0),
     }
 }
 
@@ -160,9 +174,9 @@ pub fn finish(
 ) -> usize
     ensures { λ r. ⌜ Finishes (stateView reader (now (sheet .entry)) (now (rules .entry)) (now (code .entry)) (now (offsets .entry)) (now (entries .entry))) (now (out .entry)) (at (now (out .exit)) r) ⌝ }
 {
-    let mut bytes = [0u8; 16384];
-    let mut moved = [0u16; 4096];
-    let mut lines = [0u16; 12288];
+    let mut bytes = [0u8; MAX_CODE];
+    let mut moved = [0u16; MAX_PROTECTED];
+    let mut lines = [0u16; LINE_NUMBERS];
     let a = rewrite_read(
         reader,
         sheet,
@@ -183,11 +197,11 @@ pub fn finish(
 pub fn answer(input: &[u8], out: &mut [u8]) -> usize
     ensures { λ r. ⌜ Printed (now (input .entry)) (now (out .entry)) (at (now (out .exit)) r) ⌝ }
 {
-    let mut sheet = [0u8; 238];
-    let mut rules = [0u8; 15232];
-    let mut code = [0u8; 16385];
-    let mut offsets = [0u16; 4097];
-    let mut entries = [0u16; 12291];
+    let mut sheet = [0u8; SHEET_ROOM];
+    let mut rules = [0u8; RULE_ROOM];
+    let mut code = [0u8; CODE_ROOM];
+    let mut offsets = [0u16; OFFSET_ROOM];
+    let mut entries = [0u16; ENTRY_ROOM];
     let start = passes_reader::start();
     let reader = passes_reader::feed(
         start,

@@ -2,6 +2,10 @@
 // answer, a line ====. Prints the number of each case that is answered otherwise, and at the end how many cases there were and how many differ.
 ghost use Prim.Native.Nat.{_-_, _≤_};
 ghost use lib.ListN.{length};
+use text::TEXT_ROOM;
+
+// More than the stored answers take: a case that was cut off would differ.
+const INPUT_ROOM: usize = 330000;
 
 const SEPARATOR: [u8; 5] = [61, 61, 61, 61, 10];
 
@@ -65,7 +69,7 @@ fn is_same(a: &[u8], b: &[u8]) -> bool {
 }
 
 fn is_answered(input: &[u8], expected: &[u8]) -> bool {
-    let mut out = [0u8; 311329];
+    let mut out = [0u8; TEXT_ROOM];
     let n = passes_answer::answer(input, &mut out);
     is_same(&out[..n], expected)
 }
@@ -104,7 +108,7 @@ fn replay(input: &[u8]) {
 }
 
 fn main() {
-    let mut input = [0u8; 330000];
+    let mut input = [0u8; INPUT_ROOM];
     let n = io::read_full(0, &mut input);
     replay(&input[..n]);
 }

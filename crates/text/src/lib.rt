@@ -10,13 +10,25 @@ ghost use Rattle.definition.specs.Listing.{decimal, fields, numberLine, entryLi
 ghost use Rattle.definition.specs.Passes.{malformedLine, offsetLines, refusalLine};
 ghost use Rattle.opcode.specs.Table.{IsTable, sheetIn};
 ghost use Rattle.store.specs.Store.{at, pushAll};
-ghost use Rattle.text.specs.Text.{fieldOf, instructionLine, instructionsBy};
+ghost use Rattle.text.specs.Text.{fieldOf, instructionLine, instructionsBy, textRoom};
+use definition::MAX_CODE;
+use definition::MAX_LINES;
+use definition::MAX_PROTECTED;
 use opcode::sheet;
 use opcode::sheet::SheetRead;
+
+// Bytes that hold any text of the passes program.
+pub const TEXT_ROOM: usize = 33 + MAX_PROTECTED * 8 + MAX_LINES * 20 + MAX_CODE * 12;
 
 const COMMA: u8 = 44;
 
 const LF: u8 = 10;
+
+pub fn text_room() -> usize
+    ensures { λ r. ⌜ r ≡ textRoom ⌝ }
+{
+    TEXT_ROOM
+}
 
 // ---- numbers
 
@@ -189,7 +201,7 @@ fn put_decoded(out: &mut [u8], used: usize, table: &[u8], code: &[u8]) -> usize
 pub fn put_instructions(out: &mut [u8], used: usize, text: &[u8], code: &[u8]) -> usize
     ensures { λ r. ⌜ at (now (out .exit)) r ≡ pushAll (at (now (out .entry)) used) (instructionsBy (readSheet (now (text .entry))) (now (code .entry))) ⌝ }
 {
-    let mut table = [0u8; 289];
+    let mut table = [0u8; sheet::TABLE_SIZE];
     match sheet::read_sheet(text, &mut table) {
         SheetRead::Refused(_, _) => used,
         SheetRead::Accepted => put_decoded(out, used, &table, code),

@@ -34,6 +34,7 @@ put-answer-spec =
     (λ c. search needs)  -- enum-known-end
     (λ c κs. search needs)  -- put-malformed-requires
     (λ c. search needs)  -- enum-told-2
+    (λ c. search needs)  -- cast-put-refusal-3
     (λ c κs. search needs)  -- put-refusal-requires-2
     (λ c. search needs)  -- same-length-2
     returns-2
