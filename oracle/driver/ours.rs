@@ -1,5 +1,7 @@
 //! Our own rewriting called alone, linked as a static library (crates/alone_c): for the times.
 
+use oracle::limits::{CODE, ENTRIES, LABELS};
+
 extern "C" {
     #[allow(improper_ctypes)]
     fn mezhukan_rewrite_alone(
@@ -41,7 +43,7 @@ impl Call {
         let code = numbers(line());
         let protected = numbers(line());
         let lines = lines.flat_map(numbers::<u16>).collect();
-        let (bytes, offsets, entries) = (vec![0; 16_384], vec![0; 4_096], vec![0; 12_288]);
+        let (bytes, offsets, entries) = (vec![0; CODE], vec![0; LABELS], vec![0; 3 * ENTRIES]);
         Call { sheet, rules, code, protected, lines, bytes, offsets, entries }
     }
 
