@@ -71,19 +71,16 @@ fn parts_of(line: StmtLine) -> Parts
     ensures { λ r. ⌜ r ≡ partsOf (stmtLine line) ⌝ }
 {
     match line {
-        StmtLine::Assign {
-            pos: _,
-            variable: _,
-        } => blocks(1, 0, 0),
+        StmtLine::Assign { .. } => blocks(1, 0, 0),
         StmtLine::If {
-            pos: _,
             then,
             otherwise,
+            ..
         } => blocks(1, then, otherwise),
         StmtLine::Case {
-            pos: _,
             arms,
             otherwise,
+            ..
         } => Parts {
             bad: 0,
             exprs: 1,
@@ -91,28 +88,15 @@ fn parts_of(line: StmtLine) -> Parts
             first: 0,
             second: otherwise as usize,
         },
-        StmtLine::For {
-            pos: _,
-            loop_number: _,
-            variable: _,
-            step: _,
-            body,
-        } => blocks(2, body, 0),
+        StmtLine::For { body, .. } => blocks(2, body, 0),
         StmtLine::Loop {
-            pos: _,
-            loop_number: _,
             body,
             continuing,
+            ..
         } => blocks(0, body, continuing),
-        StmtLine::Exit {
-            pos: _,
-            loop_number: _,
-        } => blocks(0, 0, 0),
-        StmtLine::Continue {
-            pos: _,
-            loop_number: _,
-        } => blocks(0, 0, 0),
-        StmtLine::Return { pos: _ } => blocks(0, 0, 0),
+        StmtLine::Exit { .. } => blocks(0, 0, 0),
+        StmtLine::Continue { .. } => blocks(0, 0, 0),
+        StmtLine::Return { .. } => blocks(0, 0, 0),
         StmtLine::Bad(n) => Parts {
             bad: n,
             exprs: 0,

@@ -227,41 +227,17 @@ fn if_fits(when: bool, line: StmtLine) -> bool
 {
     match line {
         StmtLine::If {
-            pos: _,
             then,
             otherwise,
+            ..
         } => sizes_fit(when, then, otherwise),
-        StmtLine::Assign {
-            pos: _,
-            variable: _,
-        } => false,
-        StmtLine::Case {
-            pos: _,
-            arms: _,
-            otherwise: _,
-        } => false,
-        StmtLine::For {
-            pos: _,
-            loop_number: _,
-            variable: _,
-            step: _,
-            body: _,
-        } => false,
-        StmtLine::Loop {
-            pos: _,
-            loop_number: _,
-            body: _,
-            continuing: _,
-        } => false,
-        StmtLine::Exit {
-            pos: _,
-            loop_number: _,
-        } => false,
-        StmtLine::Continue {
-            pos: _,
-            loop_number: _,
-        } => false,
-        StmtLine::Return { pos: _ } => false,
+        StmtLine::Assign { .. } => false,
+        StmtLine::Case { .. } => false,
+        StmtLine::For { .. } => false,
+        StmtLine::Loop { .. } => false,
+        StmtLine::Exit { .. } => false,
+        StmtLine::Continue { .. } => false,
+        StmtLine::Return { .. } => false,
         StmtLine::Bad(_) => false,
     }
 }
@@ -270,42 +246,14 @@ fn exits(i: u16, line: StmtLine) -> bool
     ensures { λ r. ⌜ r ≡ exitLine i (stmtLine line) ⌝ }
 {
     match line {
-        StmtLine::Exit {
-            pos: _,
-            loop_number,
-        } => { if i == loop_number { true } else { false } }
-        StmtLine::Assign {
-            pos: _,
-            variable: _,
-        } => false,
-        StmtLine::If {
-            pos: _,
-            then: _,
-            otherwise: _,
-        } => false,
-        StmtLine::Case {
-            pos: _,
-            arms: _,
-            otherwise: _,
-        } => false,
-        StmtLine::For {
-            pos: _,
-            loop_number: _,
-            variable: _,
-            step: _,
-            body: _,
-        } => false,
-        StmtLine::Loop {
-            pos: _,
-            loop_number: _,
-            body: _,
-            continuing: _,
-        } => false,
-        StmtLine::Continue {
-            pos: _,
-            loop_number: _,
-        } => false,
-        StmtLine::Return { pos: _ } => false,
+        StmtLine::Exit { loop_number, .. } => { if i == loop_number { true } else { false } }
+        StmtLine::Assign { .. } => false,
+        StmtLine::If { .. } => false,
+        StmtLine::Case { .. } => false,
+        StmtLine::For { .. } => false,
+        StmtLine::Loop { .. } => false,
+        StmtLine::Continue { .. } => false,
+        StmtLine::Return { .. } => false,
         StmtLine::Bad(_) => false,
     }
 }
