@@ -86,7 +86,7 @@ unfolding entryNumbers
 numbers-append [] ys = refl
 numbers-append (x ∷ xs) ys = ap (λ (l : List ℕ). x .offset ∷ x .pos .line ∷ x .pos .column ∷ l) (numbers-append xs ys)
 
-length-numbers : (xs : List def.LineEntry) → length (entryNumbers xs) ≡ 3 * length xs
+pub length-numbers : (xs : List def.LineEntry) → length (entryNumbers xs) ≡ 3 * length xs
 unfolding entryNumbers
 length-numbers [] = refl
 length-numbers (x ∷ xs) = let e = length-numbers xs in omega arith

@@ -1,14 +1,13 @@
 -- The text made of the call's answer is the text of what the machine concludes.
 use mathlib.Core.Path.{_≡_, refl, ap, sym, _∙_}
-use mathlib.Core.Bool.{Bool, true, false}
-use mathlib.Core.List.{List, [], _∷_, _++_}
+use mathlib.Core.Bool.{false}
+use mathlib.Core.List.{List, [], _∷_}
 use mathlib.Core.Option.{Option, some, none}
-use Prim.Native.Nat.{ℕ, zero, suc, _+_, _*_, _-_}
+use Prim.Native.Nat.{ℕ, _*_, _-_}
 use native.Mathlib.Omega.{arith}
 use borrow.Author.Tests.{ne-eqb}
 use lib.Dec.{eqb}
 use lib.ListN.{length, take}
-use lib.Seq.{take-append-seam}
 use Rattle.definition.specs.Limits.{maxCode, entrySize, badSheet, badRule}
 use Rattle.definition.specs.Res.{Res, ok, refuse, _>>=_, _>>_, demand, given, open-Res}
 use Rattle.definition.specs.Field.{open-Field}
@@ -17,10 +16,11 @@ use Rattle.definition.specs.Sheet.{readSheet}
 use Rattle.definition.specs.Emit.{LineEntry}
 use Rattle.definition.specs.Rules.{Rule, readRules, rulesFrom, isEmpty}
 use Rattle.definition.specs.Rewrite.{decode, cut as cutBytes, endFrom, boundariesFrom}
-use Rattle.definition.specs.Lent.{zeros, filled, entryNumbers, entriesOf}
-use Rattle.definition.specs.Alone.{Given, Rewritten, Answer, answer, boundaries, checked, rewritten, rewriteFiles, rewriteInto, roomy}
-use Rattle.definition.specs.Listing.{numberLine, entryLines, instructionLines}
-use Rattle.definition.specs.Passes.{malformedLine, offsetLines, refusalLine, text}
+use Rattle.definition.specs.Lent.{filled, entryNumbers, entriesOf}
+use Rattle.definition.specs.Alone.{Given, Rewritten, answer, boundaries, checked, rewritten, rewriteFiles, rewriteInto, roomy}
+use Rattle.definition.specs.Passes.{malformedLine, refusalLine, text}
+use Rattle.optimize.proofs.Filling.{front-of}
+use Rattle.optimize.proofs.Lines.{length-numbers}
 use Rattle.store.specs.Store.{contents}
 use Rattle.passes_machine.specs.Machine.{Stores, Ending, whole, cut, countless, givenIn, concludedAs}
 use Rattle.text.specs.Text.{instructionsBy}
@@ -29,22 +29,15 @@ use Rattle.passes_answer.proofs.Refusing.{Proper, Properly, readRules-p
 
 -- ---- what outputs give back
 
-start-of : (room : ℕ) (xs : List ℕ) → take (length xs) (filled room xs) ≡ xs
-unfolding filled
-start-of room xs = take-append-seam xs (zeros (room - length xs))
-
-pub numbers-long : (ls : List LineEntry) → length (entryNumbers ls) ≡ length ls * entrySize
-unfolding entryNumbers
-numbers-long [] = refl
-numbers-long (l ∷ ls) = omega (arith, numbers-long ls)
-
 entries-back : (ls : List LineEntry) → entriesOf (entryNumbers ls) ≡ ls
 unfolding entryNumbers entriesOf
 entries-back [] = refl
 entries-back (l ∷ ls) = ap (λ (r : List LineEntry). l ∷ r) (entries-back ls)
 
 entries-of : (room : ℕ) (ls : List LineEntry) → entriesOf (take (length ls * entrySize) (filled room (entryNumbers ls))) ≡ ls
-entries-of room ls = ap (λ (n : ℕ). entriesOf (take n (filled room (entryNumbers ls)))) (sym (numbers-long ls)) ∙ ap entriesOf (start-of room (entryNumbers ls)) ∙ entries-back ls
+entries-of room ls =
+    let long : length ls * entrySize ≡ length (entryNumbers ls) = omega (arith, length-numbers ls) in
+    ap (λ (n : ℕ). entriesOf (take n (filled room (entryNumbers ls)))) long ∙ ap entriesOf (front-of room (entryNumbers ls) refl) ∙ entries-back ls
 
 -- ---- refusals
 
@@ -86,8 +79,8 @@ no-sheet-end countless place s n = rw n refl
 done-text : (s : Sheet) (x : Res Rewritten) → Properly x → answerText whole (some s) (answer fullRoom x) ≡ text (x >>= λ r. ok (s, r))
 unfolding answerText endingText wholeText answer text instructionsBy Properly open-Res
 done-text s (ok r) h =
-    let c = start-of maxCode (r .code) in
-    rw (c, start-of (fullRoom .protected) (r .protected), entries-of (fullRoom .lines) (r .lineMap)) refl
+    let c = front-of maxCode (r .code) refl in
+    rw (c, front-of (fullRoom .protected) (r .protected) refl, entries-of (fullRoom .lines) (r .lineMap)) refl
 done-text s (refuse n p) h = refused whole (some s) n p h
 
 -- what is printed at a malformed line, once the rules are read

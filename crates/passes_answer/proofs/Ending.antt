@@ -1,5 +1,5 @@
 -- The text for what a reader has read.
-use mathlib.Core.Path.{_≡_, refl, ap, sym, subst, _∙_}
+use mathlib.Core.Path.{_≡_, ap, sym, subst, _∙_}
 use mathlib.Core.Bool.{true}
 use mathlib.Core.List.{List}
 use Prim.Native.Nat.{ℕ, _≤_}
@@ -11,42 +11,35 @@ use Rattle.definition.specs.Alone.{Room, Answer, Rewrites, answer, rewriteInto}
 use Rattle.definition.specs.Passes.{text}
 use Rattle.store.specs.Store.{Store, at, contents, pushAll}
 use Rattle.store.proofs.Stores.{Fits, fits-pushAll}
-use Rattle.passes_machine.specs.Machine.{State, Ending, ending, concluded, concludedAs}
+use Rattle.passes_machine.specs.Machine.{State, Ending, ending, concluded}
 use Rattle.passes_answer.specs.View.{handedRules, handed, fullRoom, handedCount, answerText, Known, Finishes}
 use Rattle.passes_answer.proofs.Conclusion.{concluded-text}
-use Rattle.passes_answer.proofs.Handing.{part, handed-used}
+use Rattle.passes_answer.proofs.Handing.{handed-used}
 use Rattle.passes_answer.proofs.Short.{Sized, text-short}
 
-pub finished : (st : State) (before : List ℕ) {after : Store} {room : Room} {a : Answer} (v : Ending) → v ≡ ending (st .head) → room ≡ fullRoom
-    → Rewrites room (contents (st .stores .sheet)) (handedRules (ending (st .head)) (st .stores)) (handed (ending (st .head)) (st .stores)) a
-    → after ≡ pushAll (at before 0) (answerText v (readSheet (part true (st .stores .sheet))) a)
-    → Sized a → Known (a .code) (a .protected) (a .lines)
-    → Finishes st before after
-unfolding concluded
-finished st before {room = room} {a = a} v h full r p z k =
-    let e = ending (st .head) in
-    let s = st .stores in
-    let called : a ≡ answer fullRoom (rewriteInto (r .place) fullRoom (contents (s .sheet)) (handedRules e s) (handed e s)) =
-    r .is ∙ ap (λ (q : Room). answer q (rewriteInto (r .place) q (contents (s .sheet)) (handedRules e s) (handed e s))) full in
-    record {
-      place = r .place;
-      free = r .free;
-      is = p
-          ∙ ap (λ (w : Ending). pushAll (at before 0) (answerText w (readSheet (part true (s .sheet))) a)) h
-          ∙ ap (λ (l : List ℕ). pushAll (at before 0) (answerText e (readSheet l) a)) (handed-used (s .sheet .used) (s .sheet .cells))
-          ∙ ap (λ (b : Answer). pushAll (at before 0) (answerText e (readSheet (contents (s .sheet))) b)) called
-          ∙ ap (pushAll (at before 0)) (concluded-text e (r .place) s);
-      short = text-short e (r .place) s a called z k;
-    }
-
--- the same, where the sheet's count is the one that was computed
 pub finished-by : (st : State) (before : List ℕ) {after : Store} {room : Room} {a : Answer} {n : ℕ} (v : Ending) → v ≡ ending (st .head) → room ≡ fullRoom
     → n ≡ handedCount true (st .stores .sheet .used) (length (st .stores .sheet .cells))
     → Rewrites room (contents (st .stores .sheet)) (handedRules (ending (st .head)) (st .stores)) (handed (ending (st .head)) (st .stores)) a
     → after ≡ pushAll (at before 0) (answerText v (readSheet (take n (st .stores .sheet .cells))) a)
     → Sized a → Known (a .code) (a .protected) (a .lines)
     → Finishes st before after
-finished-by st before v h full e r p z k = finished st before v h full r (rw (← e) p) z k
+unfolding concluded
+finished-by st before {room = room} {a = a} {n = n} v h full c r p z k =
+    let e = ending (st .head) in
+    let s = st .stores in
+    let sheet : take n (s .sheet .cells) ≡ contents (s .sheet) = rw c (handed-used (s .sheet .used) (s .sheet .cells)) in
+    let called : a ≡ answer fullRoom (rewriteInto (r .place) fullRoom (contents (s .sheet)) (handedRules e s) (handed e s)) =
+    r .is ∙ ap (λ (q : Room). answer q (rewriteInto (r .place) q (contents (s .sheet)) (handedRules e s) (handed e s))) full in
+    record {
+      place = r .place;
+      free = r .free;
+      is = p
+          ∙ ap (λ (w : Ending). pushAll (at before 0) (answerText w (readSheet (take n (s .sheet .cells))) a)) h
+          ∙ ap (λ (l : List ℕ). pushAll (at before 0) (answerText e (readSheet l) a)) sheet
+          ∙ ap (λ (b : Answer). pushAll (at before 0) (answerText e (readSheet (contents (s .sheet))) b)) called
+          ∙ ap (pushAll (at before 0)) (concluded-text e (r .place) s);
+      short = text-short e (r .place) s a called z k;
+    }
 
 -- no more of the output is used than there is
 pub put-within : (before after xs : List ℕ) (n : ℕ) → at after n ≡ pushAll (at before 0) xs → n ≤ length after

@@ -1,19 +1,18 @@
 -- What is handed over, and what is put for an answer.
 use mathlib.Core.Path.{_≡_, refl, ap, sym, _∙_}
 use mathlib.Core.Bool.{Bool, true, false}
-use mathlib.Core.List.{List, [], _∷_, _++_, append-assoc}
-use mathlib.Core.Option.{Option, some, none}
-use Prim.Native.Nat.{ℕ, zero, suc, _*_, _≤_, _<_, min}
-use native.Mathlib.Nat.{min-eq-left, min-eq-right, min-le-left, min-le-right}
+use mathlib.Core.List.{List, [], _∷_, _++_}
+use mathlib.Core.Option.{Option}
+use Prim.Native.Nat.{ℕ, _*_, _≤_, _<_, min}
+use native.Mathlib.Nat.{min-eq-left, min-eq-right, min-le-right}
 use native.Mathlib.Omega.{arith, min-cases}
 use borrow.Author.Tests.{eq-eqb, ne-eqb}
-use lib.Dec.{eqb}
-use lib.ListN.{length, take, length-take}
+use lib.ListN.{length, take}
 use lib.Seq.{take-all, length-take-le}
 use Rattle.definition.specs.Limits.{entrySize}
 use Rattle.definition.specs.Opcode.{Sheet}
 use Rattle.definition.specs.Lent.{entriesOf}
-use Rattle.definition.specs.Alone.{Given, Room, Answer, Rewrites}
+use Rattle.definition.specs.Alone.{Room, Answer, Rewrites}
 use Rattle.definition.specs.Listing.{numberLine, entryLines}
 use Rattle.definition.specs.Passes.{offsetLines}
 use Rattle.store.specs.Store.{Store, at, contents, pushAll}
@@ -21,7 +20,7 @@ use Rattle.store.proofs.Stores.{pushAll-append}
 use Rattle.passes_machine.specs.Machine.{Stores, Ending, whole, cut, countless, givenIn}
 use Rattle.text.specs.Text.{instructionsBy}
 use Rattle.optimize.specs.View.{given}
-use Rattle.passes_answer.specs.View.{handedRules, handed, handedCount, isWhole, isCounted, wholeText, endingText, answerText, nothingGiven}
+use Rattle.passes_answer.specs.View.{handedRules, handed, handedCount, isWhole, isCounted, wholeText, endingText, answerText}
 
 -- ---- a part of a buffer
 
@@ -67,15 +66,6 @@ given-handed whole s = rw (handed-used (s .code .used) (s .code .cells), handed-
 given-handed (cut n) s = rw (handed-none (s .code .used) (s .code .cells), handed-none (s .offsets .used) (s .offsets .cells), handed-none (s .entries .used) (s .entries .cells)) refl
 given-handed countless s = rw (handed-none (s .code .used) (s .code .cells), handed-none (s .offsets .used) (s .offsets .cells), handed-none (s .entries .used) (s .entries .cells)) refl
 
--- the call on those parts is the call on what is handed over
-pub read-rewritten : {room : Room} {a : Answer} (e v : Ending) (s : Stores) {counted all : Bool} → v ≡ e → counted ≡ isCounted v → all ≡ isWhole v
-    → Rewrites room (part true (s .sheet)) (part counted (s .rules)) (given (part all (s .code)) (part all (s .offsets)) (part all (s .entries))) a
-    → Rewrites room (contents (s .sheet)) (handedRules e s) (handed e s) a
-read-rewritten {room = room} {a = a} e v s h c w r =
-    let c = c ∙ ap isCounted h in
-    let w = w ∙ ap isWhole h in
-    rw (← handed-used (s .sheet .used) (s .sheet .cells), ← rules-handed e s, ← given-handed e s, ← c, ← w) r
-
 -- ---- what is put
 
 -- parts put one behind the other
@@ -118,7 +108,7 @@ part-long n l r e = sym (length-take-le r l (rw e (min-le-right n (length l))))
 pub handed-long : (b : Bool) (used : ℕ) (l : List ℕ) (r : ℕ) → r ≡ handedCount b used (length l) → r ≡ length (take r l)
 handed-long b used l r e = sym (length-take-le r l (rw e (handed-within b used (length l))))
 
--- the same, where the counts are those that were computed
+-- the call on the parts that were computed is the call on what is handed over
 pub read-by : {room : Room} {a : Answer} (e v : Ending) (s : Stores) {counted all : Bool} {na nb nc nd ne : ℕ} → v ≡ e → counted ≡ isCounted v → all ≡ isWhole v
     → na ≡ handedCount true (s .sheet .used) (length (s .sheet .cells))
     → nb ≡ handedCount counted (s .rules .used) (length (s .rules .cells))
@@ -127,4 +117,7 @@ pub read-by : {room : Room} {a : Answer} (e v : Ending) (s : Stores) {counted al
     → ne ≡ handedCount all (s .entries .used) (length (s .entries .cells))
     → Rewrites room (take na (s .sheet .cells)) (take nb (s .rules .cells)) (given (take nc (s .code .cells)) (take nd (s .offsets .cells)) (take ne (s .entries .cells))) a
     → Rewrites room (contents (s .sheet)) (handedRules e s) (handed e s) a
-read-by e v s h c w ea eb ec ed ee r = read-rewritten e v s h c w (rw (← ea, ← eb, ← ec, ← ed, ← ee) r)
+read-by e v s h c w ea eb ec ed ee r =
+    let c = c ∙ ap isCounted h in
+    let w = w ∙ ap isWhole h in
+    rw (← handed-used (s .sheet .used) (s .sheet .cells), ← rules-handed e s, ← given-handed e s, ← c, ← w, ← ea, ← eb, ← ec, ← ed, ← ee) r

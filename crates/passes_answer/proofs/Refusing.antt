@@ -1,9 +1,8 @@
 -- No refusal of the call has number 0 or that of a malformed line.
-use mathlib.Core.Path.{_≡_, refl}
 use mathlib.Core.Bool.{Bool, true, false}
 use mathlib.Core.List.{List, [], _∷_, map}
 use mathlib.Core.Option.{Option, some, none}
-use Prim.Native.Nat.{ℕ, zero, suc, _+_, _<_}
+use Prim.Native.Nat.{ℕ, _+_, _<_}
 use native.Mathlib.Omega.{arith}
 use lib.Dec.{eqb, leb}
 use lib.ListN.{length}
@@ -13,7 +12,7 @@ use Rattle.definition.specs.Field.{lf, split, has}
 use Rattle.definition.specs.Opcode.{Sheet}
 use Rattle.definition.specs.Sheet.{readSheet}
 use Rattle.definition.specs.Emit.{LineEntry}
-use Rattle.definition.specs.Rules.{Rule, isEmpty, readRule, rulesFrom, readRules}
+use Rattle.definition.specs.Rules.{isEmpty, readRule, rulesFrom, readRules}
 use Rattle.definition.specs.Rewrite.{decode, endFrom, boundariesFrom}
 use Rattle.definition.specs.Lent.{entriesOf}
 use Rattle.definition.specs.Alone.{Given, Rewritten, boundaries, checked, rewritten, rewriteFiles}

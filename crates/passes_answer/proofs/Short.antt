@@ -1,29 +1,28 @@
 -- The text is never longer than textRoom.
-use mathlib.Core.Path.{_≡_, refl, ap, sym, subst, _∙_}
+use mathlib.Core.Path.{_≡_, refl, ap, sym, _∙_}
 use mathlib.Core.Bool.{Bool, true, false}
-use mathlib.Core.List.{List, [], _∷_, _++_}
-use mathlib.Core.Option.{Option, some, none}
-use Prim.Native.Nat.{ℕ, zero, suc, _+_, _*_, _-_, _≤_, _<_}
+use mathlib.Core.List.{List}
+use Prim.Native.Nat.{ℕ, _*_, _-_, _≤_, _<_}
 use native.Mathlib.Omega.{arith}
 use borrow.Author.Tests.{ltb-true, ltb-false}
 use lib.Dec.{ltb}
 use lib.ListN.{length, getD, length-append, List·getD-append, List·getD-eq-default}
 use Rattle.definition.specs.Limits.{maxCode, maxProtected, maxLines, entrySize, badSheet, badRule}
-use Rattle.definition.specs.Res.{Res, ok, refuse, _>>=_, given}
+use Rattle.definition.specs.Res.{Res, ok, refuse, given}
 use Rattle.definition.specs.Opcode.{Sheet}
 use Rattle.definition.specs.Sheet.{readSheet}
-use Rattle.definition.specs.Emit.{LineEntry}
-use Rattle.definition.specs.Rules.{Rule, readRules}
+use Rattle.definition.specs.Rules.{readRules}
 use Rattle.definition.specs.Lent.{zeros, filled, entryNumbers}
 use Rattle.definition.specs.Alone.{Rewritten, Answer, answer, rewriteFiles, rewriteInto}
 use Rattle.definition.specs.Passes.{malformedLine, text}
-use Rattle.rewrite.proofs.Copy.{length-zeros}
+use Rattle.runs.specs.Results.{never, ok-is, ok-bind}
+use Rattle.optimize.proofs.Lines.{length-numbers}
 use Rattle.store.specs.Store.{contents}
 use Rattle.text.specs.Text.{textRoom}
 use Rattle.text.proofs.Room.{Small, text-fits, refusal-fits}
 use Rattle.passes_machine.specs.Machine.{Stores, Ending, whole, cut, countless, givenIn, concludedAs}
 use Rattle.passes_answer.specs.View.{handedRules, handed, fullRoom, Known}
-use Rattle.passes_answer.proofs.Conclusion.{into-files, numbers-long}
+use Rattle.passes_answer.proofs.Conclusion.{into-files}
 
 -- ---- what an output holds at its start is as small as the output
 
@@ -53,7 +52,7 @@ small r a e z k =
     record {
       code = length-filled maxCode (r .code) (rw (← ap (λ (x : Answer). x .code) e) (z .code));
       protected = length-filled maxProtected (r .protected) (rw (← ap (λ (x : Answer). x .protected) e) (z .protected));
-      lines = omega (arith, lines, numbers-long (r .lineMap));
+      lines = omega (arith, lines, length-numbers (r .lineMap));
       bytes = small-start maxCode 256 (r .code) (omega arith) (rw (← ap (λ (x : Answer). x .code) e) (k .code));
       offsets = small-start maxProtected 65536 (r .protected) (omega arith) (rw (← ap (λ (x : Answer). x .protected) e) (k .protected));
       entries = small-start (maxLines * entrySize) 65536 (entryNumbers (r .lineMap)) (omega arith) (rw (← ap (λ (x : Answer). x .lines) e) (k .numbers));
@@ -61,43 +60,24 @@ small r a e z k =
 
 -- ---- what is concluded
 
-abbrev IsResult : {A : Type 0} → Res A → Type 0
-IsResult (ok a) = Unit {0}
-IsResult (refuse n p) = ⊥
-
-no-result : {A : Type 0} (n p : ℕ) (a : A) → refuse n p ≡ ok a → ⊥
-no-result n p a e = subst IsResult (sym e) tt
-
--- a result comes from a result
-pub record From {A B : Type 0} (m : Res A) (f : A → Res B) (b : B) : Type 0 where
-  pub first : A
-  pub is : m ≡ ok first
-  pub then : f first ≡ ok b
-
-result-of : {A B : Type 0} (m : Res A) (f : A → Res B) (b : B) → (m >>= f) ≡ ok b → From m f b
-unfolding _>>=_
-result-of (ok a) f b e = record { first = a; is = refl; then = e }
-result-of (refuse n p) f b e = absurd (no-result n p b e)
-
-abbrev rewrittenOr : Rewritten → Res (Sheet × Rewritten) → Rewritten
-rewrittenOr r (ok x) = x .1
-rewrittenOr r (refuse n p) = r
+no-result : {A : Type 0} (n p : ℕ) (x : A) → refuse n p ≡ ok x → ⊥
+no-result n p x e = never (cc)
 
 -- only a whole input has a result, and it is the call's
 whole-result : (e : Ending) (place : ℕ) (s : Stores) (x : Sheet × Rewritten) → concludedAs e place s ≡ ok x
     → rewriteFiles place (contents (s .sheet)) (handedRules e s) (handed e s) ≡ ok (x .1)
 unfolding concludedAs handedRules handed
 whole-result whole place s x h =
-    let a = result-of (given (readSheet (contents (s .sheet))) badSheet place) _ x h in
-    let b = result-of (rewriteFiles place (contents (s .sheet)) (contents (s .rules)) (givenIn s)) _ x (a .then) in
-    b .is ∙ ap (λ (r : Rewritten). ok r) (ap (rewrittenOr (b .first)) (b .then))
+    let a = ok-bind (given (readSheet (contents (s .sheet))) badSheet place) _ x h in
+    let b = ok-bind (rewriteFiles place (contents (s .sheet)) (contents (s .rules)) (givenIn s)) _ x (a .2) in
+    b .1 ∙ ap (λ (y : Sheet × Rewritten). ok (y .1)) (sym (ok-is (b .2)))
 whole-result (cut n) place s x h =
-    let a = result-of (given (readSheet (contents (s .sheet))) badSheet place) _ x h in
-    let b = result-of (readRules (contents (s .rules))) _ x (a .then) in
-    absurd (no-result malformedLine n x (b .then))
+    let a = ok-bind (given (readSheet (contents (s .sheet))) badSheet place) _ x h in
+    let b = ok-bind (readRules (contents (s .rules))) _ x (a .2) in
+    absurd (no-result malformedLine n x (b .2))
 whole-result countless place s x h =
-    let a = result-of (given (readSheet (contents (s .sheet))) badSheet place) _ x h in
-    absurd (no-result badRule 0 x (a .then))
+    let a = ok-bind (given (readSheet (contents (s .sheet))) badSheet place) _ x h in
+    absurd (no-result badRule 0 x (a .2))
 
 pub text-short : (e : Ending) (place : ℕ) (s : Stores) (a : Answer) → a ≡ answer fullRoom (rewriteInto place fullRoom (contents (s .sheet)) (handedRules e s) (handed e s))
     → Sized a → Known (a .code) (a .protected) (a .lines) → length (text (concludedAs e place s)) ≤ textRoom
