@@ -183,7 +183,7 @@ fn bench(program: Program, runs: u64) -> Result<(), String> {
     write(times.as_bytes())
 }
 
-/// Our rewriting called alone on the same input, once it has answered as the published code does: its time, and that of `optimize` for 100 of it.
+/// Our rewriting called alone on the same input, once its code bytes are the published code's: its time, and what part of `optimize`'s it is.
 #[cfg(feature = "ours")]
 fn ours(text: &[u8], runs: u64, optimize: u128) -> Result<String, String> {
     let mut call = ours::Call::of(&String::from_utf8_lossy(text));
