@@ -1,2 +1,4 @@
+pub mod Tests
 pub mod Numbers
 pub mod Parts
+pub mod Fields

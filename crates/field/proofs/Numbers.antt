@@ -7,7 +7,7 @@ use Prim.Native.Nat.{ℕ, zero, suc, _+_, _-_, _*_, _^_, _≤_, _<_, min}
 use native.Mathlib.Numerals.{add-one}
 use native.Mathlib.Nat.{le-of-lt, lt-of-lt-of-le, pow-le-pow-right}
 use native.Mathlib.Omega.{arith, min-cases}
-use borrow.Author.Tests.{le-leb, lt-leb, lt-ltb, le-ltb, eq-eqb, ne-eqb, ltb-true, leb-true}
+use borrow.Author.Tests.{le-leb, lt-leb, lt-ltb, le-ltb, eq-eqb, ne-eqb, ltb-true, leb-true, eqb-true, eqb-false}
 use lib.Dec.{leb, ltb, eqb, leb·suc-suc}
 use lib.ListN.{length, getD, take, drop, length-drop, drop-of-length-le}
 use lib.Seq.{drop-cons, take-all}
@@ -16,7 +16,11 @@ use Rattle.definition.specs.Field as def
 use Rattle.definition.specs.Field.{digit0, digit9, digits, natural, within, naturalWithin, negative, signed, field, upTo, below, value, malformed, outside, is}
 use Rattle.field.specs.declared.Read.{Read}
 use Rattle.field.specs.declared.Read.the-variants.{Is}
-use Rattle.field.specs.View.{readOf, cap, capped}
+use Rattle.field.specs.declared.Number.{Number}
+use Rattle.field.specs.declared.Number.the-variants as counted
+use Rattle.field.specs.declared.Number.the-variants.{Empty, Malformed}
+use Rattle.field.proofs.Tests.{and-left, and-right}
+use Rattle.field.specs.View.{readOf, cap, capped, numberOf, withDigit, longer}
 
 -- ---- counting
 
@@ -36,46 +40,91 @@ count-digits m (b ∷ bs) =
     as (λ t. elim t [ true ↦ count (min (min m cap * 10 + (b - digit0)) cap) bs | false ↦ none ] ≡ capped (elim t [ true ↦ digits (m * 10 + (b - digit0)) bs | false ↦ none ]))
     [ true ↦ rw (step m (b - digit0)) (count-digits (m * 10 + (b - digit0)) bs) | false ↦ refl ]
 
-pub natural-empty : (bs : List ℕ) → length bs ≡ 0 → none ≡ capped (natural bs)
-unfolding natural capped
-natural-empty [] h = refl
-natural-empty (b ∷ bs) h = absurd (omega arith)
+digit-first : (b : ℕ) (bs : List ℕ) → (leb digit0 b && leb b digit9) ≡ true → count 0 (b ∷ bs) ≡ count (b - digit0) bs
+unfolding count
+digit-first b bs e =
+    let small : b ≤ digit9 = leb-true b digit9 (and-right (leb digit0 b) _ e) in
+    let same : min (0 * 10 + (b - digit0)) cap ≡ b - digit0 = omega arith in
+    rw (count, e, same)
 
-pub natural-zero : (bs : List ℕ) → 1 < length bs → getD bs 0 0 ≡ 48 → none ≡ capped (natural bs)
-unfolding natural capped
-natural-zero [] h e = absurd (omega arith)
-natural-zero (b ∷ []) h e = absurd (omega arith)
-natural-zero (b ∷ c ∷ bs) h e = rw (natural, eq-eqb _ _ e, capped)
+-- ---- a number byte by byte
 
-pub natural-one : (bs : List ℕ) → (length bs ≡ 0 → ⊥) → length bs ≤ 1 → capped (natural bs) ≡ count 0 bs
-unfolding natural
-natural-one [] n h = absurd (n refl)
-natural-one (b ∷ []) n h = sym (count-digits 0 (b ∷ []))
-natural-one (b ∷ c ∷ bs) n h = absurd (omega arith)
+module _ (n : Number) {b : ℕ} where
+  pub longer-low : b < 48 → Malformed ≡ longer n b
+  unfolding longer
+  longer-low h = rw (longer, lt-leb digit0 b h)
 
-pub natural-more : (bs : List ℕ) → (length bs ≡ 0 → ⊥) → (getD bs 0 0 ≡ 48 → ⊥) → capped (natural bs) ≡ count 0 bs
-unfolding natural
-natural-more [] n h = absurd (n refl)
-natural-more (b ∷ []) n h = sym (count-digits 0 (b ∷ []))
-natural-more (b ∷ c ∷ bs) n h = rw (natural, ne-eqb _ _ h) (sym (count-digits 0 (b ∷ c ∷ bs)))
+  pub longer-high : 57 < b → Malformed ≡ longer n b
+  unfolding longer
+  longer-high h = rw (longer, le-leb digit0 b (omega arith), lt-leb b digit9 h)
+
+  pub longer-digit : 48 ≤ b → b ≤ 57 → {x : Number} → x ≡ withDigit n (b - 48) → x ≡ longer n b
+  unfolding longer
+  longer-digit l h e = rw (longer, le-leb digit0 b l, le-leb b digit9 h) e
+
+-- after all of some bytes
+unfoldable pub after : Number → List ℕ → Number
+after n [] = n
+after n (b ∷ bs) = after (longer n b) bs
+
+after-malformed : (bs : List ℕ) → numberOf (after Malformed bs) ≡ none
+unfolding after longer withDigit
+after-malformed [] = refl
+after-malformed (b ∷ bs) =
+    elim (leb digit0 b && leb b digit9) as (λ t. numberOf (after (elim t [ true ↦ Malformed | false ↦ Malformed ]) bs) ≡ none)
+    [ true ↦ after-malformed bs | false ↦ after-malformed bs ]
+
+after-zero : (b : ℕ) (bs : List ℕ) → numberOf (after (counted.Is 0) (b ∷ bs)) ≡ none
+unfolding after longer withDigit
+after-zero b bs =
+    elim (leb digit0 b && leb b digit9) as (λ t. numberOf (after (elim t [ true ↦ Malformed | false ↦ Malformed ]) bs) ≡ none)
+    [ true ↦ after-malformed bs | false ↦ after-malformed bs ]
+
+pub digit-more : (n d : ℕ) → 0 < n → withDigit (counted.Is n) d ≡ counted.Is (min (n * 10 + d) cap)
+unfolding withDigit
+digit-more zero d h = absurd (omega arith)
+digit-more (suc n) d h = refl
+
+after-counted : (n : ℕ) (bs : List ℕ) → 0 < n → numberOf (after (counted.Is n) bs) ≡ count n bs
+unfolding after longer count
+after-counted n [] h = refl
+after-counted n (b ∷ bs) h =
+    elim (leb digit0 b && leb b digit9)
+    as (λ t. numberOf (after (elim t [ true ↦ withDigit (counted.Is n) (b - digit0) | false ↦ Malformed ]) bs) ≡ elim t [ true ↦ count (min (n * 10 + (b - digit0)) cap) bs | false ↦ none ])
+    [ true ↦ rw (digit-more n (b - digit0) h) (after-counted (min (n * 10 + (b - digit0)) cap) bs (omega arith)) | false ↦ after-malformed bs ]
+
+-- from its first byte on
+module _ (b : ℕ) (bs : List ℕ) where
+  from-first : ((leb digit0 b && leb b digit9) ≡ true → numberOf (after (counted.Is (b - digit0)) bs) ≡ count (b - digit0) bs) → numberOf (after Empty (b ∷ bs)) ≡ count 0 (b ∷ bs)
+  unfolding after longer withDigit count
+  from-first same = go (leb digit0 b && leb b digit9) refl
+    where
+      go : (t : Bool) → (leb digit0 b && leb b digit9) ≡ t → numberOf (after Empty (b ∷ bs)) ≡ count 0 (b ∷ bs)
+      go true e = rw (after, longer, e) (same e ∙ sym (digit-first b bs e))
+      go false e = rw (after, longer, count, e) (after-malformed bs)
+
+pub natural-after : (bs : List ℕ) → numberOf (after Empty bs) ≡ capped (natural bs)
+unfolding natural capped after count longer withDigit
+natural-after [] = refl
+natural-after (b ∷ []) = from-first b [] (λ e. refl) ∙ count-digits 0 (b ∷ [])
+natural-after (b ∷ c ∷ bs) = go (eqb b digit0) refl
+  where
+    go : (t : Bool) → eqb b digit0 ≡ t → numberOf (after Empty (b ∷ c ∷ bs)) ≡ capped (elim t [ true ↦ none | false ↦ digits 0 (b ∷ c ∷ bs) ])
+    go true e = let z : b ≡ 48 = eqb-true b digit0 e in rw z (after-zero c bs)
+    go false e =
+        from-first b (c ∷ bs)
+        (λ d. after-counted (b - digit0) (c ∷ bs) (let low : digit0 ≤ b = leb-true digit0 b (and-left _ _ d) in let other : b ≡ digit0 → ⊥ = eqb-false b digit0 e in omega arith))
+        ∙ count-digits 0 (b ∷ c ∷ bs)
 
 -- what stands at a place of the bytes
-module _ (bs : List ℕ) (n i : ℕ) where
-  pub count-end : length bs ≤ i → count n (drop i bs) ≡ some n
-  unfolding count
-  count-end h = rw (drop-of-length-le bs h)
+module _ (bs : List ℕ) (n : Number) (i : ℕ) where
+  pub after-next : i < length bs → after n (drop i bs) ≡ after (longer n (getD bs i 0)) (drop (i + 1) bs)
+  unfolding after
+  after-next h = rw (add-one, drop-cons bs i 0 h)
 
-  pub count-low : i < length bs → getD bs i 0 < 48 → count n (drop i bs) ≡ none
-  unfolding count
-  count-low h l = rw (drop-cons bs i 0 h, count, lt-leb _ _ l)
-
-  pub count-high : i < length bs → 57 < getD bs i 0 → count n (drop i bs) ≡ none
-  unfolding count
-  count-high h l = rw (drop-cons bs i 0 h, count, le-leb digit0 (getD bs i 0) (omega arith), lt-leb _ _ l)
-
-  pub count-next : i < length bs → 48 ≤ getD bs i 0 → getD bs i 0 ≤ 57 → count n (drop i bs) ≡ count (min (n * 10 + (getD bs i 0 - 48)) cap) (drop (i + 1) bs)
-  unfolding count
-  count-next h l u = rw (add-one, drop-cons bs i 0 h, count, le-leb _ _ l, le-leb _ _ u)
+  pub after-end : length bs ≤ i → after n (drop i bs) ≡ n
+  unfolding after
+  after-end h = rw (drop-of-length-le bs h)
 
 -- ---- a number within its bound, whether counted up to the cap or not
 

@@ -12,34 +12,49 @@ use lib.Dec.{eqb, leb}
 use lib.ListN.{length, getD, take, drop, length-drop, drop-of-length-le}
 use lib.Seq.{drop-cons, drop-drop}
 use Rattle.definition.specs.Field.{lf, onto, split, firstLine}
-use Rattle.field.specs.View.{before, Ends}
+use Rattle.field.specs.View.{until, before, Ends}
 
 pub before-lf : (bs : List ℕ) → before lf bs ≡ firstLine bs
-unfolding before firstLine
+unfolding until firstLine
 before-lf [] = refl
 before-lf (b ∷ bs) =
     elim (eqb b lf) as (λ t. _≡_ {A = List ℕ} (elim t [ true ↦ [] | false ↦ b ∷ before lf bs ]) (elim t [ true ↦ [] | false ↦ b ∷ firstLine bs ]))
     [ true ↦ refl | false ↦ ap (λ (l : List ℕ). b ∷ l) (before-lf bs) ]
 
 -- ---- the first part of some bytes
+module _ (stops : ℕ → Bool) where
+  pub until-short : (bs : List ℕ) → length (until stops bs) ≤ length bs
+  unfolding until
+  until-short [] = omega arith
+  until-short (b ∷ bs) =
+      elim (stops b) as (λ t. length {A = ℕ} (elim t [ true ↦ [] | false ↦ b ∷ until stops bs ]) ≤ suc (length bs))
+      [ true ↦ omega arith | false ↦ omega (arith, until-short bs) ]
+
+  pub until-take : (bs : List ℕ) → take (length (until stops bs)) bs ≡ until stops bs
+  unfolding until
+  until-take [] = refl
+  until-take (b ∷ bs) =
+      elim (stops b) as (λ t. take (length {A = ℕ} (elim t [ true ↦ [] | false ↦ b ∷ until stops bs ])) (b ∷ bs) ≡ elim t [ true ↦ [] | false ↦ b ∷ until stops bs ])
+      [ true ↦ refl | false ↦ ap (λ (l : List ℕ). b ∷ l) (until-take bs) ]
+
+  -- byte by byte
+  module _ (bytes : List ℕ) (i : ℕ) where
+    pub until-next : i < length bytes → stops (getD bytes i 0) ≡ false → until stops (drop i bytes) ≡ getD bytes i 0 ∷ until stops (drop (i + 1) bytes)
+    unfolding until
+    until-next h e = rw (add-one i, drop-cons bytes i 0 h, until, e)
+
+    pub until-here : i < length bytes → stops (getD bytes i 0) ≡ true → until stops (drop i bytes) ≡ []
+    unfolding until
+    until-here h e = rw (drop-cons bytes i 0 h, until, e)
+
+    pub until-end : length bytes ≤ i → until stops (drop i bytes) ≡ []
+    unfolding until
+    until-end h = rw (drop-of-length-le bytes h)
+
 module _ (sep : ℕ) where
-  pub before-short : (bs : List ℕ) → length (before sep bs) ≤ length bs
-  unfolding before
-  before-short [] = omega arith
-  before-short (b ∷ bs) =
-      elim (eqb b sep) as (λ t. length {A = ℕ} (elim t [ true ↦ [] | false ↦ b ∷ before sep bs ]) ≤ suc (length bs))
-      [ true ↦ omega arith | false ↦ omega (arith, before-short bs) ]
-
-  pub before-take : (bs : List ℕ) → take (length (before sep bs)) bs ≡ before sep bs
-  unfolding before
-  before-take [] = refl
-  before-take (b ∷ bs) =
-      elim (eqb b sep) as (λ t. take (length {A = ℕ} (elim t [ true ↦ [] | false ↦ b ∷ before sep bs ])) (b ∷ bs) ≡ elim t [ true ↦ [] | false ↦ b ∷ before sep bs ])
-      [ true ↦ refl | false ↦ ap (λ (l : List ℕ). b ∷ l) (before-take bs) ]
-
   -- the parts: the first, and those of what follows it
   pub split-last : (bs : List ℕ) → length bs ≤ length (before sep bs) → split sep bs ≡ before sep bs ∷ []
-  unfolding before split onto
+  unfolding until split onto
   split-last [] = λ h. refl
   split-last (b ∷ bs) =
       elim (eqb b sep)
@@ -48,7 +63,7 @@ module _ (sep : ℕ) where
       [ true ↦ λ h. absurd (omega arith) | false ↦ λ h. rw (split-last bs (omega arith)) ]
 
   pub split-more : (bs : List ℕ) → length (before sep bs) < length bs → split sep bs ≡ before sep bs ∷ split sep (drop (suc (length (before sep bs))) bs)
-  unfolding before split onto
+  unfolding until split onto
   split-more [] = λ h. absurd (omega arith)
   split-more (b ∷ bs) =
       elim (eqb b sep)
@@ -63,7 +78,7 @@ module _ (sep : ℕ) {bytes : List ℕ} {at r : ℕ} (e : Ends (before sep) byte
   part-long = omega (arith, e .is)
 
   pub part-is : take (r - at) (drop at bytes) ≡ before sep (drop at bytes)
-  part-is = rw part-long (before-take sep (drop at bytes))
+  part-is = rw part-long (until-take _ (drop at bytes))
 
   pub parts-last : length bytes ≤ r → split sep (drop at bytes) ≡ take (r - at) (drop at bytes) ∷ []
   parts-last h = rw part-is (split-last sep (drop at bytes) (omega (arith, e .is, length-drop at bytes)))
@@ -127,30 +142,26 @@ split-some sep (b ∷ bs) =
     elim (eqb b sep) as (λ t. Some (elim t [ true ↦ [] ∷ split sep bs | false ↦ onto b (split sep bs) ]))
     [ true ↦ some-part | false ↦ onto-some b (split-some sep bs) ]
 
--- ---- finding an end, byte by byte: `sep` does not stand before i
-pub record Finding (sep : ℕ) (bytes : List ℕ) (at i : ℕ) : Type 0 where
+-- ---- finding an end, byte by byte: nothing stops before i
+pub record Finding (stops : ℕ → Bool) (bytes : List ℕ) (at i : ℕ) : Type 0 where
   pub low : at ≤ i
   pub high : i ≤ at + (length bytes - at)
-  pub more : at + length (before sep (drop at bytes)) ≡ i + length (before sep (drop i bytes))
+  pub more : at + length (until stops (drop at bytes)) ≡ i + length (until stops (drop i bytes))
 
-pub finds-start : (sep : ℕ) (bytes : List ℕ) (at : ℕ) → Finding sep bytes at at
-finds-start sep bytes at = record { low = omega arith; high = omega arith; more = refl }
+pub finds-start : (stops : ℕ → Bool) (bytes : List ℕ) (at : ℕ) → Finding stops bytes at at
+finds-start stops bytes at = record { low = omega arith; high = omega arith; more = refl }
 
-module _ {sep : ℕ} {bytes : List ℕ} {at i : ℕ} (f : Finding sep bytes at i) where
-  pub finds-next : i < length bytes → (getD bytes i 0 ≡ sep → ⊥) → Finding sep bytes at (i + 1)
-  unfolding before
+module _ {stops : ℕ → Bool} {bytes : List ℕ} {at i : ℕ} (f : Finding stops bytes at i) where
+  pub finds-next : i < length bytes → stops (getD bytes i 0) ≡ false → Finding stops bytes at (i + 1)
   finds-next h n =
-      let one : length (before sep (drop i bytes)) ≡ length (before sep (drop (i + 1) bytes)) + 1 = rw (add-one i, drop-cons bytes i 0 h, before, ne-eqb _ _ n) (omega arith) in
+      let one : length (until stops (drop i bytes)) ≡ length (until stops (drop (i + 1) bytes)) + 1 = rw (until-next stops bytes i h n) (omega arith) in
       record { low = omega (arith, f .low); high = omega (arith, f .low, f .high); more = omega (arith, f .more) }
 
-  pub finds-here : i < length bytes → getD bytes i 0 ≡ sep → Ends (before sep) bytes at i
-  unfolding before
-  finds-here h e =
-      let none : length (before sep (drop i bytes)) ≡ 0 = rw (drop-cons bytes i 0 h, before, eq-eqb _ _ e) in
-      record { is = omega (arith, f .more); low = f .low; high = f .high }
+  finds-none : until stops (drop i bytes) ≡ [] → Ends (until stops) bytes at i
+  finds-none e = record { is = omega (arith, f .more, ap length e); low = f .low; high = f .high }
 
-  pub finds-end : length bytes ≤ i → Ends (before sep) bytes at i
-  unfolding before
-  finds-end h =
-      let none : length (before sep (drop i bytes)) ≡ 0 = rw (drop-of-length-le bytes h) in
-      record { is = omega (arith, f .more); low = f .low; high = f .high }
+  pub finds-here : i < length bytes → stops (getD bytes i 0) ≡ true → Ends (until stops) bytes at i
+  finds-here h e = finds-none (until-here stops bytes i h e)
+
+  pub finds-end : length bytes ≤ i → Ends (until stops) bytes at i
+  finds-end h = finds-none (until-end stops bytes i h)

@@ -1,11 +1,11 @@
 -- What this crate's types stand for in the definition, and what its functions answer.
-use mathlib.Core.Bool.{true, false}
+use mathlib.Core.Bool.{Bool, true, false, _&&_, _||_}
 use mathlib.Core.Path.{_≡_}
 use mathlib.Core.Option.{Option, some, none}
 use mathlib.Core.List.{List, [], _∷_}
-use Prim.Native.Nat.{ℕ, _+_, _-_, _≤_, min}
-use lib.Dec.{eqb}
-use lib.ListN.{length, drop}
+use Prim.Native.Nat.{ℕ, zero, suc, _+_, _-_, _*_, _≤_, min}
+use lib.Dec.{eqb, leb}
+use lib.ListN.{length, getD, drop}
 use Rattle.definition.specs.Field as def
 use Rattle.field.specs.declared.Read.{Read}
 use Rattle.field.specs.declared.Read.the-variants.{Malformed, Outside, Is}
@@ -27,16 +27,45 @@ capped none = none
 capped (some n) = some (min n cap)
 
 abbrev pub numberOf : number.Number → Option ℕ
+numberOf counted.Empty = none
 numberOf counted.Malformed = none
 numberOf (counted.Is n) = some n
 
--- the bytes before the first `sep`, or all of them
-unfoldable pub before : ℕ → List ℕ → List ℕ
-before sep [] = []
-before sep (b ∷ bs) = elim (eqb b sep) [ true ↦ [] | false ↦ b ∷ before sep bs ]
+-- one digit more; a number that is 0 has none after it
+unfoldable pub withDigit : number.Number → ℕ → number.Number
+withDigit counted.Empty d = counted.Is d
+withDigit counted.Malformed d = counted.Malformed
+withDigit (counted.Is zero) d = counted.Malformed
+withDigit (counted.Is (suc n)) d = counted.Is (min (suc n * 10 + d) cap)
+
+-- one byte more
+unfoldable pub longer : number.Number → ℕ → number.Number
+longer n b = elim (leb def.digit0 b && leb b def.digit9) [ true ↦ withDigit n (b - def.digit0) | false ↦ counted.Malformed ]
+
+-- the bytes before the first that stops, or all of them
+unfoldable pub until : (ℕ → Bool) → List ℕ → List ℕ
+until stops [] = []
+until stops (b ∷ bs) = elim (stops b) [ true ↦ [] | false ↦ b ∷ until stops bs ]
+
+-- the bytes before the first `sep`
+abbrev pub before : ℕ → List ℕ → List ℕ
+before sep = until (λ b. eqb b sep)
+
+-- where fields of a text end
+abbrev pub separates : ℕ → Bool
+separates b = eqb b def.comma || eqb b def.lf
+
+abbrev pub firstField : List ℕ → List ℕ
+firstField = until separates
 
 -- r is where the part of `bytes` that starts at `at` ends, `part` giving a part of what is left; within `bytes` if `at` is
 pub record Ends (part : List ℕ → List ℕ) (bytes : List ℕ) (at r : ℕ) : Type 0 where
   pub is : r ≡ at + length (part (drop at bytes))
   pub low : at ≤ r
   pub high : r ≤ at + (length bytes - at)
+
+-- the field of a text that starts at `at`: what it holds, where it ends, and the byte that it ends at
+pub record Reads (f : def.Field) (text : List ℕ) (at : ℕ) (read : def.Read) (end stop : ℕ) : Type 0 where
+  pub holds : read ≡ def.field f (firstField (drop at text))
+  pub ends : Ends firstField text at end
+  pub stops : stop ≡ getD text end 0

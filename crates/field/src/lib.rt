@@ -5,7 +5,7 @@ ghost use Prim.Native.Nat.{_≤_, _+_, _*_, min};
 ghost use lib.Dec.{ltb};
 ghost use Rattle.definition.specs.Limits.{width};
 ghost use Rattle.definition.specs.Field.{comma, firstLine, natural, naturalWithin, negative, field, upTo, below, value};
-ghost use Rattle.field.specs.View.{readOf, numberOf, capped, cap, before, Ends};
+ghost use Rattle.field.specs.View.{readOf, numberOf, longer, separates, capped, cap, before, Ends, Reads};
 
 // A field as it is read; a value is its two's complement bits.
 pub enum Read {
@@ -14,8 +14,16 @@ pub enum Read {
     Is(u32),
 }
 
-// A number with no sign, counted up to the cap.
+// A field of a text as it is read, where it ends, and the byte that it ends at: a comma, an LF, or 0 for the text's end.
+pub struct Next {
+    pub read: Read,
+    pub end: usize,
+    pub stop: u8,
+}
+
+// A number with no sign, after some of its bytes, counted up to the cap. With a leading zero it is malformed from its second digit on.
 enum Number {
+    Empty,
     Malformed,
     Is(u64),
 }
@@ -40,32 +48,40 @@ fn add_digit(n: u64, digit: u8) -> u64
     }
 }
 
+// One byte more.
+fn add_byte(number: Number, b: u8) -> Number
+    ensures { λ r. ⌜ r ≡ longer number b ⌝ }
+{
+    if b < b'0' {
+        return Number::Malformed;
+    }
+    if b > b'9' {
+        return Number::Malformed;
+    }
+    let digit = b - b'0';
+    match number {
+        Number::Malformed => Number::Malformed,
+        Number::Empty => Number::Is(digit as u64),
+        Number::Is(n) => {
+            if n == 0 {
+                return Number::Malformed;
+            }
+            Number::Is(add_digit(n, digit))
+        }
+    }
+}
+
 // The number that the bytes spell.
 fn natural(bytes: &[u8]) -> Number
     ensures { λ r. ⌜ numberOf r ≡ capped (natural (now (bytes .entry))) ⌝ }
 {
-    if bytes.len() == 0 {
-        return Number::Malformed;
-    }
-    if bytes.len() > 1 {
-        if bytes[0] == b'0' {
-            return Number::Malformed;
-        }
-    }
-    let mut n: u64 = 0;
+    let mut number = Number::Empty;
     let mut i = 0;
     while i < bytes.len() {
-        let b = bytes[i];
-        if b < b'0' {
-            return Number::Malformed;
-        }
-        if b > b'9' {
-            return Number::Malformed;
-        }
-        n = add_digit(n, b - b'0');
+        number = add_byte(number, bytes[i]);
         i += 1;
     }
-    Number::Is(n)
+    number
 }
 
 // The number as a field's, which is below a limit.
@@ -74,6 +90,7 @@ fn within(number: Number, limit: u64) -> Read
     ensures { λ r. ⌜ readOf r ≡ naturalWithin (λ n. ltb n limit) (numberOf number) ⌝ }
 {
     match number {
+        Number::Empty => Read::Malformed,
         Number::Malformed => Read::Malformed,
         Number::Is(n) => {
             if n < limit {
@@ -90,6 +107,7 @@ fn negative(number: Number) -> Read
     ensures { λ r. ⌜ readOf r ≡ negative width (numberOf number) ⌝ }
 {
     match number {
+        Number::Empty => Read::Malformed,
         Number::Malformed => Read::Malformed,
         Number::Is(n) => {
             if n == 0 {
@@ -156,4 +174,39 @@ pub fn field_end(line: &[u8], at: usize) -> usize
     ensures { λ r. ⌜ Ends (before comma) (now (line .entry)) at r ⌝ }
 {
     part_end(line, at, b',')
+}
+
+// Does a field of a text end at this byte?
+fn is_separator(b: u8) -> bool
+    ensures { λ r. ⌜ r ≡ separates b ⌝ }
+{
+    if b == b',' {
+        return true;
+    }
+    b == b'\n'
+}
+
+// The field of 0 to `max` that starts at `at` of a text, and where it ends: all of it by one look at each byte.
+pub fn next_up_to(text: &[u8], at: usize, max: u32) -> Next
+    ensures { λ r. ⌜ Reads (upTo max) (now (text .entry)) at (readOf (r .read)) (r .end) (r .stop) ⌝ }
+{
+    let mut number = Number::Empty;
+    let mut i = at;
+    while i < text.len() {
+        let b = text[i];
+        if is_separator(b) {
+            return Next {
+                read: within(number, max as u64 + 1),
+                end: i,
+                stop: b,
+            };
+        }
+        number = add_byte(number, b);
+        i += 1;
+    }
+    Next {
+        read: within(number, max as u64 + 1),
+        end: i,
+        stop: 0,
+    }
 }

@@ -11,10 +11,12 @@ negative-spec =
     tie.close
     (tie.spec
     (λ c. search needs)  -- enum-told
+    (λ c. search needs)  -- enum-told-2
     (λ c. search needs)  -- enum-known-number
     (λ c. negative-zero (ap numberOf (c .before .before .number .given .1)) _ (search needs))  -- returns
     (λ c. search needs)  -- sub-t6
     (λ c. search needs)  -- cast-t7
     (λ c. negative-none (ap numberOf (c .enum-told .given .1)) _)  -- returns-2
-    (λ c. negative-within (ap numberOf (c .before .before .before .number .given .1)) 32 (search needs) (search needs))  -- returns-3
-    (λ c. negative-past (ap numberOf (c .before .before .before .number .given .1)) 32 (search needs)))  -- returns-4
+    (λ c. negative-none (ap numberOf (c .enum-told2 .given .1)) _)  -- returns-3
+    (λ c. negative-within (ap numberOf (c .before .before .before .number .given .1)) 32 (search needs) (search needs))  -- returns-4
+    (λ c. negative-past (ap numberOf (c .before .before .before .number .given .1)) 32 (search needs)))  -- returns-5
