@@ -4,9 +4,9 @@ use mathlib.Core.Bool.{Bool, true, false, _||_}
 use mathlib.Core.List.{List, [], _∷_}
 use Prim.Native.Nat.{ℕ, zero, suc, _+_, _-_, _≤_, _<_}
 use native.Mathlib.Numerals.{add-one}
-use native.Mathlib.Decide.{decLt}
+use native.Mathlib.Decide.{decLt, ℕ-discrete}
 use native.Mathlib.Omega.{arith}
-use borrow.Author.Tests.{eqb-true, eqb-false}
+use borrow.Author.Tests.{eqb-true, eqb-false, lt-ltb, le-ltb}
 use lib.Dec.{eqb, ltb}
 use lib.ListN.{length, getD, take, drop, length-drop, List·getD-eq-default}
 use lib.Seq.{drop-drop, getD-drop}
@@ -14,9 +14,9 @@ use Rattle.definition.specs.Field as def
 use Rattle.definition.specs.Field.{lf, comma, onto, split, firstLine, natural, naturalWithin, field, upTo}
 use Rattle.field.specs.declared.Number.{Number}
 use Rattle.field.specs.declared.Number.the-variants.{Empty}
-use Rattle.field.specs.View.{cap, numberOf, longer, until, separates, firstField, Ends, Reads}
+use Rattle.field.specs.View.{cap, numberOf, longer, until, separates, firstField, Ends, Reads, lineEnd, lineFields, separator}
 use Rattle.field.proofs.Numbers.{after, natural-after, up-to-is}
-use Rattle.field.proofs.Parts.{Finding, finds-start, finds-next, finds-here, finds-end, until-next, until-here, until-end, until-short}
+use Rattle.field.proofs.Parts.{Finding, finds-start, finds-next, finds-here, finds-end, until-next, until-here, until-end, Some, some-part, split-some}
 
 -- ---- one field, byte by byte: what is left makes of the number so far what all of it makes of none
 pub record Scanning (text : List ℕ) (at : ℕ) (n : Number) (i : ℕ) : Type 0 where
@@ -49,10 +49,6 @@ module _ {text : List ℕ} {at i : ℕ} {n : Number} (s : Scanning text at n i) 
     scans-end h = record { holds = held (until-end separates text i h); ends = finds-end (s .finding) h; stops = sym (List·getD-eq-default text 0 h) }
 
 -- ---- a field and its line
-
--- where the line that `at` lies in ends
-abbrev pub lineEnd : List ℕ → ℕ → ℕ
-lineEnd text at = at + length (firstLine (drop at text))
 
 -- one byte of a line, and of a field
 module _ (b : ℕ) (bs : List ℕ) where
@@ -125,20 +121,20 @@ module _ {f : def.Field} {text : List ℕ} {at end stop : ℕ} {x : def.Read} (r
         let far : at + suc (length (firstField (drop at text))) ≡ end + 1 = omega (arith, r .ends .is) in
         drop-drop (suc (length (firstField (drop at text)))) at text ∙ ap (λ (k : ℕ). drop k text) far
 
-    pub comma-fields : split comma (firstLine (drop at text)) ≡ firstField (drop at text) ∷ split comma (firstLine (drop (end + 1) text))
+    comma-fields : lineFields text at ≡ firstField (drop at text) ∷ lineFields text (end + 1)
     unfolding Goes
     comma-fields = rw (← behind) (goes (drop at text) (here ∙ c) .0)
 
-    pub comma-line : lineEnd text at ≡ lineEnd text (end + 1)
+    comma-line : lineEnd text at ≡ lineEnd text (end + 1)
     unfolding Goes
     comma-line = omega (arith, r .ends .is, rw behind at (goes (drop at text) (here ∙ c) .1))
 
   module _ (c : stop ≡ comma → ⊥) where
-    pub last-field : split comma (firstLine (drop at text)) ≡ firstField (drop at text) ∷ []
+    last-field : lineFields text at ≡ firstField (drop at text) ∷ []
     unfolding Stays
     last-field = stays (drop at text) (λ e. c (sym here ∙ e)) .0
 
-    pub last-line : lineEnd text at ≡ end
+    last-line : lineEnd text at ≡ end
     unfolding Stays
     last-line = omega (arith, r .ends .is, stays (drop at text) (λ e. c (sym here ∙ e)) .1)
 
@@ -146,3 +142,92 @@ module _ {f : def.Field} {text : List ℕ} {at end stop : ℕ} {x : def.Read} (r
     pub last-end : (stop ≡ lf → ⊥) → length text ≤ end
     unfolding Stays
     last-end n = omega (arith, r .ends .is, length-drop at text, stays (drop at text) (λ e. c (sym here ∙ e)) .2 (λ e. n (sym here ∙ e)))
+
+-- ---- the fields of the line that starts at `from`: k of them are read, and the next starts at `at`
+pub record Walk (text : List ℕ) (from k at : ℕ) : Type 0 where
+  pub rest : drop k (lineFields text from) ≡ lineFields text at
+  pub same : lineEnd text from ≡ lineEnd text at
+
+pub walk-starts : (text : List ℕ) (from : ℕ) → Walk text from 0 from
+walk-starts text from = record { rest = refl; same = refl }
+
+some-long : {xs : List (List ℕ)} → Some xs → 0 < length xs
+some-long some-part = omega arith
+
+module _ {text : List ℕ} {from k at : ℕ} (w : Walk text from k at) where
+  pub walk-inside : k < length (lineFields text from)
+  walk-inside = omega (arith, length-drop k (lineFields text from), ap length (w .rest), some-long (split-some comma (firstLine (drop at text))))
+
+  module _ {f : def.Field} {end stop : ℕ} {x : def.Read} (r : Reads f text at x end stop) where
+    -- it is that field which was read
+    pub walk-here : x ≡ field f (getD (lineFields text from) k [])
+    walk-here = go (ℕ-discrete stop comma)
+      where
+        by : {more : List (List ℕ)} → lineFields text at ≡ firstField (drop at text) ∷ more → x ≡ field f (getD (lineFields text from) k [])
+        by e =
+            let z : k + 0 ≡ k = omega arith in
+            let q : getD (lineFields text from) k [] ≡ firstField (drop at text) = rw z at (sym (getD-drop k (lineFields text from) 0 []) ∙ ap (λ (l : List (List ℕ)). getD l 0 []) (w .rest ∙ e)) in
+            r .holds ∙ ap (field f) (sym q)
+
+        go : Dec (stop ≡ comma) → x ≡ field f (getD (lineFields text from) k [])
+        go (yes c) = by (comma-fields r c)
+        go (no c) = by (last-field r c)
+
+    module _ (c : stop ≡ comma) where
+      pub walk-next : Walk text from (k + 1) (end + 1)
+      walk-next = record {
+        rest = sym (drop-drop 1 k (lineFields text from)) ∙ ap (drop 1) (w .rest ∙ comma-fields r c);
+        same = w .same ∙ comma-line r c;
+      }
+
+    module _ (c : stop ≡ comma → ⊥) where
+      pub walk-last : length (lineFields text from) ≡ k + 1
+      walk-last = omega (arith, walk-inside, length-drop k (lineFields text from), ap length (w .rest ∙ last-field r c))
+
+      pub walk-end : lineEnd text from ≡ end
+      walk-end = w .same ∙ last-line r c
+
+-- ---- a whole line, whose last field is `last`
+
+pub separator-comma : (k last : ℕ) → k < last → separator k last ≡ comma
+unfolding separator
+separator-comma k last h = rw (separator, lt-ltb k last h)
+
+pub separator-line : (k last : ℕ) → last ≤ k → separator k last ≡ lf
+unfolding separator
+separator-line k last h = rw (separator, le-ltb k last h)
+
+-- a line of so many fields that has its LF
+pub record Whole (text : List ℕ) (from n : ℕ) : Type 0 where
+  pub many : length (lineFields text from) ≡ n
+  pub ended : lineEnd text from < length text
+
+pub record Walked (text : List ℕ) (from last k at : ℕ) : Type 0 where
+  pub low : k ≤ last + 1
+  pub going : k ≤ last → Walk text from k at
+  pub done : last < k → Whole text from (last + 1) × (at ≡ lineEnd text from + 1)
+
+pub walked-starts : (text : List ℕ) (from last : ℕ) → Walked text from last 0 from
+walked-starts text from last = record { low = omega arith; going = λ h. walk-starts text from; done = λ h. absurd (omega arith) }
+
+module _ {text : List ℕ} {from last k at : ℕ} (w : Walked text from last k at) (h : k ≤ last) {f : def.Field} {end stop : ℕ} {x : def.Read} (r : Reads f text at x end stop) where
+  pub walked-next : stop ≡ separator k last → Walked text from last (k + 1) (end + 1)
+  walked-next e = go (decLt k last)
+    where
+      go : Dec (k < last) → Walked text from last (k + 1) (end + 1)
+      go (yes l) = record { low = omega arith; going = λ _. walk-next (w .going h) r (e ∙ separator-comma k last l); done = λ l. absurd (omega arith) }
+      go (no l) =
+          let line : stop ≡ lf = e ∙ separator-line k last (omega arith) in
+          let other : stop ≡ comma → ⊥ = λ c. omega arith in
+          let end-is = walk-end (w .going h) r other in
+          let whole : Whole text from (last + 1) = record { many = walk-last (w .going h) r other ∙ omega arith; ended = omega (arith, end-is, stop-inside r (λ z. omega arith)) } in
+          record { low = omega arith; going = λ l. absurd (omega arith); done = λ l. (whole, omega (arith, end-is)) }
+
+  pub walked-off : (stop ≡ separator k last → ⊥) → Whole text from (last + 1) → ⊥
+  walked-off n whole = go (ℕ-discrete stop comma) (decLt k last)
+    where
+      go : Dec (stop ≡ comma) → Dec (k < last) → ⊥
+      go (yes c) (yes l) = n (c ∙ sym (separator-comma k last l))
+      go (yes c) (no l) = omega (arith, walk-inside (walk-next (w .going h) r c), whole .many)
+      go (no c) (yes l) = omega (arith, walk-last (w .going h) r c, whole .many)
+      go (no c) (no l) = omega (arith, last-end r c (λ z. n (z ∙ sym (separator-line k last (omega arith)))), walk-end (w .going h) r c, whole .ended)

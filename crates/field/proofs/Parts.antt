@@ -23,13 +23,6 @@ before-lf (b ∷ bs) =
 
 -- ---- the first part of some bytes
 module _ (stops : ℕ → Bool) where
-  pub until-short : (bs : List ℕ) → length (until stops bs) ≤ length bs
-  unfolding until
-  until-short [] = omega arith
-  until-short (b ∷ bs) =
-      elim (stops b) as (λ t. length {A = ℕ} (elim t [ true ↦ [] | false ↦ b ∷ until stops bs ]) ≤ suc (length bs))
-      [ true ↦ omega arith | false ↦ omega (arith, until-short bs) ]
-
   pub until-take : (bs : List ℕ) → take (length (until stops bs)) bs ≡ until stops bs
   unfolding until
   until-take [] = refl

@@ -4,7 +4,7 @@ use mathlib.Core.Path.{_≡_}
 use mathlib.Core.Option.{Option, some, none}
 use mathlib.Core.List.{List, [], _∷_}
 use Prim.Native.Nat.{ℕ, zero, suc, _+_, _-_, _*_, _≤_, min}
-use lib.Dec.{eqb, leb}
+use lib.Dec.{eqb, leb, ltb}
 use lib.ListN.{length, getD, drop}
 use Rattle.definition.specs.Field as def
 use Rattle.field.specs.declared.Read.{Read}
@@ -69,3 +69,14 @@ pub record Reads (f : def.Field) (text : List ℕ) (at : ℕ) (read : def.Read) 
   pub holds : read ≡ def.field f (firstField (drop at text))
   pub ends : Ends firstField text at end
   pub stops : stop ≡ getD text end 0
+
+-- where the line that `at` lies in ends, and its fields from there on
+abbrev pub lineEnd : List ℕ → ℕ → ℕ
+lineEnd text at = at + length (def.firstLine (drop at text))
+
+abbrev pub lineFields : List ℕ → ℕ → List (List ℕ)
+lineFields text at = def.split def.comma (def.firstLine (drop at text))
+
+-- the byte that field k of a line ends at, whose last field is `last`
+unfoldable pub separator : ℕ → ℕ → ℕ
+separator k last = elim (ltb k last) [ true ↦ def.comma | false ↦ def.lf ]

@@ -5,7 +5,7 @@ ghost use Prim.Native.Nat.{_≤_, _+_, _*_, min};
 ghost use lib.Dec.{ltb};
 ghost use Rattle.definition.specs.Limits.{width};
 ghost use Rattle.definition.specs.Field.{comma, firstLine, natural, naturalWithin, negative, field, upTo, below, value};
-ghost use Rattle.field.specs.View.{readOf, numberOf, longer, separates, capped, cap, before, Ends, Reads};
+ghost use Rattle.field.specs.View.{readOf, numberOf, longer, separates, capped, cap, before, Ends, Reads, separator};
 
 // A field as it is read; a value is its two's complement bits.
 pub enum Read {
@@ -209,4 +209,11 @@ pub fn next_up_to(text: &[u8], at: usize, max: u32) -> Next
         end: i,
         stop: 0,
     }
+}
+
+// The byte that field `k` of a line ends at, whose last field is `last`.
+pub fn separator(k: usize, last: usize) -> u8
+    ensures { λ r. ⌜ r ≡ separator k last ⌝ }
+{
+    if k < last { b',' } else { b'\n' }
 }
