@@ -197,6 +197,13 @@ pub separator-line : (k last : ℕ) → last ≤ k → separator k last ≡ lf
 unfolding separator
 separator-line k last h = rw (separator, le-ltb k last h)
 
+separator-there : (k last : ℕ) → separator k last ≡ 0 → ⊥
+separator-there k last e = go (decLt k last)
+  where
+    go : Dec (k < last) → ⊥
+    go (yes h) = omega (arith, e, separator-comma k last h)
+    go (no h) = omega (arith, e, separator-line k last (omega arith))
+
 -- a line of so many fields that has its LF
 pub record Whole (text : List ℕ) (from n : ℕ) : Type 0 where
   pub many : length (lineFields text from) ≡ n
@@ -215,13 +222,16 @@ module _ {text : List ℕ} {from last k at : ℕ} (w : Walked text from last k a
   walked-next e = go (decLt k last)
     where
       go : Dec (k < last) → Walked text from last (k + 1) (end + 1)
-      go (yes l) = record { low = omega arith; going = λ _. walk-next (w .going h) r (e ∙ separator-comma k last l); done = λ l. absurd (omega arith) }
+      go (yes l) = record { low = omega arith; going = λ _. walk-next (w .going h) r (e ∙ separator-comma k last l); done = λ m. absurd (omega arith) }
       go (no l) =
           let line : stop ≡ lf = e ∙ separator-line k last (omega arith) in
-          let other : stop ≡ comma → ⊥ = λ c. omega arith in
+          let other : stop ≡ comma → ⊥ = λ c. omega (arith, line) in
           let end-is = walk-end (w .going h) r other in
-          let whole : Whole text from (last + 1) = record { many = walk-last (w .going h) r other ∙ omega arith; ended = omega (arith, end-is, stop-inside r (λ z. omega arith)) } in
-          record { low = omega arith; going = λ l. absurd (omega arith); done = λ l. (whole, omega (arith, end-is)) }
+          let whole : Whole text from (last + 1) = record { many = omega (arith, walk-last (w .going h) r other); ended = omega (arith, end-is, stop-inside r (λ z. omega (arith, line))) } in
+          record { low = omega arith; going = λ m. absurd (omega arith); done = λ m. (whole, omega (arith, end-is)) }
+
+  pub walked-inside : stop ≡ separator k last → end < length text
+  walked-inside e = stop-inside r (λ z. separator-there k last (sym e ∙ z))
 
   pub walked-off : (stop ≡ separator k last → ⊥) → Whole text from (last + 1) → ⊥
   walked-off n whole = go (ℕ-discrete stop comma) (decLt k last)

@@ -12,7 +12,7 @@ use lib.Dec.{eqb, leb}
 use lib.ListN.{length, getD, take, drop, length-drop, drop-of-length-le}
 use lib.Seq.{drop-cons, drop-drop}
 use Rattle.definition.specs.Field.{lf, onto, split, firstLine}
-use Rattle.field.specs.View.{until, before, Ends}
+use Rattle.field.specs.View.{until, before, Ends, lineEnd}
 
 pub before-lf : (bs : List ℕ) → before lf bs ≡ firstLine bs
 unfolding until firstLine
@@ -23,6 +23,13 @@ before-lf (b ∷ bs) =
 
 -- ---- the first part of some bytes
 module _ (stops : ℕ → Bool) where
+  until-short : (bs : List ℕ) → length (until stops bs) ≤ length bs
+  unfolding until
+  until-short [] = omega arith
+  until-short (b ∷ bs) =
+      elim (stops b) as (λ t. length {A = ℕ} (elim t [ true ↦ [] | false ↦ b ∷ until stops bs ]) ≤ suc (length bs))
+      [ true ↦ omega arith | false ↦ omega (arith, until-short bs) ]
+
   pub until-take : (bs : List ℕ) → take (length (until stops bs)) bs ≡ until stops bs
   unfolding until
   until-take [] = refl
@@ -85,6 +92,11 @@ module _ (sep : ℕ) {bytes : List ℕ} {at r : ℕ} (e : Ends (before sep) byte
 
 pub part-line : {bytes : List ℕ} {at r : ℕ} → Ends (before lf) bytes at r → Ends firstLine bytes at r
 part-line {bytes} {at} e = record { is = e .is ∙ ap (λ (l : List ℕ). at + length l) (before-lf (drop at bytes)); low = e .low; high = e .high }
+
+pub line-ends : (bytes : List ℕ) (at : ℕ) → Ends firstLine bytes at (lineEnd bytes at)
+line-ends bytes at =
+    let short : length (before lf (drop at bytes)) ≤ length bytes - at = omega (arith, until-short (λ b. eqb b lf) (drop at bytes), length-drop at bytes) in
+    part-line (record { is = ap (λ (l : List ℕ). at + length l) (sym (before-lf (drop at bytes))); low = omega arith; high = omega (arith, ap (λ (l : List ℕ). length l) (before-lf (drop at bytes))) })
 
 module _ {bytes : List ℕ} {at r : ℕ} (e : Ends firstLine bytes at r) where
   -- a line is a part between LFs
