@@ -17,7 +17,8 @@ use Rattle.definition.specs.Sheet.{byte, counted, sheetFields, distinct, sheetO
 use Rattle.field.proofs.Numbers.{up-to-bound}
 use Rattle.opcode.specs.Table.{Good, sheetBy}
 use Rattle.opcode.proofs.Roles.{seen-at}
-use Rattle.opcode.proofs.Sheets.{and-left, and-right, has-cons, distinct-cons}
+use Rattle.field.proofs.Tests.{and-left, and-right}
+use Rattle.opcode.proofs.Sheets.{has-cons, distinct-cons}
 
 -- two constructors are never equal
 wrong-are : {X : Type 0} {ns : List ℕ} → wrong ≡ are ns → X

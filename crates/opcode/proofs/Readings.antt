@@ -6,21 +6,22 @@ use mathlib.Core.List.{List, [], _∷_, _++_, map, map-append}
 use Prim.Native.Nat.{ℕ, zero, suc, _+_, _-_, _<_, _≤_}
 use native.Mathlib.Omega.{arith}
 use native.Mathlib.Numerals.{add-one}
-use native.Mathlib.Decide.{decLt}
+use native.Mathlib.Decide.{decLt, ℕ-discrete}
 use borrow.Author.Tests.{eq-eqb, ne-eqb, lt-ltb, le-ltb, le-leb, ltb-true, ltb-false}
 use lib.Dec.{eqb, ltb}
-use lib.ListN.{length, getD, take, drop, set, length-drop, length-set, length-map, length-append, drop-of-length-le}
-use lib.Seq.{drop-cons, drop-drop, getD-drop, getD-take, take-nil, take-suc, take-suc-set, take-take, take-append-le, take-all, length-take-le, split-at, drop-append-le}
+use lib.ListN.{length, getD, take, drop, set, length-take, length-drop, length-set, length-map, length-append, drop-of-length-le}
+use lib.Seq.{drop-cons, getD-drop, getD-take, take-nil, take-suc, take-suc-set, take-take, take-append-le, take-all, length-take-le, split-at, drop-append-le}
 use Rattle.definition.specs.Limits.{badSheet, outputShort}
 use Rattle.definition.specs.Res.{Res, ok, refuse}
 use Rattle.definition.specs.Lent.{zeros}
-use Rattle.definition.specs.Field.{lf, comma, onto, split, firstLine, Read, malformed, outside, is, field, has}
+use Rattle.definition.specs.Field.{lf, onto, split, firstLine, Read, malformed, outside, is, field, has}
 use Rattle.definition.specs.Sheet.{byte, onlyLine, counted, sheetFields, distinct, times, readAtFault, groupOf, fieldAtFault, faultAt, sheetFault, readSheet}
-use Rattle.field.specs.View.{before, Ends}
+use Rattle.field.specs.View.{Ends, lineEnd, lineFields}
 use Rattle.field.proofs.Numbers.{up-to-bound}
-use Rattle.field.proofs.Parts.{parts-last, parts-more, line-part}
+use Rattle.field.proofs.Parts.{parts-last, parts-more, line-part, line-is, line-ends, Some, some-part, split-some}
+use Rattle.field.proofs.Fields.{Whole}
 use Rattle.opcode.specs.Table.{tableSize, sheetIn, Listed, groupStart}
-use Rattle.opcode.specs.Reading.{byteOr, Spelled, Reads, Answers}
+use Rattle.opcode.specs.Reading.{byteOr, Takes, faulty, no-byte, repeats, put, Reads, Answers}
 use Rattle.opcode.proofs.Roles.{seen-at}
 use Rattle.opcode.proofs.Sheets.{has-cons, distinct-cons}
 use Rattle.opcode.proofs.Faults.{spelled, fault-refused, times-same, times-has, drop-map}
@@ -40,40 +41,11 @@ module _ (bs : List ℕ) (b i : ℕ) where
   unfolding has
   has-end h = rw (drop-of-length-le bs h)
 
--- ---- how many fields a line has
-
-onto-long : (b : ℕ) (ps : List (List ℕ)) → 0 < length ps → length (onto b ps) ≡ length ps
-unfolding onto
-onto-long b [] h = absurd (omega arith)
-onto-long b (p ∷ ps) h = refl
-
-module _ (sep : ℕ) where
-  split-some : (bs : List ℕ) → 0 < length (split sep bs)
-  unfolding split
-  split-some [] = omega arith
-  split-some (b ∷ bs) =
-      elim (eqb b sep) as (λ t. 0 < length {A = List ℕ} (elim t [ true ↦ [] ∷ split sep bs | false ↦ onto b (split sep bs) ]))
-      [ true ↦ omega arith | false ↦ rw (onto-long b (split sep bs) (split-some bs)) (split-some bs) ]
-
-  module _ (bs : List ℕ) (i : ℕ) where
-    pub count-sep : i < length bs → getD bs i 0 ≡ sep → length (split sep (drop i bs)) ≡ suc (length (split sep (drop (i + 1) bs)))
-    unfolding split
-    count-sep h e = rw (add-one, drop-cons bs i 0 h, split, eq-eqb (getD bs i 0) sep e)
-
-    pub count-other : i < length bs → (getD bs i 0 ≡ sep → ⊥) → length (split sep (drop i bs)) ≡ length (split sep (drop (i + 1) bs))
-    unfolding split
-    count-other h e = rw (add-one, drop-cons bs i 0 h, split, ne-eqb (getD bs i 0) sep e) (onto-long _ _ (split-some (drop (suc i) bs)))
-
-    pub count-end : length bs ≤ i → length (split sep (drop i bs)) ≡ 1
-    unfolding split
-    count-end h = rw (drop-of-length-le bs h)
-
 -- ---- one line
 
-two-more : (l : List ℕ) (ps : List (List ℕ)) → 0 < length ps → onlyLine (l ∷ [] ∷ ps) ≡ none
+two-more : (l : List ℕ) {ps : List (List ℕ)} → Some ps → onlyLine (l ∷ [] ∷ ps) ≡ none
 unfolding onlyLine
-two-more l [] h = absurd (omega arith)
-two-more l (p ∷ ps) h = refl
+two-more l some-part = refl
 
 one-filled : (l : List ℕ) (b : ℕ) (ps : List (List ℕ)) → onlyLine (l ∷ onto b ps) ≡ none
 unfolding onlyLine onto
@@ -84,49 +56,47 @@ more-lines : (l : List ℕ) (b : ℕ) (bs : List ℕ) → onlyLine (l ∷ split 
 unfolding split
 more-lines l b bs =
     elim (eqb b lf) as (λ t. onlyLine (l ∷ (elim t [ true ↦ [] ∷ split lf bs | false ↦ onto b (split lf bs) ])) ≡ none)
-    [ true ↦ two-more l (split lf bs) (split-some lf bs) | false ↦ one-filled l b (split lf bs) ]
+    [ true ↦ two-more l (split-some lf bs) | false ↦ one-filled l b (split lf bs) ]
 
-module _ (t : List ℕ) (end : ℕ) (e : Ends firstLine t 0 end) where
+module _ (t : List ℕ) where
+  lines : Ends firstLine t 0 (lineEnd t 0)
+  lines = line-ends t 0
+
+  line : take (lineEnd t 0 - 0) t ≡ firstLine t
+  line = line-is lines
+
   -- the LF that ends the first line ends the text
-  one-line : length t - end ≡ 1 → onlyLine (split lf t) ≡ some (split comma (take end t))
+  one-line : length t ≡ lineEnd t 0 + 1 → onlyLine (split lf t) ≡ some (lineFields t 0)
   unfolding onlyLine split
   one-line h =
-      let z : end - 0 ≡ end = omega arith in
-      let nil : drop (end + 1) t ≡ [] = drop-of-length-le t {i = end + 1} (omega arith) in
-      ap onlyLine (parts-more lf (line-part e) (omega arith)) ∙ rw (z, nil)
+      let nil : drop (lineEnd t 0 + 1) t ≡ [] = drop-of-length-le t {i = lineEnd t 0 + 1} (omega arith) in
+      ap onlyLine (parts-more lf (line-part lines) (omega arith)) ∙ rw (line, nil)
 
-  not-one-line : (length t - end ≡ 1 → ⊥) → onlyLine (split lf t) ≡ none
+  not-one-line : (length t ≡ lineEnd t 0 + 1 → ⊥) → onlyLine (split lf t) ≡ none
   unfolding onlyLine
-  not-one-line h = go (decLt end (length t))
+  not-one-line h = go (decLt (lineEnd t 0) (length t))
     where
-      go : Dec (end < length t) → onlyLine (split lf t) ≡ none
-      go (no k) = ap onlyLine (parts-last lf (line-part e) (omega arith))
+      go : Dec (lineEnd t 0 < length t) → onlyLine (split lf t) ≡ none
+      go (no k) = ap onlyLine (parts-last lf (line-part lines) (omega arith))
       go (yes k) =
-          ap onlyLine (parts-more lf (line-part e) k)
-          ∙ ap (λ (r : List ℕ). onlyLine (take (end - 0) t ∷ split lf r)) (drop-cons t (end + 1) 0 (omega arith))
-          ∙ more-lines (take (end - 0) t) (getD t (end + 1) 0) (drop (suc (end + 1)) t)
+          ap onlyLine (parts-more lf (line-part lines) k)
+          ∙ ap (λ (r : List ℕ). onlyLine (take (lineEnd t 0 - 0) t ∷ split lf r)) (drop-cons t (lineEnd t 0 + 1) 0 (omega arith))
+          ∙ more-lines (take (lineEnd t 0 - 0) t) (getD t (lineEnd t 0 + 1) 0) (drop (suc (lineEnd t 0 + 1)) t)
 
-  pub no-line : (length t - end ≡ 1 → ⊥) → sheetFault t 0 ≡ true
+  -- place 0 is at fault unless one line of 33 fields is all of the text
+  pub no-line : (Whole t 0 33 → length t ≡ lineEnd t 0 + 1 → ⊥) → sheetFault t 0 ≡ true
   unfolding sheetFault sheetFields counted faultAt
-  no-line h = ap (λ o. faultAt 0 (counted o)) (not-one-line h)
+  no-line n = go (ℕ-discrete (length t) (lineEnd t 0 + 1))
+    where
+      go : Dec (length t ≡ lineEnd t 0 + 1) → faultAt 0 (counted (onlyLine (split lf t))) ≡ true
+      go (no h) = ap (λ o. faultAt 0 (counted o)) (not-one-line h)
+      go (yes h) =
+          ap (λ o. faultAt 0 (counted o)) (one-line h)
+          ∙ rw (counted, ne-eqb (length (lineFields t 0)) 33 (λ m. n (record { many = m; ended = omega arith }) h))
 
-  module _ (h : length t - end ≡ 1) where
-    pub bad-count : (length (split comma (take end t)) ≡ 33 → ⊥) → sheetFault t 0 ≡ true
-    unfolding sheetFault sheetFields counted faultAt
-    bad-count n = ap (λ o. faultAt 0 (counted o)) (one-line h) ∙ rw (counted, ne-eqb (length (split comma (take end t))) 33 n)
-
-    fields-found : length (split comma (take end t)) ≡ 33 → sheetFields t ≡ some (split comma (take end t))
-    unfolding sheetFields counted
-    fields-found n = ap counted (one-line h) ∙ rw (counted, eq-eqb (length (split comma (take end t))) 33 n)
-
-    module _ (n : length (split comma (take end t)) ≡ 33) where
-      pub field-fault : (place : ℕ) → faultAt place (some (split comma (take end t))) ≡ true → sheetFault t place ≡ true
-      unfolding sheetFault
-      field-fault place f = ap (faultAt place) (fields-found n) ∙ f
-
-      pub sheet-read : (u : List ℕ) → length u ≡ 289 → Spelled (take end t) u → readSheet t ≡ some (sheetIn u)
-      sheet-read u l p =
-          spelled {ns = take 33 u} (record { fields = split comma (take end t); found = fields-found n; reads = p .reads; long = length-take-le 33 u (omega (arith, l)); opcodes = p .opcodes; comparisons = p .comparisons })
+  fields-found : Whole t 0 33 → length t ≡ lineEnd t 0 + 1 → sheetFields t ≡ some (lineFields t 0)
+  unfolding sheetFields counted
+  fields-found w h = ap counted (one-line h) ∙ rw (counted, eq-eqb (length (lineFields t 0)) 33 (w .many))
 
 -- ---- where a field's group starts
 
@@ -199,16 +169,16 @@ byte-is malformed n e h = absurd (omega arith)
 byte-is outside n e h = absurd (omega arith)
 byte-is (is m) n e h = cc
 
-no-byte : (bs : List ℕ) (g : List Read) → 255 < byteOr (field byte bs) → readAtFault g (field byte bs) ≡ true
+byte-none : (bs : List ℕ) (g : List Read) → 255 < byteOr (field byte bs) → readAtFault g (field byte bs) ≡ true
 unfolding byteOr readAtFault
-no-byte bs g = go (field byte bs) refl
+byte-none bs g = go (field byte bs) refl
   where
     go : (r : Read) → field byte bs ≡ r → 255 < byteOr r → readAtFault g r ≡ true
     go malformed e h = refl
     go outside e h = refl
     go (is n) e h = absurd (omega (arith, up-to-bound bs 255 e))
 
--- ---- reading the fields of a line: i of them are read, and the next starts at `at`
+-- ---- taking the fields of a line into the table
 
 drop-take : {A : Type 0} (n m : ℕ) (l : List A) → drop n (take m l) ≡ take (m - n) (drop n l)
 drop-take zero m l = let z : m - 0 ≡ m = omega arith in rw z
@@ -216,102 +186,112 @@ drop-take (suc n) zero l = let z : 0 - suc n ≡ 0 = omega arith in rw z
 drop-take (suc n) (suc m) [] = sym (take-nil (suc m - suc n))
 drop-take (suc n) (suc m) (x ∷ l) = let z : suc m - suc n ≡ m - n = omega arith in rw z (drop-take n m l)
 
--- what its bytes are read as
-abbrev pub readsOf : List ℕ → List Read
-readsOf line = map (field byte) (split comma line)
+-- what was asked of the group so far
+pub so-far : (i start n : ℕ) (t : List ℕ) {r b : Bool} → start ≡ groupStart i → r ≡ has (take (i - start) (drop start t)) n → r ≡ b → has (drop (groupStart i) (take i t)) n ≡ b
+so-far i start n t es f q = rw (← es, drop-take start i t) (sym f ∙ q)
 
-pub record Reading (line t : List ℕ) (i at : ℕ) : Type 0 where
+-- what the fields of a text's first line are read as
+abbrev readsOf : List ℕ → List Read
+readsOf text = map (field byte) (lineFields text 0)
+
+-- i fields are taken into the table: they are bytes, distinct in their groups, or one of them is at fault
+pub record Taking (text t : List ℕ) (i fault : ℕ) : Type 0 where
   pub room : length t ≡ 289
-  pub low : i ≤ 33
-  pub near : i < 33 → at ≤ length line
-  pub rest : i < 33 → drop i (split comma line) ≡ split comma (drop at line)
-  pub reads : take i (readsOf line) ≡ map is (take i t)
-  pub opcodes : distinct (take 27 (take i t)) ≡ true
-  pub comparisons : distinct (drop 27 (take i t)) ≡ true
+  pub reads : fault ≡ 0 → take i (readsOf text) ≡ map is (take i t)
+  pub opcodes : fault ≡ 0 → distinct (take 27 (take i t)) ≡ true
+  pub comparisons : fault ≡ 0 → distinct (drop 27 (take i t)) ≡ true
+  pub bad : 0 < fault → faultAt fault (some (lineFields text 0)) ≡ true
 
-pub reading-starts : (line t : List ℕ) → length t ≡ 289 → Reading line t 0 0
+pub taking-starts : (text t : List ℕ) → length t ≡ 289 → Taking text t 0 0
 unfolding distinct
-reading-starts line t l = record { room = l; low = omega arith; near = λ h. omega arith; rest = λ h. refl; reads = refl; opcodes = refl; comparisons = refl }
+taking-starts text t l = record { room = l; reads = λ z. refl; opcodes = λ z. refl; comparisons = λ z. refl; bad = λ h. absurd (omega arith) }
 
-pub reading-ends : {line t : List ℕ} {i at : ℕ} → Reading line t i at → length (split comma line) ≡ 33 → 33 ≤ i → Spelled line t
-reading-ends {line} {t} {i} p many h =
-    let e : i ≡ 33 = omega (arith, p .low) in
-    let all : take 33 (readsOf line) ≡ readsOf line = take-all 33 (readsOf line) (omega (arith, length-map (split comma line) (field byte), many)) in
-    record { reads = sym all ∙ rw e at (p .reads); opcodes = rw e at (p .opcodes); comparisons = rw e at (p .comparisons) }
+module _ {text t : List ℕ} {i fault : ℕ} (p : Taking text t i fault) (h : i < 33) (inside : i < length (lineFields text 0)) {x : Read} (ex : x ≡ field byte (getD (lineFields text 0) i [])) where
+  long : i < length (readsOf text)
+  long = omega (arith, length-map (lineFields text 0) (field byte))
 
-module _ {line t : List ℕ} {i at : ℕ} (p : Reading line t i at) (many : length (split comma line) ≡ 33) (h : i < 33) {stop : ℕ} (e : Ends (before comma) line at stop) where
-  -- the next field, and those after it
-  parts : (more : List (List ℕ)) × (drop i (split comma line) ≡ take (stop - at) (drop at line) ∷ more) × (i + 1 < 33 → (stop + 1 ≤ length line) × (more ≡ split comma (drop (stop + 1) line)))
-  parts = go (decLt stop (length line))
-    where
-      go : Dec (stop < length line)
-          → (more : List (List ℕ)) × (drop i (split comma line) ≡ take (stop - at) (drop at line) ∷ more) × (i + 1 < 33 → (stop + 1 ≤ length line) × (more ≡ split comma (drop (stop + 1) line)))
-      go (yes k) = (split comma (drop (stop + 1) line), p .rest h ∙ parts-more comma e k, λ l. (omega arith, refl))
-      go (no k) =
-          let q = p .rest h ∙ parts-last comma e (omega arith) in
-          ([], q, λ l. absurd (omega (arith, ap length q, length-drop i (split comma line), many)))
+  read-here : getD (readsOf text) i malformed ≡ x
+  read-here = sym (seen-at (field byte) (lineFields text 0) [] malformed i inside) ∙ sym ex
 
-  long : length (readsOf line) ≡ 33
-  long = length-map (split comma line) (field byte) ∙ many
-
-  read-here : getD (readsOf line) i malformed ≡ field byte (take (stop - at) (drop at line))
-  read-here =
-      let z : i + 0 ≡ i = omega arith in
-      let q : getD (split comma line) i [] ≡ take (stop - at) (drop at line) = rw z at (sym (getD-drop i (split comma line) 0 []) ∙ ap (λ (l : List (List ℕ)). getD l 0 []) (parts .1)) in
-      sym (seen-at (field byte) (split comma line) [] malformed i (omega (arith, many))) ∙ ap (field byte) q
-
-  at-fault : readAtFault (groupOf i (readsOf line)) (field byte (take (stop - at) (drop at line))) ≡ true → faultAt (i + 1) (some (split comma line)) ≡ true
+  at-fault : readAtFault (groupOf i (readsOf text)) x ≡ true → faultAt (i + 1) (some (lineFields text 0)) ≡ true
   unfolding faultAt fieldAtFault
   at-fault f = rw (add-one i, fieldAtFault, lt-ltb i 33 h, read-here) f
 
-  module _ {n : ℕ} (en : n ≡ byteOr (field byte (take (stop - at) (drop at line)))) where
-    pub reading-no-byte : 255 < n → faultAt (i + 1) (some (split comma line)) ≡ true
-    reading-no-byte k = at-fault (no-byte (take (stop - at) (drop at line)) (groupOf i (readsOf line)) (omega arith))
+  -- the byte that was read stands before it in its group
+  module _ (fine : fault ≡ 0) (here : x ≡ is (byteOr x)) where
+    group-twice : has (drop (groupStart i) (take i t)) (byteOr x) ≡ true → 2 ≤ times (byteOr x) (groupOf i (readsOf text))
+    unfolding groupStart groupOf
+    group-twice = go (ltb i 27) refl
+      where
+        go : (b : Bool) → ltb i 27 ≡ b → has (drop (elim b [ true ↦ 0 | false ↦ 27 ]) (take i t)) (byteOr x) ≡ true
+            → 2 ≤ times (byteOr x) (elim b [ true ↦ take 27 (readsOf text) | false ↦ drop 27 (readsOf text) ])
+        go true q f =
+            let l = ltb-true i 27 q in
+            twice (byteOr x) i (take 27 (readsOf text)) (take i t)
+            (omega (arith, length-take 27 (readsOf text), long))
+            (take-take i 27 (readsOf text) (omega arith) ∙ p .reads fine)
+            (getD-take 27 (readsOf text) i malformed l ∙ read-here ∙ here) f
+        go false q f =
+            let l = ltb-false i 27 q in
+            let z : 27 + (i - 27) ≡ i = omega arith in
+            twice (byteOr x) (i - 27) (drop 27 (readsOf text)) (drop 27 (take i t))
+            (omega (arith, length-drop 27 (readsOf text), long))
+            (sym (drop-take 27 i (readsOf text)) ∙ ap (drop 27) (p .reads fine) ∙ drop-map is 27 (take i t))
+            (getD-drop 27 (readsOf text) (i - 27) malformed ∙ rw z (read-here ∙ here)) f
 
-    module _ (k : n ≤ 255) where
-      here : field byte (take (stop - at) (drop at line)) ≡ is n
-      here = byte-is (field byte (take (stop - at) (drop at line))) n en k
+    taken : has (drop (groupStart i) (take i t)) (byteOr x) ≡ false → Taking text (set t i (byteOr x)) (i + 1) 0
+    taken f =
+        let w : take (i + 1) (set t i (byteOr x)) ≡ take i t ++ byteOr x ∷ [] = rw (add-one i) (take-suc-set t i (byteOr x) (omega (arith, p .room))) in
+        let g = grown (take i t) (byteOr x) (p .opcodes fine) (p .comparisons fine) i (length-take-le i t (omega (arith, p .room))) f in
+        record {
+          room = length-set t i (byteOr x) ∙ p .room;
+          reads = λ z. rw (w, add-one i, take-suc (readsOf text) i malformed long, read-here, p .reads fine) (ap (λ (y : Read). map is (take i t) ++ y ∷ []) here ∙ sym (map-append is (take i t) (byteOr x ∷ [])));
+          opcodes = λ z. rw w (g .0);
+          comparisons = λ z. rw w (g .1);
+          bad = λ z. absurd (omega arith);
+        }
 
-      -- what was asked of the group so far
-      so-far : {start : ℕ} {r b : Bool} → start ≡ groupStart i → r ≡ has (take (i - start) (drop start t)) n → r ≡ b → has (drop (groupStart i) (take i t)) n ≡ b
-      so-far es f q = rw (← es, drop-take _ i t) (sym f ∙ q)
+  faulty-now : {r : ℕ} → r ≡ i + 1 → readAtFault (groupOf i (readsOf text)) x ≡ true → Taking text t (i + 1) r
+  faulty-now e f = record {
+    room = p .room;
+    reads = λ z. absurd (omega (arith, e));
+    opcodes = λ z. absurd (omega (arith, e));
+    comparisons = λ z. absurd (omega (arith, e));
+    bad = λ z. rw e (at-fault f);
+  }
 
-      group-twice : has (drop (groupStart i) (take i t)) n ≡ true → 2 ≤ times n (groupOf i (readsOf line))
-      unfolding groupStart groupOf
-      group-twice = go (ltb i 27) refl
-        where
-          go : (b : Bool) → ltb i 27 ≡ b → has (drop (elim b [ true ↦ 0 | false ↦ 27 ]) (take i t)) n ≡ true → 2 ≤ times n (elim b [ true ↦ take 27 (readsOf line) | false ↦ drop 27 (readsOf line) ])
-          go true q f =
-              let l = ltb-true i 27 q in
-              twice n i (take 27 (readsOf line)) (take i t)
-              (omega (arith, length-take-le 27 (readsOf line) (omega (arith, long))))
-              (take-take i 27 (readsOf line) (omega arith) ∙ p .reads)
-              (getD-take 27 (readsOf line) i malformed l ∙ read-here ∙ here) f
-          go false q f =
-              let l = ltb-false i 27 q in
-              let z : 27 + (i - 27) ≡ i = omega arith in
-              twice n (i - 27) (drop 27 (readsOf line)) (drop 27 (take i t))
-              (omega (arith, length-drop 27 (readsOf line), long))
-              (sym (drop-take 27 i (readsOf line)) ∙ ap (drop 27) (p .reads) ∙ drop-map is 27 (take i t))
-              (getD-drop 27 (readsOf line) (i - 27) malformed ∙ rw z (read-here ∙ here)) f
+  pub taking-next : {u : List ℕ} {r : ℕ} → Takes i x t fault u r → Taking text u (i + 1) r
+  unfolding readAtFault
+  taking-next (faulty f eu er) = rw (eu, er) (record {
+    room = p .room;
+    reads = λ z. absurd (omega arith);
+    opcodes = λ z. absurd (omega arith);
+    comparisons = λ z. absurd (omega arith);
+    bad = p .bad;
+  })
+  taking-next (no-byte z b eu er) = rw eu (faulty-now er (rw ex (byte-none (getD (lineFields text 0) i []) (groupOf i (readsOf text)) (rw ex at b))))
+  taking-next (repeats z b f eu er) =
+      let here = byte-is x (byteOr x) refl b in
+      rw eu (faulty-now er (ap (readAtFault (groupOf i (readsOf text))) here ∙ le-leb 2 (times (byteOr x) (groupOf i (readsOf text))) (group-twice z here f)))
+  taking-next (put z b f eu er) = rw (eu, er) (taken z (byte-is x (byteOr x) refl b) f)
 
-      pub reading-repeats : {start : ℕ} {r : Bool} → start ≡ groupStart i → r ≡ has (take (i - start) (drop start t)) n → r ≡ true → faultAt (i + 1) (some (split comma line)) ≡ true
-      unfolding readAtFault
-      reading-repeats es f q = at-fault (rw here (le-leb 2 (times n (groupOf i (readsOf line))) (group-twice (so-far es f q))))
+-- ---- all fields are taken
+module _ {text t : List ℕ} {i fault : ℕ} (p : Taking text t i fault) (whole : Whole text 0 33) (only : length text ≡ lineEnd text 0 + 1) where
+  pub taking-bad : 0 < fault → sheetFault text fault ≡ true
+  unfolding sheetFault
+  taking-bad h = ap (faultAt fault) (fields-found text whole only) ∙ p .bad h
 
-      pub reading-goes : {start : ℕ} {r : Bool} → start ≡ groupStart i → r ≡ has (take (i - start) (drop start t)) n → r ≡ false → Reading line (set t i n) (i + 1) (stop + 1)
-      reading-goes es f q =
-          let w : take (i + 1) (set t i n) ≡ take i t ++ n ∷ [] = rw (add-one i) (take-suc-set t i n (omega (arith, p .room))) in
-          let g = grown (take i t) n (p .opcodes) (p .comparisons) i (length-take-le i t (omega (arith, p .room))) (so-far es f q) in
-          record {
-            room = length-set t i n ∙ p .room;
-            low = omega arith;
-            near = λ l. parts .2 l .0;
-            rest = λ l. sym (drop-drop 1 i (split comma line)) ∙ ap (drop 1) (parts .1) ∙ parts .2 l .1;
-            reads = rw (w, add-one i, take-suc (readsOf line) i malformed (omega (arith, long)), read-here, here, p .reads) (sym (map-append is (take i t) (n ∷ [])));
-            opcodes = rw w (g .0);
-            comparisons = rw w (g .1);
-          }
+  pub taking-ends : i ≡ 33 → fault ≡ 0 → readSheet text ≡ some (sheetIn t)
+  taking-ends e z =
+      let all : take 33 (readsOf text) ≡ readsOf text = take-all 33 (readsOf text) (omega (arith, length-map (lineFields text 0) (field byte), whole .many)) in
+      spelled {ns = take 33 t} (record {
+        fields = lineFields text 0;
+        found = fields-found text whole only;
+        reads = sym all ∙ rw e at (p .reads z);
+        long = length-take-le 33 t (omega (arith, p .room));
+        opcodes = rw e at (p .opcodes z);
+        comparisons = rw e at (p .comparisons z);
+      })
 
 -- ---- what reading a sheet answers
 

@@ -13,18 +13,9 @@ use Rattle.definition.specs.Field.{has}
 use Rattle.definition.specs.Opcode.{CompareOp, Eq, Ne, Lt, Le, Gt, Ge, Add, Sub, Mul, Div, Mod, BoolAnd, BoolOr, BoolXor, Neg, BoolNot, Role, dup, pop, loadVar, storeVar, loadConst, loadTrue, loadFalse, binary, unary, compare, jmp, jmpIfNot, cmpBr, ret, roles, number, compareIndex, Sheet, opcode, comparisonByte, beside, roleOf, comparisonOf}
 use Rattle.definition.specs.Rules.{roleNumbered}
 use Rattle.definition.specs.Sheet.{distinct}
+use Rattle.field.proofs.Tests.{and-left, and-right}
 use Rattle.opcode.specs.Table.{Good, upFrom}
 use Rattle.opcode.proofs.Roles.{compare-index, past-roles, seen-at}
-
--- ---- Booleans
-
-pub and-left : (a b : Bool) → (a && b) ≡ true → a ≡ true
-and-left true b e = refl
-and-left false b e = e
-
-pub and-right : (a b : Bool) → (a && b) ≡ true → b ≡ true
-and-right true b e = e
-and-right false b e = absurd (let z : _≡_ {A = ℕ} 0 1 = cc in omega arith)
 
 -- ---- distinct numbers
 

@@ -1,18 +1,18 @@
 -- What reading a sheet answers.
 use mathlib.Core.Path.{_≡_}
-use mathlib.Core.Bool.{true}
+use mathlib.Core.Bool.{true, false}
 use mathlib.Core.Option.{some, none}
-use mathlib.Core.List.{List, map}
-use Prim.Native.Nat.{ℕ}
-use lib.ListN.{take, drop}
+use mathlib.Core.List.{List}
+use Prim.Native.Nat.{ℕ, _+_, _≤_, _<_}
+use lib.ListN.{take, drop, set}
 use Rattle.definition.specs.Limits.{badSheet, outputShort}
 use Rattle.definition.specs.Res.{Res, ok, refuse}
-use Rattle.definition.specs.Field.{comma, split, Read, malformed, outside, is, field}
-use Rattle.definition.specs.Sheet.{byte, distinct, readSheet, sheetFault, faultAt, opcodeCount, fieldCount}
+use Rattle.definition.specs.Field.{Read, malformed, outside, is, has}
+use Rattle.definition.specs.Sheet.{readSheet, sheetFault}
 use Rattle.definition.specs.Lent.{zeros}
 use Rattle.opcode.specs.declared.sheet.SheetRead.{SheetRead}
 use Rattle.opcode.specs.declared.sheet.SheetRead.the-variants.{Accepted, Refused}
-use Rattle.opcode.specs.Table.{tableSize, sheetIn, IsTable}
+use Rattle.opcode.specs.Table.{tableSize, sheetIn, IsTable, groupStart}
 
 abbrev pub answerOf : SheetRead → Res (Unit {0})
 answerOf Accepted = ok tt
@@ -50,13 +50,15 @@ byteOr malformed = 256
 byteOr outside = 256
 byteOr (is n) = n
 
--- the 33 fields of a line are the bytes that the table starts with, distinct in their groups
-pub record Spelled (line table : List ℕ) : Type 0 where
-  pub reads : map (field byte) (split comma line) ≡ map is (take fieldCount table)
-  pub opcodes : distinct (take opcodeCount (take fieldCount table)) ≡ true
-  pub comparisons : distinct (drop opcodeCount (take fieldCount table)) ≡ true
+-- what becomes of field i of a sheet, read as x, where the lowest field at fault before it is `fault`, from 1, or 0 for none; t is the table before and u after
+-- it, and r the lowest field at fault with it
+pub data Takes (i : ℕ) (x : Read) (t : List ℕ) (fault : ℕ) (u : List ℕ) (r : ℕ) : Type 0 where
+  faulty : 0 < fault → u ≡ t → r ≡ fault → Takes i x t fault u r
+  no-byte : fault ≡ 0 → 255 < byteOr x → u ≡ t → r ≡ i + 1 → Takes i x t fault u r
+  repeats : fault ≡ 0 → byteOr x ≤ 255 → has (drop (groupStart i) (take i t)) (byteOr x) ≡ true → u ≡ t → r ≡ i + 1 → Takes i x t fault u r
+  put : fault ≡ 0 → byteOr x ≤ 255 → has (drop (groupStart i) (take i t)) (byteOr x) ≡ false → u ≡ set t i (byteOr x) → r ≡ 0 → Takes i x t fault u r
 
--- what reading the numbers of a line answers
-abbrev pub Numbered : List ℕ → List ℕ → Res (Unit {0}) → Type 0
-Numbered line table (ok u) = Spelled line table
-Numbered line table (refuse n p) = (n ≡ badSheet) × (faultAt p (some (split comma line)) ≡ true)
+-- what reading the numbers of a text answers
+abbrev pub Found : List ℕ → List ℕ → Res (Unit {0}) → Type 0
+Found text table (ok u) = readSheet text ≡ some (sheetIn table)
+Found text table (refuse n p) = (n ≡ badSheet) × (sheetFault text p ≡ true)

@@ -1,15 +1,17 @@
 // An opcode sheet, read from any bytes into a lent table: the 27 opcodes by role, the six comparison bytes, and for each byte the number of
 // its role. The table is filled once and then lent as one slice, so that nothing of it is copied at a call.
 ghost use mathlib.Core.Path.{_≡_};
+ghost use Prim.Native.Nat.{_<_};
 ghost use lib.ListN.{length, getD, replicate};
 ghost use Rattle.definition.specs.Res.{refuse};
-ghost use Rattle.definition.specs.Field.{comma, split, field, has};
-ghost use Rattle.definition.specs.Sheet.{byte, fieldCount};
+ghost use Rattle.definition.specs.Field.{has};
+ghost use Rattle.definition.specs.Sheet.{fieldCount};
 ghost use Rattle.definition.specs.Lent.{zeros};
 ghost use Rattle.definition.specs.Opcode.{opcode, comparisonByte};
+ghost use Rattle.field.specs.View.{readOf};
 ghost use Rattle.opcode.specs.View.{roleView, compareView};
 ghost use Rattle.opcode.specs.Table.{tableSize, sheetIn, numberIn, Listed, groupStart};
-ghost use Rattle.opcode.specs.Reading.{answerOf, Answers, Numbered, byteOr};
+ghost use Rattle.opcode.specs.Reading.{answerOf, Answers, Found, Takes, byteOr};
 use crate::CompareOp;
 use crate::Role;
 use definition::BAD_SHEET;
@@ -77,21 +79,6 @@ fn contains(bytes: &[u8], b: u8) -> bool
     false
 }
 
-// How many fields a line has.
-fn field_count(line: &[u8]) -> usize
-    ensures { λ r. ⌜ r ≡ length (split comma (now (line .entry))) ⌝ }
-{
-    let mut commas = 0;
-    let mut i = 0;
-    while i < line.len() {
-        if line[i] == 44 {
-            commas += 1;
-        }
-        i += 1;
-    }
-    commas + 1
-}
-
 // The first field of a field's group: the opcodes or the comparison bytes.
 fn group_start(i: usize) -> usize
     ensures { λ r. ⌜ r ≡ groupStart i ⌝ }
@@ -125,39 +112,64 @@ fn list_roles(sheet: &mut [u8])
 }
 
 // The byte that a field spells; 256 where it spells none.
-fn byte_of(bytes: &[u8]) -> u32
-    ensures { λ r. ⌜ r ≡ byteOr (field byte (now (bytes .entry))) ⌝ }
+fn byte_of(read: Read) -> u32
+    ensures { λ r. ⌜ r ≡ byteOr (readOf read) ⌝ }
 {
-    match field::up_to(bytes, 255) {
+    match read {
         Read::Malformed => 256,
         Read::Outside => 256,
         Read::Is(n) => n,
     }
 }
 
-// The 33 numbers of a line into the table's front; or the lowest field at fault, which of a number that stands twice is the later one.
-fn read_numbers(line: &[u8], sheet: &mut [u8]) -> SheetRead
+// The byte of field `i` into the table, unless a field before it was at fault. Answers the lowest field at fault, from 1, or 0 while there is none; of
+// a byte that stands twice it is the later one.
+fn take_field(sheet: &mut [u8], i: usize, read: Read, fault: u32) -> u32
     requires { ⌜ length (now sheet) ≡ tableSize ⌝ }
-    requires { ⌜ length (split comma (now line)) ≡ fieldCount ⌝ }
-    ensures { λ r. ⌜ Numbered (now (line .entry)) (now (sheet .exit)) (answerOf r) ⌝ }
+    requires { ⌜ i < fieldCount ⌝ }
+    ensures { λ r. ⌜ Takes i (readOf read) (now (sheet .entry)) fault (now (sheet .exit)) r ⌝ }
 {
+    if fault > 0 {
+        return fault;
+    }
+    let place = i as u32 + 1;
+    let n = byte_of(read);
+    if n > 255 {
+        return place;
+    }
+    let b = n as u8;
+    let start = group_start(i);
+    if contains(&sheet[start..i], b) {
+        return place;
+    }
+    sheet[i] = b;
+    0
+}
+
+// The 33 numbers of a sheet's one line into the table's front, by one look at each byte. A field at fault is answered only if the line and its field
+// count are good: place 0 goes before it.
+fn read_fields(text: &[u8], sheet: &mut [u8]) -> SheetRead
+    requires { ⌜ length (now sheet) ≡ tableSize ⌝ }
+    ensures { λ r. ⌜ Found (now (text .entry)) (now (sheet .exit)) (answerOf r) ⌝ }
+{
+    let mut fault = 0;
     let mut at = 0;
     let mut i = 0;
     while i < FIELDS {
-        let place = i as u32 + 1;
-        let stop = field::field_end(line, at);
-        let n = byte_of(&line[at..stop]);
-        if n > 255 {
-            return SheetRead::Refused(BAD_SHEET, place);
+        let next = field::next_up_to(text, at, 255);
+        if next.stop != field::separator(i, FIELDS - 1) {
+            return SheetRead::Refused(BAD_SHEET, 0);
         }
-        let b = n as u8;
-        let start = group_start(i);
-        if contains(&sheet[start..i], b) {
-            return SheetRead::Refused(BAD_SHEET, place);
-        }
-        sheet[i] = b;
-        at = stop + 1;
+        let read = next.read;
+        fault = take_field(sheet, i, read, fault);
+        at = next.end + 1;
         i += 1;
+    }
+    if at != text.len() {
+        return SheetRead::Refused(BAD_SHEET, 0);
+    }
+    if fault > 0 {
+        return SheetRead::Refused(BAD_SHEET, fault);
     }
     SheetRead::Accepted
 }
@@ -177,15 +189,7 @@ pub fn read_sheet(text: &[u8], sheet: &mut [u8]) -> SheetRead
     if sheet.len() != TABLE_SIZE {
         return refuse(sheet, OUTPUT_SHORT, 0);
     }
-    let end = field::line_end(text, 0);
-    if text.len() - end != 1 {
-        return refuse(sheet, BAD_SHEET, 0);
-    }
-    let line = &text[..end];
-    if field_count(line) != FIELDS {
-        return refuse(sheet, BAD_SHEET, 0);
-    }
-    match read_numbers(line, sheet) {
+    match read_fields(text, sheet) {
         SheetRead::Refused(number, place) => refuse(sheet, number, place),
         SheetRead::Accepted => {
             list_roles(sheet);
