@@ -13,12 +13,13 @@ use Rattle.definition.specs.Res.{Res, ok, refuse, _>>=_, _>>_, demand, given}
 use Rattle.definition.specs.Field.{lf, split, firstLine}
 use Rattle.definition.specs.Lent.{zeros}
 use Rattle.definition.specs.Rules.{Rule, readRule, isEmpty, rulesFrom, readRules}
-use Rattle.field.specs.View.{Ends}
-use Rattle.field.proofs.Parts.{Some, some-part, split-some, line-part, parts-last, parts-more}
+use Rattle.field.specs.View.{lineEnd}
+use Rattle.field.proofs.Parts.{Some, some-part, split-some, line-part, line-is, line-ends, parts-last, parts-more}
 use Rattle.rules.specs.declared.Line.{Line}
 use Rattle.rules.specs.declared.RuleAnswer.{RuleAnswer}
 use Rattle.rules.specs.declared.RuleAnswer.the-variants.{Rules, Refused}
-use Rattle.rules.specs.View.{rowSize, tableSize, rowOf, tableOf, readInto, answerOf, tableFor, Answered, lineOf}
+use Rattle.rules.specs.View.{rowSize, tableSize, rowOf, tableOf, readInto, answerOf, tableFor, Answered, lineOf, lineAt}
+use Rattle.rules.proofs.Lines.{by-end, whole-rule, rule-ended}
 use Rattle.rules.proofs.Table.{table-long, table-none, table-more}
 
 -- ---- the definition, one line at a time
@@ -62,15 +63,16 @@ module _ (n : ℕ) (l : List ℕ) where
 
 -- ---- what a line's answer says
 
-line-none : (o : Option Rule) {l : Line} → l ≡ lineOf o → l .good ≡ false → o ≡ none
-unfolding lineOf
-line-none none e g = refl
-line-none (some r) e g = absurd (let t : true ≡ false = sym (ap (λ (x : Line). x .good) e) ∙ g in let z : _≡_ {A = ℕ} 0 1 = cc in omega arith)
+module _ (next : ℕ) where
+  line-none : (o : Option Rule) {l : Line} → l ≡ lineOf next o → l .good ≡ false → o ≡ none
+  unfolding lineOf
+  line-none none e g = refl
+  line-none (some r) e g = absurd (let t : true ≡ false = sym (ap (λ (x : Line). x .good) e) ∙ g in let z : _≡_ {A = ℕ} 0 1 = cc in omega arith)
 
-line-some : (o : Option Rule) {l : Line} → l ≡ lineOf o → l .good ≡ true → (r : Rule) × (o ≡ some r) × (l .numbers ≡ rowOf r)
-unfolding lineOf
-line-some none e g = absurd (let t : false ≡ true = sym (ap (λ (x : Line). x .good) e) ∙ g in let z : _≡_ {A = ℕ} 0 1 = cc in omega arith)
-line-some (some r) e g = (r, refl, ap (λ (x : Line). x .numbers) e)
+  line-some : (o : Option Rule) {l : Line} → l ≡ lineOf next o → l .good ≡ true → (r : Rule) × (o ≡ some r) × (l .numbers ≡ rowOf r) × (l .next ≡ next)
+  unfolding lineOf
+  line-some none e g = absurd (let t : false ≡ true = sym (ap (λ (x : Line). x .good) e) ∙ g in let z : _≡_ {A = ℕ} 0 1 = cc in omega arith)
+  line-some (some r) e g = (r, refl, ap (λ (x : Line). x .numbers) e, ap (λ (x : Line). x .next) e)
 
 -- ---- the table's length
 
@@ -117,45 +119,54 @@ file-starts text k e =
     }
 
 module _ {text table : List ℕ} {at count : ℕ} (f : FileRead text table at count) where
-  module _ {r : ℕ} (e : Ends firstLine text at r) where
-    pub file-unended : at < length text → length text ≤ r → readRules text ≡ refuse badRule (count + 1)
+  next : lineEnd text at < length text → split lf (drop at text) ≡ firstLine (drop at text) ∷ split lf (drop (lineEnd text at + 1) text)
+  next inside = parts-more lf (line-part (line-ends text at)) inside ∙ ap (λ (l : List ℕ). l ∷ split lf (drop (lineEnd text at + 1) text)) (line-is (line-ends text at))
+
+  module _ (here : at < length text) where
+    file-unended : length text ≤ lineEnd text at → readRules text ≡ refuse badRule (count + 1)
     unfolding prepended
-    file-unended h last =
-        let line = take (r - at) (drop at text) in
-        let long : length line ≡ r - at = length-take-le (r - at) (drop at text) (omega (arith, length-drop at text, e .high)) in
-        f .more ∙ rw (parts-last lf (line-part e) last, rules-unended (count + 1) line (omega arith))
+    file-unended last = f .more ∙ rw (parts-last lf (line-part (line-ends text at)) last, line-is (line-ends text at), rules-unended (count + 1) (firstLine (drop at text)) (omega arith))
 
-    module _ (inside : r < length text) where
-      next : split lf (drop at text) ≡ take (r - at) (drop at text) ∷ split lf (drop (r + 1) text)
-      next = parts-more lf (line-part e) inside
+    pub file-full : maxRules ≤ count → readRules text ≡ refuse badRule (count + 1)
+    unfolding prepended
+    file-full h =
+        by-end text at
+        (λ inside. f .more ∙ rw (next inside, rules-full (count + 1) (firstLine (drop at text)) (split-some lf (drop (lineEnd text at + 1) text)) (omega arith)))
+        file-unended
 
-      pub file-full : maxRules ≤ count → readRules text ≡ refuse badRule (count + 1)
-      unfolding prepended
-      file-full h = f .more ∙ rw (next, rules-full (count + 1) (take (r - at) (drop at text)) (split-some lf (drop (r + 1) text)) (omega arith))
+  module _ (room : count < maxRules) {l : Line} (is : l ≡ lineAt text at) where
+    pub file-bad : at < length text → l .good ≡ false → readRules text ≡ refuse badRule (count + 1)
+    unfolding prepended
+    file-bad here g =
+        by-end text at
+        (λ inside. f .more
+        ∙ rw (next inside, rules-bad (count + 1) (firstLine (drop at text)) (split-some lf (drop (lineEnd text at + 1) text)) (omega arith) (sym (whole-rule text at inside) ∙ line-none _ _ is g)))
+        (file-unended here)
 
-      module _ (room : count < maxRules) {l : Line} (is : l ≡ lineOf (readRule (take (r - at) (drop at text)))) where
-        pub file-bad : l .good ≡ false → readRules text ≡ refuse badRule (count + 1)
-        unfolding prepended
-        file-bad g =
-            f .more ∙ rw (next, rules-bad (count + 1) (take (r - at) (drop at text)) (split-some lf (drop (r + 1) text)) (omega arith) (line-none _ is g))
+    pub file-next : l .good ≡ true → {table′ : List ℕ} → table′ ≡ paste table (count * rowSize) (l .numbers) rowSize → FileRead text table′ (l .next) (count + 1)
+    file-next g {table′} put =
+        let (q, o, n, at′) = line-some _ _ is g in
+        let inside = rule-ended text at o in
+        let held : table′ ≡ tableOf (f .rules ++ (q ∷ [])) = put
+        ∙ ap (λ (ns : List ℕ). paste table (count * rowSize) ns rowSize) n
+        ∙ ap (λ (t : List ℕ). paste t (count * rowSize) (rowOf q) rowSize) (f .holds)
+        ∙ table-more (f .rules) q (f .many) room in
+        let counted : count + 1 ≡ length (f .rules ++ (q ∷ [])) = omega (arith, f .many, length-append (f .rules) (q ∷ [])) in
+        rw at′ (record {
+          rules = f .rules ++ (q ∷ []);
+          holds = held;
+          many = counted;
+          few = omega arith;
+          near = omega (arith, inside);
+          long = ap length held ∙ table-long (f .rules ++ (q ∷ [])) (omega arith);
+          more = f .more
+              ∙ rw (next inside, rules-good (count + 1) (firstLine (drop at text)) (split-some lf (drop (lineEnd text at + 1) text)) (omega arith) (sym (whole-rule text at inside) ∙ o))
+              (prepended-more (f .rules) q _);
+        })
 
-        pub file-next : l .good ≡ true → {table′ : List ℕ} → table′ ≡ paste table (count * rowSize) (l .numbers) rowSize → FileRead text table′ (r + 1) (count + 1)
-        file-next g {table′} put =
-            let (q, o, n) = line-some _ is g in
-            let held : table′ ≡ tableOf (f .rules ++ (q ∷ [])) = put
-            ∙ ap (λ (ns : List ℕ). paste table (count * rowSize) ns rowSize) n
-            ∙ ap (λ (t : List ℕ). paste t (count * rowSize) (rowOf q) rowSize) (f .holds)
-            ∙ table-more (f .rules) q (f .many) room in
-            let counted : count + 1 ≡ length (f .rules ++ (q ∷ [])) = omega (arith, f .many, length-append (f .rules) (q ∷ [])) in
-            record {
-              rules = f .rules ++ (q ∷ []);
-              holds = held;
-              many = counted;
-              few = omega arith;
-              near = omega arith;
-              long = ap length held ∙ table-long (f .rules ++ (q ∷ [])) (omega arith);
-              more = f .more ∙ rw (next, rules-good (count + 1) (take (r - at) (drop at text)) (split-some lf (drop (r + 1) text)) (omega arith) o) (prepended-more (f .rules) q _);
-            }
+    -- the next line lies behind this one
+    pub file-less : l .good ≡ true → at < length text → length text - l .next < length text - at
+    file-less g here = let (q, o, n, at′) = line-some _ _ is g in omega (arith, at′)
 
   pub file-done : {room : ℕ} → room ≡ tableSize → length text ≤ at → Answered room (readInto room text) (Rules count) table
   unfolding prepended rulesFrom split isEmpty _>>_ demand answerOf tableFor tableOf

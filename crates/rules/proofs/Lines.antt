@@ -6,17 +6,19 @@ use mathlib.Core.List.{List, [], _∷_, _++_, map, append-nil}
 use Prim.Native.Nat.{ℕ, zero, suc, _+_, _-_, _≤_, _<_}
 use native.Mathlib.Numerals.{add-one}
 use native.Mathlib.Omega.{arith}
-use lib.Dec.{lit≤}
-use lib.ListN.{length, getD, take, drop, set, length-set}
+use native.Mathlib.Decide.{decLt}
+use borrow.Author.Tests.{lt-ltb, le-ltb}
+use lib.Dec.{ltb, lit≤}
+use lib.ListN.{length, getD, take, drop, set, length-set, drop-of-length-le}
 use lib.Seq.{drop-cons, take-suc-set, take-all, append-snoc}
 use Rattle.definition.specs.Field as def
-use Rattle.definition.specs.Field.{comma, split, Field, upTo, below, field, malformed, outside, is, Numbers, wrong, far, are, andThese, numbers}
-use Rattle.definition.specs.Rules.{ruleFields, ruleFrom, goodOnly, goodRule, ruleOf, readRule}
-use Rattle.field.specs.View.{before, Ends}
+use Rattle.definition.specs.Field.{firstLine, Field, upTo, below, field, malformed, outside, is, Numbers, wrong, far, are, andThese, numbers}
+use Rattle.definition.specs.Rules.{Rule, ruleFields, ruleFrom, goodOnly, goodRule, ruleOf, readRule}
+use Rattle.field.specs.View.{lineEnd, lineFields}
 use Rattle.field.proofs.Numbers.{up-to-bound, below-up-to}
-use Rattle.field.proofs.Parts.{partsFrom, parts-whole, parts-past, parts-at, parts-next, Some, some-part, split-some}
+use Rattle.field.proofs.Fields.{Whole}
 use Rattle.rules.specs.declared.Line.{Line}
-use Rattle.rules.specs.View.{Numbered, Bounded, rowOf, lineOf}
+use Rattle.rules.specs.View.{lineNumbers, Numbered, Bounded, rowOf, lineOf, lineAt}
 
 -- the largest number of each field
 abbrev pub maxima : List ℕ
@@ -73,66 +75,104 @@ prepend-bad p outside far b = refl
 prepend-bad p outside (are ns) b = refl
 prepend-bad p (is n) x b = absurd b
 
--- k fields are read into ns, and the next starts at `at`, past the end if there is none
-pub record Reading (line ns : List ℕ) (at k : ℕ) : Type 0 where
-  pub few : k ≤ 9
+-- of the fields of a line, k are read into ns
+pub record Reading (fs : List (List ℕ)) (ns : List ℕ) (k : ℕ) : Type 0 where
   pub long : length ns ≡ 9
-  pub more : numbers ruleFields (split comma line) ≡ prepend (take k ns) (numbers (map upTo (drop k maxima)) (partsFrom comma line at))
+  pub more : numbers ruleFields fs ≡ prepend (take k ns) (numbers (map upTo (drop k maxima)) (drop k fs))
 
-pub reading-starts : (line : List ℕ) (ns : List ℕ) → length ns ≡ 9 → Reading line ns 0 0
-reading-starts line ns h = record {
-  few = omega arith;
-  long = h;
-  more = fields-are (split comma line) ∙ sym (prepend-nil _) ∙ ap (λ (xs : List (List ℕ)). prepend [] (numbers (map upTo maxima) xs)) (sym (parts-whole comma line));
-}
+pub reading-starts : (fs : List (List ℕ)) (ns : List ℕ) → length ns ≡ 9 → Reading fs ns 0
+reading-starts fs ns h = record { long = h; more = fields-are fs ∙ sym (prepend-nil _) }
 
-module _ {line ns : List ℕ} {at k : ℕ} (now : Reading line ns at k) where
-  module _ (left : k < 9) (inside : at ≤ length line) {r : ℕ} (ends : Ends (before comma) line at r)
-      {x : def.Read} (reads : x ≡ field (upTo (getD maxima k 0)) (take (r - at) (drop at line))) where
+module _ {fs : List (List ℕ)} {ns : List ℕ} {k : ℕ} (now : Reading fs ns k) where
+  module _ (left : k < 9) (inside : k < length fs) {x : def.Read} (reads : x ≡ field (upTo (getD maxima k 0)) (getD fs k [])) where
     -- the next field and those after it
-    one-more : numbers ruleFields (split comma line) ≡ prepend (take k ns) (andThese x (numbers (map upTo (drop (suc k) maxima)) (partsFrom comma line (r + 1))))
+    one-more : numbers ruleFields fs ≡ prepend (take k ns) (andThese x (numbers (map upTo (drop (suc k) maxima)) (drop (suc k) fs)))
     unfolding numbers
     one-more =
         let this : drop k maxima ≡ getD maxima k 0 ∷ drop (suc k) maxima = drop-cons maxima k 0 left in
-        now .more ∙ rw (this, parts-next comma ends inside, numbers, ← reads)
+        now .more ∙ rw (this, drop-cons fs k [] inside, numbers, ← reads)
 
-    pub reading-next : {n : ℕ} → x ≡ is n → Reading line (set ns k n) (r + 1) (k + 1)
+    pub reading-next : {n : ℕ} → x ≡ is n → Reading fs (set ns k n) (k + 1)
     reading-next {n} e = record {
-      few = omega arith;
       long = length-set ns k n ∙ now .long;
       more = rw (add-one k, take-suc-set ns k n (omega (arith, now .long))) (rw e at one-more ∙ prepend-is (take k ns) n _);
     }
 
-    pub reading-bad : Bad x → ruleFrom (numbers ruleFields (split comma line)) ≡ none
+    pub reading-bad : Bad x → ruleFrom (numbers ruleFields fs) ≡ none
     reading-bad b = rw one-more (prepend-bad _ _ _ b)
 
-  pub reading-short : k < 9 → length line < at → ruleFrom (numbers ruleFields (split comma line)) ≡ none
-  unfolding numbers prepend ruleFrom
-  reading-short left past =
-      let this : drop k maxima ≡ getD maxima k 0 ∷ drop (suc k) maxima = drop-cons maxima k 0 left in
-      rw (now .more, this, parts-past comma line at past)
-
-  all-read : 9 ≤ k → numbers ruleFields (split comma line) ≡ prepend ns (numbers [] (partsFrom comma line at))
-  all-read h = let nine : k ≡ 9 = omega (arith, now .few) in now .more ∙ rw (nine, take-all 9 ns (omega (arith, now .long)))
-
-  pub reading-long : 9 ≤ k → at ≤ length line → ruleFrom (numbers ruleFields (split comma line)) ≡ none
-  unfolding numbers prepend ruleFrom
-  reading-long h inside = rw (all-read h, parts-at comma line at inside) (go (split comma (drop at line)) (split-some comma (drop at line)))
-    where
-      go : (xs : List (List ℕ)) → Some xs → ruleFrom (prepend ns (numbers [] xs)) ≡ none
-      go (x ∷ xs) some-part = refl
-
-  pub reading-done : 9 ≤ k → length line < at → numbers ruleFields (split comma line) ≡ are ns
+  pub reading-done : k ≡ 9 → length fs ≡ 9 → numbers ruleFields fs ≡ are ns
   unfolding numbers prepend
-  reading-done h past = all-read h ∙ rw (parts-past comma line at past) (ap are (append-nil ns))
+  reading-done e h =
+      let none-left : drop 9 fs ≡ [] = drop-of-length-le fs {i = 9} (omega arith) in
+      now .more ∙ rw (e, take-all 9 ns (omega (arith, now .long)), none-left) (ap are (append-nil ns))
 
-pub bad-numbered : (x : Numbers) {l : Line} → l ≡ lineOf none → ruleFrom x ≡ none → Numbered (l .good) (l .numbers) x
-unfolding lineOf Numbered
-bad-numbered x e h = rw e h
+-- ---- the line that starts at a place
 
-pub good-numbered : {x : Numbers} {ns : List ℕ} → x ≡ are ns → Numbered true ns x
-unfolding Numbered
-good-numbered h = h
+and-wrong : (x : def.Read) → andThese x wrong ≡ wrong
+unfolding andThese
+and-wrong malformed = refl
+and-wrong outside = refl
+and-wrong (is n) = refl
+
+count-wrong : (fs : List Field) (xs : List (List ℕ)) → (length xs ≡ length fs → ⊥) → numbers fs xs ≡ wrong
+unfolding numbers
+count-wrong [] [] n = absurd (n refl)
+count-wrong [] (x ∷ xs) n = refl
+count-wrong (f ∷ fs) [] n = refl
+count-wrong (f ∷ fs) (x ∷ xs) n = ap (andThese (field f x)) (count-wrong fs xs (λ e. n (ap suc e))) ∙ and-wrong (field f x)
+
+module _ (text : List ℕ) (at : ℕ) where
+  whole-numbers : lineEnd text at < length text → lineNumbers text at ≡ numbers ruleFields (lineFields text at)
+  unfolding lineNumbers
+  whole-numbers h = rw (lineNumbers, lt-ltb (lineEnd text at) (length text) h)
+
+  unended-numbers : length text ≤ lineEnd text at → lineNumbers text at ≡ wrong
+  unfolding lineNumbers
+  unended-numbers h = rw (lineNumbers, le-ltb (lineEnd text at) (length text) h)
+
+  -- by whether the line has its LF
+  pub by-end : {A : Type 0} → (lineEnd text at < length text → A) → (length text ≤ lineEnd text at → A) → A
+  by-end {A} ended unended = go (decLt (lineEnd text at) (length text))
+    where
+      go : Dec (lineEnd text at < length text) → A
+      go (yes h) = ended h
+      go (no h) = unended (omega arith)
+
+  pub whole-rule : lineEnd text at < length text → ruleFrom (lineNumbers text at) ≡ readRule (firstLine (drop at text))
+  unfolding readRule
+  whole-rule h = ap ruleFrom (whole-numbers h)
+
+  unended-rule : length text ≤ lineEnd text at → ruleFrom (lineNumbers text at) ≡ none
+  unfolding ruleFrom
+  unended-rule h = ap ruleFrom (unended-numbers h)
+
+  -- a line that makes a rule has its LF
+  pub rule-ended : {q : Rule} → ruleFrom (lineNumbers text at) ≡ some q → lineEnd text at < length text
+  rule-ended e = by-end (λ h. h) (λ h. absurd (let z : none ≡ some _ = sym (unended-rule h) ∙ e in let y : _≡_ {A = ℕ} 0 1 = cc in omega arith))
+
+  pub fields-bad : ruleFrom (numbers ruleFields (lineFields text at)) ≡ none → ruleFrom (lineNumbers text at) ≡ none
+  fields-bad e = by-end (λ h. ap ruleFrom (whole-numbers h) ∙ e) unended-rule
+
+  pub not-whole : (Whole text at 9 → ⊥) → ruleFrom (lineNumbers text at) ≡ none
+  unfolding ruleFrom ruleFields
+  not-whole n =
+      by-end
+      (λ h. rw (whole-numbers h, count-wrong ruleFields (lineFields text at) (λ e. n (record { many = e; ended = h }))))
+      unended-rule
+
+  -- what a line that gives numbers has: its LF, and numbers in its fields
+  pub line-are : {ns : List ℕ} → lineNumbers text at ≡ are ns → (lineEnd text at < length text) × (numbers ruleFields (lineFields text at) ≡ are ns)
+  line-are e =
+      by-end (λ h. (h, sym (whole-numbers h) ∙ e)) (λ h. absurd (let z : wrong ≡ are _ = sym (unended-numbers h) ∙ e in let y : _≡_ {A = ℕ} 0 1 = cc in omega arith))
+
+  pub bad-numbered : {l : Line} → l ≡ lineOf 0 none → ruleFrom (lineNumbers text at) ≡ none → Numbered text at (l .good) (l .numbers) (l .next)
+  unfolding lineOf Numbered
+  bad-numbered e h = rw e h
+
+  pub good-numbered : {ns : List ℕ} {next : ℕ} → Whole text at 9 → numbers ruleFields (lineFields text at) ≡ are ns → next ≡ lineEnd text at + 1 → Numbered text at true ns next
+  unfolding Numbered
+  good-numbered w e n = (whole-numbers (w .ended) ∙ e, n)
 
 -- ---- the numbers' ranges
 
@@ -179,24 +219,31 @@ pub number-fits : {x : def.Read} (bs : List ℕ) (k : ℕ) {n : ℕ} → x ≡ f
 number-fits bs k a b = let h = up-to-bound bs (getD maxima k 0) (sym a ∙ b) in omega (arith, maxima-small k)
 
 -- ---- the line's answer, from its numbers and their test
-module _ (line : List ℕ) where
-  module _ (l : Line) (n : Numbered (l .good) (l .numbers) (numbers ruleFields (split comma line))) where
-    pub line-bad : l .good ≡ false → {x : Line} → x ≡ lineOf none → x ≡ lineOf (readRule line)
-    unfolding readRule Numbered
-    line-bad g e = e ∙ ap lineOf (sym (rw g at n))
+module _ (text : List ℕ) (at : ℕ) where
+  none-line : {x : Line} → x ≡ lineOf 0 none → ruleFrom (lineNumbers text at) ≡ none → x ≡ lineAt text at
+  unfolding lineOf
+  none-line e n = rw (e, n)
 
-    pub line-numbered : l .good ≡ true → numbers ruleFields (split comma line) ≡ are (l .numbers)
+  module _ (l : Line) (n : Numbered text at (l .good) (l .numbers) (l .next)) where
+    pub line-bad : l .good ≡ false → {x : Line} → x ≡ lineOf 0 none → x ≡ lineAt text at
+    unfolding Numbered
+    line-bad g e = none-line e (rw g at n)
+
+    pub line-numbered : l .good ≡ true → (lineNumbers text at ≡ are (l .numbers)) × (l .next ≡ lineEnd text at + 1)
     unfolding Numbered
     line-numbered g = rw g at n
 
-  module _ {ns : List ℕ} (n : numbers ruleFields (split comma line) ≡ are ns) where
-    rule-is : {t : Bool} → t ≡ goodRule (ruleOf ns) → readRule line ≡ elim t [ true ↦ some (ruleOf ns) | false ↦ none ]
-    unfolding readRule ruleFrom goodOnly
+  module _ {ns : List ℕ} (n : lineNumbers text at ≡ are ns) where
+    pub line-bounded : Bounded ns
+    line-bounded = bounded (lineFields text at) (line-are text at n .1)
+
+    rule-is : {t : Bool} → t ≡ goodRule (ruleOf ns) → ruleFrom (lineNumbers text at) ≡ elim t [ true ↦ some (ruleOf ns) | false ↦ none ]
+    unfolding ruleFrom goodOnly
     rule-is e = rw (n, e, goodOnly)
 
-    pub line-not-good : false ≡ goodRule (ruleOf ns) → {x : Line} → x ≡ lineOf none → x ≡ lineOf (readRule line)
-    line-not-good g e = e ∙ ap lineOf (sym (rule-is g))
+    pub line-not-good : false ≡ goodRule (ruleOf ns) → {x : Line} → x ≡ lineOf 0 none → x ≡ lineAt text at
+    line-not-good g e = none-line e (rule-is g)
 
-    pub line-good : true ≡ goodRule (ruleOf ns) → {row : List ℕ} → row ≡ rowOf (ruleOf ns) → record { good = true; numbers = row } ≡ lineOf (readRule line)
+    pub line-good : true ≡ goodRule (ruleOf ns) → {row : List ℕ} {next : ℕ} → row ≡ rowOf (ruleOf ns) → next ≡ lineEnd text at + 1 → record { good = true; numbers = row; next = next } ≡ lineAt text at
     unfolding lineOf
-    line-good g e = rw (rule-is g, e)
+    line-good g e q = rw (rule-is g, e, q)

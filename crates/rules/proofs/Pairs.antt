@@ -15,20 +15,13 @@ use Rattle.definition.specs.Opcode.{Role, dup, pop, loadVar, storeVar, loadCons
 use Rattle.definition.specs.Rules.{Action, keep, remove, rewriteOperand, Rule, Instruction, nameable, ruleFields, ruleOf, isVariable, allowed, removed, cancel, testable, goodRule, goodOnly, ruleFrom, readRule, isEmpty, rulesFrom, readRules, roleNumbered, hasRole, fits, matches}
 use Rattle.rules.specs.View.{Accepted, Each, Bounded, tableOf, IsRules}
 use Rattle.rules.proofs.Lines.{bounded}
+use Rattle.field.proofs.Tests.{and-left, and-right}
 use Rattle.opcode.proofs.Sheets.{role-number}
 use Rattle.rules.proofs.Rows.{number-back, small}
 use Rattle.rules.proofs.Table.{is-rules}
 
 never : {A : Type 0} → false ≡ true → A
 never e = absurd (let z : _≡_ {A = ℕ} 0 1 = cc in omega arith)
-
-and-left : (a b : Bool) → a && b ≡ true → a ≡ true
-and-left true b e = refl
-and-left false b e = never e
-
-and-right : (a b : Bool) → a && b ≡ true → b ≡ true
-and-right true b e = e
-and-right false b e = never e
 
 -- ---- what reading accepts
 

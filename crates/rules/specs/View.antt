@@ -8,11 +8,12 @@ use lib.Dec.{eqb, ltb}
 use lib.ListN.{length, getD, take, drop, getElem?}
 use Rattle.definition.specs.Limits.{maxRules, outputShort}
 use Rattle.definition.specs.Res.{Res, ok, refuse, _>>_, demand}
-use Rattle.definition.specs.Field.{Numbers, are}
+use Rattle.definition.specs.Field.{Numbers, wrong, are, numbers}
 use Rattle.definition.specs.Opcode.{number, roles}
 use Rattle.definition.specs.Lent.{zeros, filled}
 use Rattle.definition.specs.Rules as def
-use Rattle.definition.specs.Rules.{Rule, Test, always, operandsEqual, firstIs, secondIs, keep, remove, rewriteOperand, nameable, goodRule, readRules, ruleOf, ruleFrom, testNumbered}
+use Rattle.definition.specs.Rules.{Rule, Test, always, operandsEqual, firstIs, secondIs, keep, remove, rewriteOperand, nameable, goodRule, readRules, ruleFields, ruleOf, ruleFrom, testNumbered}
+use Rattle.field.specs.View.{lineEnd, lineFields}
 use Rattle.rules.specs.declared.Action.{Action}
 use Rattle.rules.specs.declared.Action.the-variants.{Keep, Remove, RewriteOperand}
 use Rattle.rules.specs.declared.Instruction.{Instruction}
@@ -91,10 +92,17 @@ pub record Answered (room : ℕ) (x : Res (List Rule)) (r : RuleAnswer) (table :
   pub is : r ≡ answerOf x
   pub holds : table ≡ tableFor room x
 
--- one line: its row, or that it is bad and no numbers
-unfoldable pub lineOf : Option Rule → Line
-lineOf none = record { good = false; numbers = zeros rowSize }
-lineOf (some r) = record { good = true; numbers = rowOf r }
+-- the numbers of the line that starts at `at` of a text, which must have its LF
+unfoldable pub lineNumbers : List ℕ → ℕ → Numbers
+lineNumbers text at = elim (ltb (lineEnd text at) (length text)) [ true ↦ numbers ruleFields (lineFields text at) | false ↦ wrong ]
+
+-- one line: its row and where the next line starts, or that it is bad and no numbers
+unfoldable pub lineOf : ℕ → Option Rule → Line
+lineOf next none = record { good = false; numbers = zeros rowSize; next = 0 }
+lineOf next (some r) = record { good = true; numbers = rowOf r; next = next }
+
+abbrev pub lineAt : List ℕ → ℕ → Line
+lineAt text at = lineOf (lineEnd text at + 1) (ruleFrom (lineNumbers text at))
 
 -- what the fields' ranges say of a line's numbers
 pub record Bounded (ns : List ℕ) : Type 0 where
@@ -109,10 +117,10 @@ unfoldable pub used : Bool → ℕ → ℕ
 used true n = n
 used false n = 0
 
--- a line's nine numbers, or that no rule is made of what the line holds
-unfoldable pub Numbered : Bool → List ℕ → Numbers → Type 0
-Numbered true ns x = x ≡ are ns
-Numbered false ns x = ruleFrom x ≡ none
+-- a line's nine numbers and where the next line starts, or that no rule is made of what the line holds
+unfoldable pub Numbered : List ℕ → ℕ → Bool → List ℕ → ℕ → Type 0
+Numbered text at true ns next = (lineNumbers text at ≡ are ns) × (next ≡ lineEnd text at + 1)
+Numbered text at false ns next = ruleFrom (lineNumbers text at) ≡ none
 
 -- ---- the rules of a table
 

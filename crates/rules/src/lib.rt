@@ -6,11 +6,10 @@ ghost use Prim.Native.Nat.{ℕ, _≤_, _+_, _*_, min};
 ghost use lib.ListN.{length};
 ghost use lib.Seq.{paste};
 ghost use Rattle.definition.specs.Res.{refuse};
-ghost use Rattle.definition.specs.Field.{comma, split, numbers};
 ghost use Rattle.definition.specs.Lent.{zeros};
-ghost use Rattle.definition.specs.Rules.{ruleFields, ruleOf, testNumbered, actionNumbered, testable, allowed, removed, cancel, hasOperand, isVariable, goodRule, readRule, passes};
+ghost use Rattle.definition.specs.Rules.{ruleOf, testNumbered, actionNumbered, testable, allowed, removed, cancel, hasOperand, isVariable, goodRule, passes};
 ghost use Rattle.opcode.specs.View.{roleView, effectView};
-ghost use Rattle.rules.specs.View.{actionView, rowSize, tableSize, readInto, Answered, Numbered, Bounded, used, rowOf, lineOf, rowAt, rowFits, foundIn, actionsIn};
+ghost use Rattle.rules.specs.View.{actionView, rowSize, tableSize, readInto, Answered, Numbered, Bounded, used, rowOf, lineOf, lineAt, rowAt, rowFits, foundIn, actionsIn};
 use definition::BAD_RULE;
 use definition::MAX_FIELD;
 use definition::MAX_RULES;
@@ -46,10 +45,11 @@ pub enum Found {
     Nothing,
 }
 
-// A rule line's numbers, if it is good.
+// A rule line's numbers and where the next line starts, if it is good.
 struct Line {
     good: bool,
     numbers: [u16; 9],
+    next: usize,
 }
 
 // Numbers of a rule.
@@ -61,27 +61,28 @@ pub const TABLE_SIZE: usize = MAX_RULES * ROW;
 const MAXIMA: [u32; 9] = [PASS_COUNT, 22, 22, 3, MAX_FIELD, 2, MAX_FIELD, 2, MAX_FIELD];
 
 fn bad_line() -> Line
-    ensures { λ r. ⌜ r ≡ lineOf none ⌝ }
+    ensures { λ r. ⌜ r ≡ lineOf 0 none ⌝ }
 {
     Line {
         good: false,
         numbers: [0; 9],
+        next: 0,
     }
 }
 
-// The nine numbers that a line spells.
-fn line_numbers(line: &[u8]) -> Line
-    ensures { λ r. ⌜ Numbered (r .good) (r .numbers) (numbers ruleFields (split comma (now (line .entry)))) ⌝ }
+// The nine numbers of the line that starts at `at` and has its LF, by one look at each byte.
+fn line_numbers(text: &[u8], at: usize) -> Line
+    ensures { λ r. ⌜ Numbered (now (text .entry)) at (r .good) (r .numbers) (r .next) ⌝ }
 {
     let mut numbers = [0u16; 9];
-    let mut at = 0;
+    let mut place = at;
     let mut k = 0;
     while k < ROW {
-        if at > line.len() {
+        let next = field::next_up_to(text, place, MAXIMA[k]);
+        if next.stop != field::separator(k, ROW - 1) {
             return bad_line();
         }
-        let end = field::field_end(line, at);
-        let read = field::up_to(&line[at..end], MAXIMA[k]);
+        let read = next.read;
         match read {
             Read::Is(n) => {
                 numbers[k] = n as u16;
@@ -89,15 +90,13 @@ fn line_numbers(line: &[u8]) -> Line
             Read::Malformed => return bad_line(),
             Read::Outside => return bad_line(),
         }
-        at = end + 1;
+        place = next.end + 1;
         k += 1;
-    }
-    if at <= line.len() {
-        return bad_line();
     }
     Line {
         good: true,
         numbers: numbers,
+        next: place,
     }
 }
 
@@ -231,10 +230,10 @@ fn row(ns: [u16; 9]) -> [u16; 9]
     [ns[0], ns[1], ns[2], ns[3], number, ns[5], one, ns[7], two]
 }
 
-fn read_line(line: &[u8]) -> Line
-    ensures { λ r. ⌜ r ≡ lineOf (readRule (now (line .entry))) ⌝ }
+fn read_line(text: &[u8], at: usize) -> Line
+    ensures { λ r. ⌜ r ≡ lineAt (now (text .entry)) at ⌝ }
 {
-    let l = line_numbers(line);
+    let l = line_numbers(text, at);
     if !l.good {
         return bad_line();
     }
@@ -246,6 +245,7 @@ fn read_line(line: &[u8]) -> Line
     Line {
         good: true,
         numbers: numbers,
+        next: l.next,
     }
 }
 
@@ -292,21 +292,17 @@ pub fn read_rules(text: &[u8], table: &mut [u16]) -> RuleAnswer
     let mut at = 0;
     let mut count = 0;
     while at < text.len() {
-        let end = field::line_end(text, at);
-        if end >= text.len() {
-            return refuse(table, BAD_RULE, count + 1);
-        }
         if count >= MAX_RULES {
             return refuse(table, BAD_RULE, count + 1);
         }
-        let line = read_line(&text[at..end]);
+        let line = read_line(text, at);
         if !line.good {
             return refuse(table, BAD_RULE, count + 1);
         }
         let row = line.numbers;
         put(table, count * ROW, row);
         count += 1;
-        at = end + 1;
+        at = line.next;
     }
     RuleAnswer::Rules(count)
 }

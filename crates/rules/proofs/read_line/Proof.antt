@@ -1,7 +1,7 @@
 -- Made by `answers` from crates/rules/answers/read_line.txt: edit that file, not this one.
 use mathlib.Core.Path.{sym, _∙_}
 use borrow.Author.Tests.{not-true, not-false}
-use Rattle.rules.proofs.Lines.{line-bad, line-numbered, line-not-good, line-good, bounded}
+use Rattle.rules.proofs.Lines.{line-bad, line-numbered, line-bounded, line-not-good, line-good}
 use borrow.Author.Needs.{needs}
 use Rattle.rules.proofs.read_line.Statement.{statement}
 use Rattle.rules.proofs.read_line.Tie as tie
@@ -12,9 +12,9 @@ read-line-spec =
     (tie.spec
     (λ c κs. search needs)  -- line-numbers-requires
     (λ c κs. search needs)  -- bad-line-requires
-    (λ c. line-bad _ _ (c .before .before .before .line-numbers .ensures) (not-true _ (c .before .if1 .taken)) (c .bad-line .ensures))  -- returns
-    (λ c κs. bounded _ (line-numbered _ _ (c .before .before .before .line-numbers .ensures) (not-false _ (c .before .if1 .left))))  -- is-good-requires
+    (λ c. line-bad _ _ _ (c .before .before .before .line-numbers .ensures) (not-true _ (c .before .if1 .taken)) (c .bad-line .ensures))  -- returns
+    (λ c κs. line-bounded _ _ (line-numbered _ _ _ (c .before .before .before .line-numbers .ensures) (not-false _ (c .before .if1 .left)) .0))  -- is-good-requires
     (λ c κs. search needs)  -- bad-line-requires-2
-    (λ c. line-not-good _ (line-numbered _ _ (c .before .before .before .before .before .before .line-numbers .ensures) (not-false _ (c .before .before .before .before .if1 .left))) (sym (not-true _ (c .before .if2 .taken)) ∙ (c .before .before .is-good) .ensures) (c .bad-line2 .ensures))  -- returns-2
-    (λ c κs. bounded _ (line-numbered _ _ (c .before .before .before .before .before .line-numbers .ensures) (not-false _ (c .before .before .before .if1 .left))))  -- row-requires
-    (λ c. line-good _ (line-numbered _ _ (c .before .before .before .before .before .before .line-numbers .ensures) (not-false _ (c .before .before .before .before .if1 .left))) (sym (not-false _ (c .before .if2 .left)) ∙ (c .before .before .is-good) .ensures) (c .row .ensures)))  -- returns-3
+    (λ c. line-not-good _ _ (line-numbered _ _ _ (c .before .before .before .before .before .before .line-numbers .ensures) (not-false _ (c .before .before .before .before .if1 .left)) .0) (sym (not-true _ (c .before .if2 .taken)) ∙ (c .before .before .is-good) .ensures) (c .bad-line2 .ensures))  -- returns-2
+    (λ c κs. line-bounded _ _ (line-numbered _ _ _ (c .before .before .before .before .before .line-numbers .ensures) (not-false _ (c .before .before .before .if1 .left)) .0))  -- row-requires
+    (λ c. line-good _ _ (line-numbered _ _ _ (c .before .before .before .before .before .before .line-numbers .ensures) (not-false _ (c .before .before .before .before .if1 .left)) .0) (sym (not-false _ (c .before .if2 .left)) ∙ (c .before .before .is-good) .ensures) (c .row .ensures) (line-numbered _ _ _ (c .before .before .before .before .before .before .line-numbers .ensures) (not-false _ (c .before .before .before .before .if1 .left)) .1)))  -- returns-3

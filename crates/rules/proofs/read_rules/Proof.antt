@@ -2,7 +2,7 @@
 use Prim.Native.Nat.{_-_}
 use borrow.Author.Tests.{not-true, not-false}
 use lib.ListN.{length}
-use Rattle.rules.proofs.File.{FileRead, file-unfit, file-starts, file-unended, file-full, file-bad, file-next, file-done, file-refused}
+use Rattle.rules.proofs.File.{FileRead, file-unfit, file-starts, file-full, file-bad, file-next, file-less, file-done, file-refused}
 use Rattle.rules.proofs.read_rules.Statement.{statement}
 use Rattle.rules.proofs.read_rules.Tie as tie
 use borrow.Author.Needs.{needs}
@@ -24,28 +24,19 @@ read-rules-spec =
     (λ c. file-unfit _ (c .before .before .before .before .if1 .taken) (c .before .before .refuse .ensures))  -- returns
     (λ c κs. search needs)  -- clear-requires
     (λ c. file-starts _ (c .before .before .before .before .if1 .left) (c .before .before .clear .ensures))  -- loop-holds
-    (λ c κs. search needs)  -- line-end-requires
     (λ c. search needs)  -- add-refuse
     (λ c κs. search needs)  -- refuse-requires-2
     (λ c. search needs)  -- same-length-2
-    (λ c. file-refused _ (c .before .before .before .before .before .before .before .before .before .before .before .before .if1 .left) (c .before .before .before .before .before .before .before .loop .inv .long) (file-unended (c .before .before .before .before .before .before .before .loop .inv) (c .before .before .before .before .before .line-end .ensures) (search needs) (search needs)) (c .before .before .refuse2 .ensures))  -- returns-2
+    (λ c. file-refused _ (c .before .before .before .before .before .before .before .before .before .before .before .if1 .left) (c .before .before .before .before .before .before .loop .inv .long) (file-full (c .before .before .before .before .before .before .loop .inv) (search needs) (search needs)) (c .before .before .refuse2 .ensures))  -- returns-2
+    (λ c κs. search needs)  -- read-line-requires
     (λ c. search needs)  -- add-refuse-2
     (λ c κs. search needs)  -- refuse-requires-3
     (λ c. search needs)  -- same-length-3
-    (λ c. file-refused _ (c .before .before .before .before .before .before .before .before .before .before .before .before .before .if1 .left) (c .before .before .before .before .before .before .before .before .loop .inv .long) (file-full (c .before .before .before .before .before .before .before .before .loop .inv) (c .before .before .before .before .before .before .line-end .ensures) (search needs) (search needs)) (c .before .before .refuse3 .ensures))  -- returns-3
-    (λ c. search needs)  -- sub-read-line
-    (λ c. search needs)  -- part-read-line-start
-    (λ c. search needs)  -- part-read-line-end
-    (λ c κs. search needs)  -- read-line-requires
-    (λ c. search needs)  -- add-refuse-3
-    (λ c κs. search needs)  -- refuse-requires-4
-    (λ c. search needs)  -- same-length-4
-    (λ c. file-refused _ (c .before .before .before .before .before .before .before .before .before .before .before .before .before .before .before .before .before .if1 .left) (c .before .before .before .before .before .before .before .before .before .before .before .before .loop .inv .long) (file-bad (c .before .before .before .before .before .before .before .before .before .before .before .before .loop .inv) (c .before .before .before .before .before .before .before .before .before .before .line-end .ensures) (search needs) (search needs) (c .before .before .before .before .before .before .read-line .ensures) (not-true _ (c .before .before .before .before .if4 .taken))) (c .before .before .refuse4 .ensures))  -- returns-4
+    (λ c. file-refused _ (c .before .before .before .before .before .before .before .before .before .before .before .before .before .before .if1 .left) (c .before .before .before .before .before .before .before .before .before .loop .inv .long) (file-bad (c .before .before .before .before .before .before .before .before .before .loop .inv) (search needs) (c .before .before .before .before .before .before .read-line .ensures) (search needs) (not-true _ (c .before .before .before .before .if3 .taken))) (c .before .before .refuse3 .ensures))  -- returns-3
     (λ c. search needs)  -- mul-put
     (λ c κs. search needs)  -- put-requires
     (λ c. search needs)  -- add-count
-    (λ c. search needs)  -- add-at
-    (λ c. search needs)  -- loop-less
-    (λ c. file-next (c .before .before .before .before .before .before .before .before .before .before .before .before .before .loop .inv) (c .before .before .before .before .before .before .before .before .before .before .before .line-end .ensures) (search needs) (search needs) (c .before .before .before .before .before .before .before .read-line .ensures) (not-false _ (c .before .before .before .before .before .if4 .left)) (c .before .before .put .ensures))  -- loop-again
-    (λ c. search needs)  -- same-length-5
-    (λ c. file-done (c .before .loop .inv) (c .before .before .before .before .before .before .if1 .left) (search needs)))  -- returns-5
+    (λ c. file-less (c .before .before .before .before .before .before .before .before .before .before .loop .inv) (search needs) (c .before .before .before .before .before .before .before .read-line .ensures) (not-false _ (c .before .before .before .before .before .if3 .left)) (search needs))  -- loop-less
+    (λ c. file-next (c .before .before .before .before .before .before .before .before .before .before .loop .inv) (search needs) (c .before .before .before .before .before .before .before .read-line .ensures) (not-false _ (c .before .before .before .before .before .if3 .left)) (c .before .before .put .ensures))  -- loop-again
+    (λ c. search needs)  -- same-length-4
+    (λ c. file-done (c .before .loop .inv) (c .before .before .before .before .before .before .if1 .left) (search needs)))  -- returns-4
