@@ -1,20 +1,19 @@
 -- The fields of a text, walked with one look at each byte: a field ends at its comma or with its line.
 use mathlib.Core.Path.{_≡_, refl, ap, sym, _∙_}
-use mathlib.Core.Bool.{Bool, true, false, _||_}
+use mathlib.Core.Bool.{Bool, true, false}
 use mathlib.Core.List.{List, [], _∷_}
-use Prim.Native.Nat.{ℕ, zero, suc, _+_, _-_, _≤_, _<_}
-use native.Mathlib.Numerals.{add-one}
+use Prim.Native.Nat.{ℕ, suc, _+_, _-_, _≤_, _<_}
 use native.Mathlib.Decide.{decLt, ℕ-discrete}
 use native.Mathlib.Omega.{arith}
-use borrow.Author.Tests.{eqb-true, eqb-false, lt-ltb, le-ltb}
+use borrow.Author.Tests.{eqb-true, lt-ltb, le-ltb}
 use lib.Dec.{eqb, ltb}
-use lib.ListN.{length, getD, take, drop, length-drop, List·getD-eq-default}
+use lib.ListN.{length, getD, drop, length-drop, List·getD-eq-default}
 use lib.Seq.{drop-drop, getD-drop}
 use Rattle.definition.specs.Field as def
-use Rattle.definition.specs.Field.{lf, comma, onto, split, firstLine, natural, naturalWithin, field, upTo}
+use Rattle.definition.specs.Field.{lf, comma, onto, split, firstLine, naturalWithin, field, upTo}
 use Rattle.field.specs.declared.Number.{Number}
 use Rattle.field.specs.declared.Number.the-variants.{Empty}
-use Rattle.field.specs.View.{cap, numberOf, longer, until, separates, firstField, Ends, Reads, lineEnd, lineFields, separator}
+use Rattle.field.specs.View.{cap, numberOf, longer, until, separates, firstField, Reads, lineEnd, lineFields, separator}
 use Rattle.field.proofs.Numbers.{after, natural-after, up-to-is}
 use Rattle.field.proofs.Parts.{Finding, finds-start, finds-next, finds-here, finds-end, until-next, until-here, until-end, Some, some-part, split-some}
 

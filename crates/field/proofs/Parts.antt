@@ -2,13 +2,10 @@
 use mathlib.Core.Path.{_≡_, refl, ap, sym, _∙_}
 use mathlib.Core.Bool.{Bool, true, false}
 use mathlib.Core.List.{List, [], _∷_}
-use Prim.Native.Nat.{ℕ, zero, suc, _+_, _-_, _≤_, _<_}
+use Prim.Native.Nat.{ℕ, suc, _+_, _-_, _≤_, _<_}
 use native.Mathlib.Numerals.{add-one}
-use mathlib.Core.Logic.{⊎-elim}
 use native.Mathlib.Omega.{arith}
-use native.Mathlib.Nat.{eq-or-lt-of-le}
-use borrow.Author.Tests.{le-leb, lt-leb, eq-eqb, ne-eqb}
-use lib.Dec.{eqb, leb}
+use lib.Dec.{eqb}
 use lib.ListN.{length, getD, take, drop, length-drop, drop-of-length-le}
 use lib.Seq.{drop-cons, drop-drop}
 use Rattle.definition.specs.Field.{lf, onto, split, firstLine}
@@ -105,32 +102,6 @@ module _ {bytes : List ℕ} {at r : ℕ} (e : Ends firstLine bytes at r) where
 
   pub line-is : take (r - at) (drop at bytes) ≡ firstLine (drop at bytes)
   line-is = part-is lf line-part ∙ before-lf (drop at bytes)
-
--- ---- the same with no case for the last part: after it the next place lies past the end, and there are no parts
-unfoldable pub partsFrom : ℕ → List ℕ → ℕ → List (List ℕ)
-partsFrom sep bytes at = elim (leb at (length bytes)) [ true ↦ split sep (drop at bytes) | false ↦ [] ]
-
-module _ (sep : ℕ) (bytes : List ℕ) where
-  pub parts-whole : partsFrom sep bytes 0 ≡ split sep bytes
-  unfolding partsFrom
-  parts-whole = rw (partsFrom, le-leb 0 (length bytes) (omega arith))
-
-  pub parts-past : (at : ℕ) → length bytes < at → partsFrom sep bytes at ≡ []
-  unfolding partsFrom
-  parts-past at h = rw (partsFrom, lt-leb _ _ h)
-
-  pub parts-at : (at : ℕ) → at ≤ length bytes → partsFrom sep bytes at ≡ split sep (drop at bytes)
-  unfolding partsFrom
-  parts-at at h = rw (partsFrom, le-leb _ _ h)
-
-pub parts-next : (sep : ℕ) {bytes : List ℕ} {at r : ℕ} → Ends (before sep) bytes at r → at ≤ length bytes
-    → partsFrom sep bytes at ≡ take (r - at) (drop at bytes) ∷ partsFrom sep bytes (r + 1)
-parts-next sep {bytes} {at} {r} e h =
-    let inside : r ≤ length bytes = omega (arith, e .high) in
-    ⊎-elim
-    (λ last. parts-at sep bytes at h ∙ rw (parts-past sep bytes (r + 1) (omega arith)) (parts-last sep e (omega arith)))
-    (λ more. parts-at sep bytes at h ∙ rw (parts-at sep bytes (r + 1) (omega arith)) (parts-more sep e more))
-    (eq-or-lt-of-le inside)
 
 -- there is always a part
 pub data Some : List (List ℕ) → Type 0 where

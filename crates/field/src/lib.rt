@@ -62,11 +62,11 @@ fn add_byte(number: Number, b: u8) -> Number
     match number {
         Number::Malformed => Number::Malformed,
         Number::Empty => Number::Is(digit as u64),
-        Number::Is(n) => {
-            if n == 0 {
+        Number::Is(so_far) => {
+            if so_far == 0 {
                 return Number::Malformed;
             }
-            Number::Is(add_digit(n, digit))
+            Number::Is(add_digit(so_far, digit))
         }
     }
 }

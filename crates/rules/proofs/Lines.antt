@@ -8,11 +8,11 @@ use native.Mathlib.Numerals.{add-one}
 use native.Mathlib.Omega.{arith}
 use native.Mathlib.Decide.{decLt}
 use borrow.Author.Tests.{lt-ltb, le-ltb}
-use lib.Dec.{ltb, lit≤}
+use lib.Dec.{lit≤}
 use lib.ListN.{length, getD, take, drop, set, length-set, drop-of-length-le}
 use lib.Seq.{drop-cons, take-suc-set, take-all, append-snoc}
 use Rattle.definition.specs.Field as def
-use Rattle.definition.specs.Field.{firstLine, Field, upTo, below, field, malformed, outside, is, Numbers, wrong, far, are, andThese, numbers}
+use Rattle.definition.specs.Field.{firstLine, Field, upTo, field, malformed, outside, is, Numbers, wrong, far, are, andThese, numbers}
 use Rattle.definition.specs.Rules.{Rule, ruleFields, ruleFrom, goodOnly, goodRule, ruleOf, readRule}
 use Rattle.field.specs.View.{lineEnd, lineFields}
 use Rattle.field.proofs.Numbers.{up-to-bound, below-up-to}
