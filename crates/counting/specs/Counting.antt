@@ -1,24 +1,24 @@
 -- A FOR that is laid out so makes its passes: the part of the claim that is about runs alone.
-use Prim.Native.Nat.{ℕ, _+_, _-_, _*_, _/_, _%_, _^_, suc, zero, _≤_, _<_, zero-le, suc-le-suc}
+use Prim.Native.Nat.{ℕ, _+_, _-_, _*_, _/_, _%_, suc, zero, _≤_, _<_}
 use mathlib.Core.Path.{_≡_, refl, sym, _∙_, ap, subst}
 use mathlib.Core.List.{List, [], _∷_}
 use mathlib.Core.Bool.{Bool, true, false, not, _&&_}
 use mathlib.Core.Option.{Option, some, none}
 use native.Mathlib.Omega.{arith}
 use native.Mathlib.Nat.{zero-add, mod-lt, div-add-mod'}
-use lib.Dec.{eqb, leb, ltb}
-use lib.ListN.{length, getD}
-use lib.IntN.{ℤ, pos, negsuc, _+ℤ_, _-ℤ_}
-use lib.Signed.{leZ, ltZ, mag, quotZ}
+use lib.Dec.{eqb}
+use lib.ListN.{length}
+use lib.IntN.{ℤ, pos, _+ℤ_, _-ℤ_}
+use lib.Signed.{ltZ, quotZ}
 use borrow.Author.Tests.{ne-eqb, eq-eqb, eqb-false}
-use Rattle.definition.specs.Opcode.{Role, dup, pop, loadVar, storeVar, loadConst, loadTrue, loadFalse, binary, unary, compare, jmp, jmpIfNot, cmpBr, ret, Add, Gt, comparisonOf, size, traits, row, number as roleNumber}
-use Rattle.definition.specs.Iec.{signedOf, iec, decides, taken}
+use Rattle.definition.specs.Opcode.{Role, dup, pop, loadVar, storeVar, loadConst, loadTrue, loadFalse, binary, unary, compare, jmp, jmpIfNot, cmpBr, ret, Add, size, traits, row, number as roleNumber}
+use Rattle.definition.specs.Iec.{iec, decides, taken}
 use Rattle.definition.specs.Rules.{hasRole}
 use Rattle.definition.specs.Runs.{Break, offCode, target}
 use Rattle.counting.specs.Machine.{Image, State, Step, goes, finishes, stops, breaks, number, wrapped, calculate, operandAt, at, stored, popOne, popTwo, leadsTo, calculated, branchIf, truth, execute, executeIf, isStart, roleAt, step, onward, afterSteps}
 use Rattle.counting.specs.Pass.{Places, oneIf, crossings, passes, storesTo, Ends, ended, later, AlwaysEnds, IsValue, CountsUp, passCount, Makes}
-use Rattle.counting.specs.Laid.{Stands, constantAt, Begins, Tests, Counts, Opening, Laid}
-use Rattle.counting.specs.Numbers.{shifted, number-wrapped, number-value, shifted-le, shifted-lt, shifted-ge, Sum, summed, sum-value, difference, counts}
+use Rattle.counting.specs.Laid.{Stands, constantAt, Tests, Opening, Laid}
+use Rattle.counting.specs.Numbers.{shifted, number-wrapped, number-value, shifted-le, shifted-lt, shifted-ge, summed, sum-value, difference, counts}
 
 -- ---- one step
 

@@ -1,22 +1,24 @@
 -- What calls do to rows, pool and labels; and that code before an instruction other than a store never changes again.
-use Prim.Native.Nat.{ℕ, _+_, _-_, suc, zero, _≤_, _<_}
+use Prim.Native.Nat.{ℕ, _+_, _-_, suc, _<_}
 use mathlib.Core.Path.{_≡_, refl, sym, _∙_, ap, subst}
 use mathlib.Core.List.{List, [], _∷_, _++_, append-assoc, append-nil}
 use mathlib.Core.Bool.{Bool, true, false}
 use mathlib.Core.Option.{Option, some, none}
 use native.Mathlib.Omega.{arith}
-use lib.Dec.{eqb, leb, ltb}
+use lib.Dec.{eqb, ltb}
 use lib.ListN.{length, getD, take, drop, set, length-append, length-set, List·getD-append}
-use lib.Seq.{take-append-seam, drop-append-seam, getD-set-same, getD-set-other}
-use borrow.Author.Tests.{leb-true, ltb-true, eqb-true, eqb-false, eq-eqb, ne-eqb}
+use lib.Seq.{getD-set-other}
+use borrow.Author.Tests.{ltb-true, eqb-true, eq-eqb}
 use Rattle.definition.specs.Limits.{maxCode}
-use Rattle.definition.specs.Res.{Res, ok, refuse, _>>=_, _>>_, demand}
-use Rattle.definition.specs.Opcode.{Role, Sheet, opcode, comparisonByte, dup, loadVar, storeVar, loadConst, jmp, jmpIfNot, cmpBr, size, traits, row}
-use Rattle.definition.specs.Emit.{le16, Emitter, Last, other, loaded, stored, LineEntry, PendingPatch, added, add, folded, foldStore, loadAfter, withConstant, pooledIf, pooled, patched, labelled, settled, branch, indexOf, act, acts, Call, createLabel, bindLabel, loadVariable, storeVariable, loadConstant, addConstant, emitOpcode, emitJmp, emitJmpIfNot, emitCmpBr, resetStackDepth, setPosition, refused}
+use Rattle.definition.specs.Res.{ok, _>>=_, _>>_}
+use Rattle.definition.specs.Opcode.{Sheet, opcode, comparisonByte, dup, loadVar, storeVar, loadConst, jmp, jmpIfNot, cmpBr, size, traits, row}
+use Rattle.definition.specs.Emit.{le16, Emitter, Last, other, loaded, stored, PendingPatch, add, folded, foldStore, loadAfter, withConstant, pooledIf, pooled, labelled, settled, indexOf, act, acts, Call, createLabel, bindLabel, loadVariable, storeVariable, loadConstant, addConstant, emitOpcode, emitJmp, emitJmpIfNot, emitCmpBr, resetStackDepth, setPosition, refused}
 use Rattle.definition.specs.Walk.{next, after}
 use Rattle.counting.specs.Pass.{oneIf}
 use Rattle.counting.specs.Once.{OneByte, OneBytes, closes, closed, isBind, binds}
-use Rattle.counting.specs.Rows.{ok-demand, ok-bind, ok-is, not-ok, Row, rowOf, unpatched, bytesOf, codeOf, patchOf, patchesOf, Sized, code-append, patches-append, sized-append, sized-left, sized-right, Formed, FormedBy, Adds, add-adds, branch-adds}
+use Rattle.runs.specs.Results.{never, ok-demand, ok-bind, ok-is}
+use Rattle.runs.specs.Emitted.{fold-bytes}
+use Rattle.counting.specs.Rows.{Row, rowOf, unpatched, bytesOf, codeOf, patchOf, patchesOf, Sized, code-append, patches-append, sized-append, sized-left, Formed, FormedBy, Adds, add-adds, branch-adds}
 
 -- ---- the pool
 
@@ -247,7 +249,7 @@ acted s rows (emitCmpBr c v k l) e e′ f o n p =
     subst (λ ks. Acts s (rows ++ (rowOf cmpBr (operand ks) (some l) ∷ [])) (emitCmpBr c v k l) other e e′) (sym (a .constants)) (pooled-then k (q .0) (λ h. h) refl u a)
 acted s rows (resetStackDepth h) e e′ f o n p = still (resetStackDepth h) (e .last) e e′ _ refl f refl refl tt refl p
 acted s rows (setPosition p′) e e′ f o n p = still (setPosition p′) (e .last) e e′ _ refl f refl refl tt refl p
-acted s rows (refused x) e e′ f o n p = not-ok p
+acted s rows (refused x) e e′ f o n p = never (cc)
 
 -- ---- any call: rows R at the front stay
 
@@ -371,12 +373,6 @@ goes-plain s R c e e′ w o n p =
     }
 
 -- a DUP put before the store that is last
-fold-bytes : (F W c : List ℕ) (x : ℕ) → c ≡ F ++ W → length W ≡ 3 → take (length c - 3) c ++ (x ∷ drop (length c - 3) c) ≡ F ++ (x ∷ W)
-fold-bytes F W c x p q =
-    let n : length c - 3 ≡ length F = omega (arith, ap length p ∙ length-append F W) in
-    ap (λ m. take m c ++ (x ∷ drop m c)) n ∙ (ap (λ b. take (length F) b ++ (x ∷ drop (length F) b)) p
-    ∙ (ap (λ a. a ++ (x ∷ drop (length F) (F ++ W))) (take-append-seam F W) ∙ ap (λ b. F ++ (x ∷ b)) (drop-append-seam F W)))
-
 pub folded-formed : (s : Sheet) (v : ℕ) (front : List Row) (code : List ℕ) (ps : List PendingPatch) → Formed s (front ++ (rowOf storeVar (le16 v) none ∷ [])) code ps → length code < maxCode
     → Formed s (front ++ (rowOf dup [] none ∷ rowOf storeVar (le16 v) none ∷ [])) (take (length code - 3) code ++ (opcode s dup ∷ drop (length code - 3) code)) ps
 unfolding codeOf patchesOf patchOf bytesOf unpatched rowOf Sized size traits row le16

@@ -18,7 +18,7 @@ use Rattle.definition.specs.Rewrite.{open-Rewrite}
 use Rattle.definition.specs.Optimize.{open-Optimize}
 use Rattle.definition.specs.Compile.{FinalizedFunction, compileProgram, open-Compile}
 use Rattle.definition.specs.Runs.{open-Runs}
-use Rattle.counting.specs.Machine.{Image, State, afterSteps, open-Machine}
+use Rattle.counting.specs.Machine.{State, afterSteps, open-Machine}
 use Rattle.counting.specs.Pass.{Places, passes, open-Pass}
 use Rattle.counting.specs.Stands.{For, forStmt, imageOf, open-Stands}
 

@@ -1,23 +1,22 @@
 -- With no rules the passes change nothing, and patching writes each branch's own offset: finished code, row by row.
-use Prim.Native.Nat.{ℕ, _+_, _-_, _*_, _/_, _%_, suc, zero, _≤_, _<_}
-use mathlib.Core.Path.{_≡_, refl, sym, _∙_, ap, subst}
-use mathlib.Core.List.{List, [], _∷_, _++_, map, append-assoc, append-nil}
-use mathlib.Core.Bool.{Bool, true, false, not, _||_}
+use Prim.Native.Nat.{ℕ, _+_, _-_, suc}
+use mathlib.Core.Path.{_≡_, refl, sym, _∙_, ap}
+use mathlib.Core.List.{List, [], _∷_, _++_, map, append-assoc}
+use mathlib.Core.Bool.{Bool, true, false, _||_}
 use mathlib.Core.Option.{Option, some, none}
 use native.Mathlib.Omega.{arith}
-use native.Mathlib.Nat.{add-assoc}
-use lib.Dec.{eqb, leb, ltb}
-use lib.ListN.{length, getD, take, drop, length-append}
+use lib.Dec.{eqb}
+use lib.ListN.{length, take, drop, length-append}
 use lib.Seq.{take-append-seam, drop-append-add}
-use borrow.Author.Tests.{eq-eqb, ne-eqb, eqb-true, le-leb, leb-true, leb-false, ltb-true, ltb-false}
+use borrow.Author.Tests.{eq-eqb, eqb-true, le-leb}
 use Rattle.definition.specs.Field.{onto, has}
 use Rattle.definition.specs.Opcode.{Role, Sheet, opcode, roleOf, size}
-use Rattle.definition.specs.Rules.{Rule, Action, keep, remove, rewriteOperand, matches, Instruction}
-use Rattle.definition.specs.Emit.{le16, Emitter, PendingPatch}
-use Rattle.definition.specs.Rewrite.{Bytes, ends, sizeOr1, cut, decode, startsFrom, boundariesFrom, instruction, actions, applied, output, OffsetMap, offsets, movedTo, applyPeephole}
+use Rattle.definition.specs.Rules.{Action, keep, matches}
+use Rattle.definition.specs.Emit.{le16, PendingPatch}
+use Rattle.definition.specs.Rewrite.{Bytes, ends, sizeOr1, cut, decode, boundariesFrom, instruction, actions, applied, output, OffsetMap, offsets, movedTo, applyPeephole}
 use Rattle.definition.specs.Optimize.{Pipeline, mapThrough, run, identity, optimize}
-use Rattle.definition.specs.Compile.{boundLabel, displacement, overwrite, patchJump, patchJumps, jumpTargets}
-use Rattle.counting.specs.Rows.{Row, rowOf, unpatched, bytesOf, codeOf, patchOf, patchesOf, Sized, code-append}
+use Rattle.definition.specs.Compile.{boundLabel, displacement, overwrite, patchJump, patchJumps}
+use Rattle.counting.specs.Rows.{Row, unpatched, bytesOf, codeOf, patchOf, patchesOf, Sized}
 
 -- ---- decoding
 

@@ -1,16 +1,16 @@
 -- The calls of a FOR that counts up over constants, and those of a statement inside others.
-use Prim.Native.Nat.{ℕ, suc, zero}
-use mathlib.Core.Path.{_≡_, refl, sym, _∙_, ap, subst}
-use mathlib.Core.List.{List, [], _∷_, _++_, append-assoc, append-nil}
+use Prim.Native.Nat.{ℕ, suc}
+use mathlib.Core.Path.{_≡_, refl, _∙_, ap}
+use mathlib.Core.List.{[], _∷_, _++_}
 use mathlib.Core.Bool.{Bool, true, false}
-use mathlib.Core.Option.{Option, some, none}
-use Rattle.definition.specs.Opcode.{Le, Gt, negate, binary, Add}
-use Rattle.definition.specs.Tree.{Expr, const, Stmt, Block, Program}
-use Rattle.definition.specs.Emit.{Call, createLabel, bindLabel, loadVariable, storeVariable, loadConstant, emitOpcode, emitJmp, emitCmpBr}
+use mathlib.Core.Option.{some}
+use Rattle.definition.specs.Opcode.{negate, binary, Add}
+use Rattle.definition.specs.Tree.{const}
+use Rattle.definition.specs.Emit.{bindLabel, loadVariable, storeVariable, loadConstant, emitOpcode, emitJmp}
 use Rattle.definition.specs.Walk.{next, after, Calls, _>>=_, _>>_, say, nothing, newLabel, when}
 use Rattle.definition.specs.CompileExpr.{constantOf, emitClassifiedCmpBr}
 use Rattle.definition.specs.Expr.{emitExpr}
-use Rattle.definition.specs.Stmt.{Loops, loopBody, continues, countsDown, bound, endTestBy, emitFor, emitStmt, emitBlock, emitStmts}
+use Rattle.definition.specs.Stmt.{Loops, loopBody, continues, countsDown, bound, endTestBy, emitFor, emitStmt, emitBlock}
 use Rattle.counting.specs.Stands.{For, forStmt, settingOf, testingOf, bodyOf, countingOf}
 use Rattle.counting.specs.Once.{closed, closes, block-closed, closed-append}
 

@@ -1,13 +1,13 @@
 -- A FOR that stands in a program's tree is among its calls.
-use Prim.Native.Nat.{ℕ, suc, zero}
+use Prim.Native.Nat.{ℕ, suc}
 use mathlib.Core.Path.{_≡_, refl, sym, _∙_, ap, subst}
 use mathlib.Core.List.{List, [], _∷_, _++_, append-assoc, append-nil}
 use mathlib.Core.Bool.{Bool, true, false, _&&_}
 use mathlib.Core.Option.{Option, some, none}
 use native.Mathlib.Omega.{arith}
-use Rattle.definition.specs.Tree.{CaseLabel, Source, Expr, Stmt, assign, if, case, for, loop, exit, continue, return, badStmt, Block, done, _then_, Arms, noArms, arm, badArm, Program}
-use Rattle.definition.specs.Emit.{Call, createLabel, bindLabel}
-use Rattle.definition.specs.Walk.{next, after, Walk, Calls, _>>=_, _>>_, say, nothing, newLabel, when}
+use Rattle.definition.specs.Tree.{CaseLabel, Expr, Stmt, Block, done, _then_, Arms, Program}
+use Rattle.definition.specs.Emit.{Call, createLabel}
+use Rattle.definition.specs.Walk.{next, after, Walk, Calls, _>>=_, _>>_, newLabel}
 use Rattle.definition.specs.CompileExpr.{ClassifiedCmp, classify}
 use Rattle.definition.specs.Stmt.{Loops, isDone, isExitStmt, isExit, onlyIf, exitWhen, exitUnless, Shape, while, repeat, plain, repeatOr, whileOr, shape, branchUnless, elsePart, armBody, emitArm, loopBody, continues, emitFor, whileBy, emitWhile, repeatBy, emitRepeat, emitPlain, emitLoop, emitStmt, emitBlock, emitRest, emitArms, emitStmts}
 use Rattle.counting.specs.Once.{after-append}

@@ -1,9 +1,8 @@
 -- A FOR over constants as it stands in finished code, instruction by instruction.
-use Prim.Native.Nat.{ℕ, _+_, suc, zero, _≤_, _<_}
+use Prim.Native.Nat.{ℕ, _+_, _≤_, _<_}
 use mathlib.Core.Path.{_≡_}
-use mathlib.Core.List.{List}
-use mathlib.Core.Bool.{Bool, true, false}
-use mathlib.Core.Option.{Option, some, none}
+use mathlib.Core.Bool.{true}
+use mathlib.Core.Option.{some}
 use lib.ListN.{length, getD}
 use Rattle.definition.specs.Opcode.{Role, loadVar, storeVar, loadConst, binary, jmp, cmpBr, Add, Gt, comparisonOf}
 use Rattle.definition.specs.Runs.{target}

@@ -1,39 +1,38 @@
 -- Every FOR of a program that counts up over constants stands in finished code as Laid says, where its body does not end with a store to
 -- its control; where it does, the place after the body is no instruction's start.
-use Prim.Native.Nat.{ℕ, _+_, _-_, _*_, _/_, _%_, suc, zero, _≤_, _<_}
+use Prim.Native.Nat.{ℕ, _+_, _-_, _*_, _/_, _%_, suc, _≤_, _<_}
 use mathlib.Core.Path.{_≡_, refl, sym, _∙_, ap, subst}
 use mathlib.Core.List.{List, [], _∷_, _++_, append-assoc, append-nil}
 use mathlib.Core.Bool.{Bool, true, false}
-use mathlib.Core.Option.{Option, some, none}
+use mathlib.Core.Option.{some, none}
 use native.Mathlib.Omega.{arith}
-use lib.Dec.{eqb, leb, ltb}
-use lib.ListN.{length, getD, set, length-append, length-set, List·getD-append}
+use lib.Dec.{eqb}
+use lib.ListN.{length, getD, length-append, length-set, List·getD-append}
 use lib.Seq.{getD-set-same}
-use borrow.Author.Tests.{ltb-true, eqb-true, eq-eqb, ne-eqb}
-use Rattle.definition.specs.Limits.{maxCode}
+use borrow.Author.Tests.{ltb-true, eq-eqb}
 use Rattle.definition.specs.Field.{has}
-use Rattle.definition.specs.Res.{Res, ok, refuse, _>>=_}
-use Rattle.definition.specs.Opcode.{Role, Sheet, opcode, roleOf, comparisonByte, comparisonOf, CompareOp, Le, Gt, negate, loadVar, storeVar, loadConst, dup, binary, Add, jmp, cmpBr, size, traits, row}
-use Rattle.definition.specs.Tree.{Expr, const, Stmt, Block, Program}
-use Rattle.definition.specs.Emit.{le16, Call, createLabel, bindLabel, loadVariable, storeVariable, loadConstant, addConstant, emitOpcode, emitJmp, emitJmpIfNot, emitCmpBr, resetStackDepth, setPosition, refused, Last, other, loaded, stored, Emitter, emitterAt, PendingPatch, indexOf, loadAfter, foldStore, folded, add, act, acts}
+use Rattle.definition.specs.Res.{ok, _>>=_}
+use Rattle.definition.specs.Opcode.{Role, Sheet, opcode, roleOf, comparisonByte, comparisonOf, Gt, loadVar, storeVar, loadConst, dup, binary, Add, jmp, cmpBr, size, traits, row}
+use Rattle.definition.specs.Tree.{Program}
+use Rattle.definition.specs.Emit.{le16, Call, createLabel, bindLabel, loadVariable, storeVariable, loadConstant, addConstant, emitOpcode, emitJmp, emitJmpIfNot, emitCmpBr, resetStackDepth, setPosition, refused, Last, other, loaded, stored, Emitter, emitterAt, indexOf, loadAfter, foldStore, folded, add, act, acts}
 use Rattle.definition.specs.Walk as walk
-use Rattle.definition.specs.Walk.{next, after, Calls, say, nothing, newLabel, when}
-use Rattle.definition.specs.CompileExpr.{constantOf, emitClassifiedCmpBr}
-use Rattle.definition.specs.Expr.{emitExpr}
-use Rattle.definition.specs.Stmt.{Loops, loopBody, continues, countsDown, bound, endTestBy, emitFor, emitStmt, emitBlock, emitStmts}
+use Rattle.definition.specs.Walk.{next, after, say, nothing}
+use Rattle.definition.specs.Stmt.{Loops, bound}
 use Rattle.definition.specs.Rewrite.{boundariesFrom, movedTo}
 use Rattle.definition.specs.Optimize.{optimize}
-use Rattle.definition.specs.Compile.{FinalizedFunction, boundOr0, boundLabel, displacement, patchJumps, jumpTargets, finalizeFunction, emitProgram, compileProgram}
+use Rattle.definition.specs.Compile.{boundOr0, boundLabel, displacement, patchJumps, jumpTargets, finalizeFunction}
 use Rattle.definition.specs.Runs.{target}
-use Rattle.counting.specs.Machine.{Image, operandAt, isStart, roleAt}
+use Rattle.counting.specs.Machine.{Image, operandAt, isStart}
 use Rattle.counting.specs.Pass.{Places, oneIf}
-use Rattle.counting.specs.Laid.{Stands, constantAt, Begins, Tests, Counts, Opening, Laid}
+use Rattle.counting.specs.Laid.{constantAt, Opening, Laid}
 use Rattle.counting.specs.Stands.{Emits, For, forStmt, settingOf, testingOf, bodyOf, countingOf, lengthOf, placeAfter, placesOf, imageOf}
-use Rattle.counting.specs.Once.{OneByte, OneBytes, bytes-left, bytes-right, below, binds, isBind, binds-append, Once, program-once, closed, closes, block-closed, after-append}
-use Rattle.counting.specs.Rows.{ok-demand, ok-bind, ok-is, Row, rowOf, unpatched, bytesOf, codeOf, patchesOf, Sized, code-append, Formed, FormedBy, sized-left}
-use Rattle.counting.specs.Emitted.{index-found, rowsOf, lastOf, labelsOf, Names, foldsInto, folds, Acts, acted, folded-formed, Tail, NotLoaded, Within, Changed, Goes, goes-one, goes-all, acts-append}
-use Rattle.counting.specs.Finished.{joined, Same, optimize-same, diagonal, moved-diagonal, Among, among-self, finalBytes, finalRows, patchedWith, instructionsOf, code-joined, goalIn, patched-all, wholes}
-use Rattle.counting.specs.ForCalls.{for-calls, body-closed}
+use Rattle.counting.specs.Once.{OneByte, OneBytes, bytes-left, bytes-right, binds, isBind, binds-append}
+use Rattle.runs.specs.Results.{ok-demand, ok-bind, ok-is}
+use Rattle.runs.specs.Heights.{Either, left, right}
+use Rattle.counting.specs.Rows.{Row, rowOf, unpatched, bytesOf, codeOf, patchesOf, Sized, code-append, FormedBy}
+use Rattle.counting.specs.Emitted.{index-found, rowsOf, lastOf, labelsOf, Names, foldsInto, folds, acted, folded-formed, Tail, NotLoaded, Within, Goes, goes-all, acts-append}
+use Rattle.counting.specs.Finished.{joined, optimize-same, diagonal, moved-diagonal, among-self, finalBytes, finalRows, patchedWith, instructionsOf, code-joined, goalIn, patched-all, wholes}
+use Rattle.counting.specs.ForCalls.{body-closed}
 use Rattle.counting.specs.Placed.{Placed, placed, no-start, operand-at, target-at, boundary-between}
 
 -- ---- calls, one by one
@@ -415,11 +414,6 @@ emission s p f n before body behind e a =
       w₁ = y₁ .2;
       w₂ = y₂ .2;
     }
-
--- an end that holds: the place after the body
-pub data Either (A B : Type 0) : Type 0 where
-  left : A → Either A B
-  right : B → Either A B
 
 after-more : (n : ℕ) (cs : List Call) → n ≤ after n cs
 unfolding after next

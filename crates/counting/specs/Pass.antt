@@ -1,16 +1,16 @@
 -- How often a FOR over constants goes through its body (document 01, part 6): what a pass is, what is asked of the body, and what follows.
 use Prim.Native.Nat.{ℕ, _+_, _-_, _^_, suc, zero, _≤_, _<_}
 use mathlib.Core.Path.{_≡_}
-use mathlib.Core.List.{List, [], _∷_}
+use mathlib.Core.List.{[]}
 use mathlib.Core.Bool.{Bool, true, false, _&&_}
-use mathlib.Core.Option.{Option, some, none}
+use mathlib.Core.Option.{some}
 use lib.Dec.{eqb}
 use lib.IntN.{ℤ, pos, _+ℤ_, _-ℤ_}
 use lib.Signed.{leZ, mag, quotZ}
 use Rattle.definition.specs.Limits.{width}
 use Rattle.definition.specs.Opcode.{storeVar}
 use Rattle.definition.specs.Rules.{hasRole}
-use Rattle.counting.specs.Machine.{Image, State, Step, goes, finishes, stops, breaks, number, operandAt, isStart, roleAt, step, onward, afterSteps}
+use Rattle.counting.specs.Machine.{Image, State, goes, number, operandAt, isStart, roleAt, step, onward, afterSteps}
 
 -- where the parts of a FOR stand in finished code
 pub record Places : Type 0 where

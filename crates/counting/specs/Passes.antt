@@ -1,16 +1,15 @@
 -- The theorem: a FOR of a program makes its passes (document 01, part 6).
-use Prim.Native.Nat.{ℕ, _+_, suc, zero, _≤_, _<_}
-use mathlib.Core.Path.{_≡_, refl, sym, _∙_, ap, subst}
+use Prim.Native.Nat.{ℕ, _+_, _≤_, _<_}
+use mathlib.Core.Path.{_≡_, sym, _∙_, ap, subst}
 use mathlib.Core.List.{List, [], _∷_, _++_, append-assoc}
 use mathlib.Core.Bool.{Bool, true, false}
-use mathlib.Core.Option.{Option, some, none}
+use mathlib.Core.Option.{some}
 use native.Mathlib.Omega.{arith}
 use lib.Dec.{ltb}
 use borrow.Author.Tests.{lt-leb}
 use Rattle.definition.specs.Limits.{badSheet}
-use Rattle.definition.specs.Res.{Res, ok, refuse, _>>=_, _>>_, demand, given}
-use Rattle.definition.specs.Field.{split}
-use Rattle.definition.specs.Rules.{rulesFrom, readRules, isEmpty}
+use Rattle.definition.specs.Res.{ok, _>>=_, _>>_, given}
+use Rattle.definition.specs.Rules.{readRules}
 use Rattle.definition.specs.Program.{readProgram}
 use Rattle.definition.specs.Opcode.{Role, Sheet, opcode, roleOf, comparisonByte, comparisonOf, Gt}
 use Rattle.definition.specs.Sheet.{readSheet}
@@ -27,11 +26,13 @@ use Rattle.counting.specs.Laid.{Opening, Laid}
 use Rattle.counting.specs.Stands.{In, Emits, For, forStmt, settingOf, testingOf, bodyOf, countingOf, placesOf, imageOf}
 use Rattle.counting.specs.Numbers.{counts}
 use Rattle.counting.specs.Counting.{counted, first-ends}
-use Rattle.counting.specs.Once.{OneBytes, below, binds, Once, program-once}
-use Rattle.counting.specs.Rows.{ok-bind, ok-is}
+use Rattle.counting.specs.Once.{OneBytes, below, binds, program-once}
+use Rattle.rules.proofs.File.{no-rules}
+use Rattle.runs.specs.Results.{ok-bind, ok-is, ok-given}
+use Rattle.runs.specs.Heights.{Either, left, right}
 use Rattle.counting.specs.ForCalls.{for-calls}
 use Rattle.counting.specs.Found.{found}
-use Rattle.counting.specs.Layout.{Either, left, right, rest₀, rest₁, rest₂, rest₅, Emission, emission, laid-out, places-are}
+use Rattle.counting.specs.Layout.{rest₀, rest₁, rest₂, rest₅, Emission, emission, laid-out, places-are}
 
 counts-up : (k : ℕ) → k < 2147483648 → countsDown k ≡ false
 unfolding countsDown
@@ -109,15 +110,6 @@ every-for sheet s h p c k f i = for-passes-of sheet s h p c k f (found f p i)
 
 -- ---- from the three files on: an empty rule file has no rules
 
-given-some : {A : Type 0} (o : Option A) (n p : ℕ) (a : A) → given o n p ≡ ok a → o ≡ some a
-unfolding given
-given-some (some b) n p a e = ap some (sym (ok-is e))
-given-some none n p a e = absurd (let z : _≡_ {A = ℕ} 0 1 = cc in omega arith)
-
-no-rules : readRules [] ≡ ok []
-unfolding readRules rulesFrom split isEmpty demand _>>_
-no-rules = refl
-
 -- what a call that is not refused read and compiled
 pub record Compiled (sheet program : List ℕ) (c : FinalizedFunction) : Type 0 where
   pub s : Sheet
@@ -135,7 +127,7 @@ compiled-from place sheet program c h =
     let e : b .0 ≡ [] = ok-is (sym no-rules ∙ b .1) in
     record {
       s = a .0;
-      sheetRead = given-some (readSheet sheet) badSheet place (a .0) (a .1);
+      sheetRead = ok-given (readSheet sheet) badSheet place (a .0) (a .1);
       p = d .0;
       programRead = d .1;
       made = subst (λ rs. compileProgram (a .0) rs (d .0) ≡ ok c) e (d .2);

@@ -1,24 +1,24 @@
 -- Rows of finished code at their places: starts, bytes, operands and targets.
-use Prim.Native.Nat.{ℕ, _+_, _-_, _*_, _/_, _%_, suc, zero, _≤_, _<_}
+use Prim.Native.Nat.{ℕ, _+_, _-_, _*_, _/_, _%_, suc, _≤_, _<_}
 use mathlib.Core.Path.{_≡_, refl, sym, _∙_, ap, subst}
-use mathlib.Core.List.{List, [], _∷_, _++_, append-assoc, append-nil}
-use mathlib.Core.Bool.{Bool, true, false, not, _||_}
-use mathlib.Core.Option.{Option, some, none}
+use mathlib.Core.List.{List, [], _∷_, _++_, append-assoc}
+use mathlib.Core.Bool.{Bool, true, false}
+use mathlib.Core.Option.{some, none}
 use native.Mathlib.Omega.{arith}
-use lib.Dec.{eqb, leb, ltb}
+use lib.Dec.{eqb}
 use lib.ListN.{length, getD, length-append, List·getD-append}
 use lib.Seq.{getD-append-add}
-use borrow.Author.Tests.{eq-eqb, ne-eqb, eqb-true, leb-true, leb-false, ltb-true, ltb-false}
+use borrow.Author.Tests.{eq-eqb, ne-eqb}
 use Rattle.definition.specs.Field.{has}
 use Rattle.definition.specs.Opcode.{Role, Sheet, opcode, roleOf, size}
-use Rattle.definition.specs.Emit.{le16}
 use Rattle.definition.specs.Rewrite.{Bytes, decode, startsFrom, boundariesFrom}
 use Rattle.definition.specs.Compile.{displacement}
 use Rattle.definition.specs.Runs.{target}
+use Rattle.runs.specs.Patched.{reached, reached-back}
 use Rattle.counting.specs.Machine.{Image, operandAt, isStart, roleAt}
 use Rattle.counting.specs.Laid.{Stands}
 use Rattle.counting.specs.Rows.{Row, bytesOf, codeOf, Sized, sized-left, sized-right}
-use Rattle.counting.specs.Finished.{joined, Whole, Wholes, decode-joined, patchedWith, finalBytes, finalRows, final-length, final-wholes, instructionsOf}
+use Rattle.counting.specs.Finished.{joined, Whole, Wholes, decode-joined, patchedWith, finalBytes, finalRows, final-length, final-wholes}
 
 -- ---- lists of instructions
 
@@ -118,27 +118,6 @@ operand-at m p r i h n l =
     ap (λ x. x + 256 * getD (m .bytecode) (p + n + 1) 0) (h .bytes n (omega arith)) ∙ ap (λ x. getD i n 0 + 256 * x) (ap (λ q. getD (m .bytecode) q 0) (omega arith) ∙ h .bytes (suc n) l)
 
 -- ---- a displacement read back
-
-unfoldable reached : ℕ → ℕ → Option ℕ
-reached d next = elim (ltb d 32768) [
-  | true ↦ some (next + d)
-  | false ↦ elim (leb (65536 - d) next) [ true ↦ some (next + d - 65536) | false ↦ none ]
-]
-
-reached-back : (t n : ℕ) → t ≤ 16384 → n ≤ 16384 → reached (displacement t n) n ≡ some t
-unfolding displacement reached
-reached-back t n a b = near (ltb ((t + 65536 - n) % 65536) 32768) refl
-  where
-    d : ℕ
-    d = (t + 65536 - n) % 65536
-
-    back : (c : Bool) → leb (65536 - d) n ≡ c → 32768 ≤ d → elim c [ true ↦ some (n + d - 65536) | false ↦ none ] ≡ some t
-    back true e h = ap (λ x. some x) (omega arith)
-    back false e h = absurd (let f = leb-false (65536 - d) n e in omega arith)
-
-    near : (c : Bool) → ltb d 32768 ≡ c → elim c [ true ↦ some (n + d) | false ↦ elim (leb (65536 - d) n) [ true ↦ some (n + d - 65536) | false ↦ none ] ] ≡ some t
-    near true e = ap (λ x. some x) (let l = ltb-true d 32768 e in omega arith)
-    near false e = back (leb (65536 - d) n) refl (ltb-false d 32768 e)
 
 pub target-at : (m : Image) (p : ℕ) (r : Role) (i : Bytes) (n next t : ℕ) → Placed m p r i → suc n < length i → next ≡ p + n + 2
     → getD i n 0 ≡ displacement t next % 256 → getD i (suc n) 0 ≡ displacement t next / 256 → t ≤ 16384 → next ≤ 16384 → target (m .bytecode) next ≡ some t

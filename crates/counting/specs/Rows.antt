@@ -1,37 +1,16 @@
 -- Code as rows: role, operand without the offset, and a branch's label; and what each call does to them.
-use Prim.Native.Nat.{ℕ, _+_, _-_, suc, zero, _≤_, _<_}
+use Prim.Native.Nat.{ℕ, _+_, _-_, suc, _≤_}
 use mathlib.Core.Path.{_≡_, refl, sym, _∙_, ap, subst}
 use mathlib.Core.List.{List, [], _∷_, _++_, append-assoc, append-nil}
-use mathlib.Core.Bool.{Bool, true, false}
 use mathlib.Core.Option.{Option, some, none}
 use native.Mathlib.Omega.{arith}
-use lib.Dec.{eqb, leb, ltb}
-use lib.ListN.{length, take, drop, set, length-append}
-use lib.Seq.{take-append-seam, drop-append-seam}
-use borrow.Author.Tests.{leb-true, ltb-true, eqb-true, eqb-false, ne-eqb}
+use lib.ListN.{length, length-append}
+use borrow.Author.Tests.{leb-true}
 use Rattle.definition.specs.Limits.{maxCode}
-use Rattle.definition.specs.Res.{Res, ok, refuse, _>>=_, _>>_, demand}
-use Rattle.definition.specs.Opcode.{Role, Sheet, opcode, comparisonByte, dup, loadVar, storeVar, loadConst, jmp, jmpIfNot, cmpBr, size, traits, row}
-use Rattle.definition.specs.Emit.{le16, Emitter, Last, other, loaded, stored, LineEntry, PendingPatch, added, add, folded, foldStore, loadAfter, withConstant, pooledIf, pooled, patched, labelled, settled, branch, indexOf, act, acts, Call, createLabel, bindLabel, loadVariable, storeVariable, loadConstant, addConstant, emitOpcode, emitJmp, emitJmpIfNot, emitCmpBr, resetStackDepth, setPosition, refused}
-use Rattle.counting.specs.Once.{OneByte, OneBytes, closes, closed}
-
--- ---- an answer that is no refusal
-
-pub ok-demand : {A : Type 0} (b : Bool) (n p : ℕ) (m : Res A) (x : A) → (demand b n p >> m) ≡ ok x → (b ≡ true) × (m ≡ ok x)
-unfolding demand _>>_
-ok-demand true n p m x e = (refl, e)
-ok-demand false n p m x e = absurd (let z : _≡_ {A = ℕ} 0 1 = cc in omega arith)
-
-pub ok-bind : {A B : Type 0} (m : Res A) (f : A → Res B) (y : B) → (m >>= f) ≡ ok y → (x : A) × (m ≡ ok x) × (f x ≡ ok y)
-unfolding _>>=_
-ok-bind (ok a) f y e = (a, refl, e)
-ok-bind (refuse n p) f y e = absurd (let z : _≡_ {A = ℕ} 0 1 = cc in omega arith)
-
-pub ok-is : {A : Type 0} {a b : A} → ok a ≡ ok b → b ≡ a
-ok-is e = cc
-
-pub not-ok : {A B : Type 0} {n p : ℕ} {a : A} → refuse n p ≡ ok a → B
-not-ok e = absurd (let z : _≡_ {A = ℕ} 0 1 = cc in omega arith)
+use Rattle.definition.specs.Res.{ok, _>>=_, _>>_}
+use Rattle.definition.specs.Opcode.{Role, Sheet, opcode, size}
+use Rattle.definition.specs.Emit.{le16, Emitter, Last, other, LineEntry, PendingPatch, added, add, patched, branch}
+use Rattle.runs.specs.Results.{ok-demand, ok-bind, ok-is}
 
 -- ---- rows
 

@@ -1,12 +1,11 @@
 -- A FOR of a program, and where its parts stand in the code.
-use Prim.Native.Nat.{ℕ, suc, zero}
+use Prim.Native.Nat.{ℕ, suc}
 use mathlib.Core.Path.{_≡_}
 use mathlib.Core.List.{List, [], _∷_, _++_}
-use mathlib.Core.Bool.{Bool, true, false}
 use lib.ListN.{length}
 use Rattle.definition.specs.Res.{Res, ok, refuse}
 use Rattle.definition.specs.Opcode.{Sheet, Gt, Add, binary}
-use Rattle.definition.specs.Tree.{CaseLabel, Source, Expr, const, Stmt, assign, if, case, for, loop, exit, continue, return, badStmt, Block, done, _then_, Arms, noArms, arm, badArm, Program}
+use Rattle.definition.specs.Tree.{CaseLabel, Source, Expr, const, Stmt, if, case, for, loop, Block, _then_, Arms, arm, Program}
 use Rattle.definition.specs.Emit.{Call, createLabel, bindLabel, loadVariable, storeVariable, loadConstant, emitOpcode, emitJmp, emitCmpBr, Emitter, emitterAt, acts}
 use Rattle.definition.specs.Walk.{after}
 use Rattle.definition.specs.Stmt.{Loops, loopBody, continues, emitStmt, emitBlock, emitStmts}

@@ -18,6 +18,7 @@ use Rattle.field.proofs.Numbers.{up-to-bound}
 use Rattle.opcode.specs.Table.{Good, sheetBy}
 use Rattle.opcode.proofs.Roles.{seen-at}
 use Rattle.field.proofs.Tests.{and-left, and-right}
+use Rattle.field.proofs.Lists.{take-map, drop-map}
 use Rattle.opcode.proofs.Sheets.{has-cons, distinct-cons}
 
 -- two constructors are never equal
@@ -129,16 +130,6 @@ pub good : (t : List ℕ) (s : Sheet) → readSheet t ≡ some s → Good s
 good t s e = let m = spells t s e in rw (m .2) (good-spelled (m .1))
 
 -- ---- how often a number was read
-
-pub take-map : {A B : Type 0} (f : A → B) (k : ℕ) (l : List A) → take k (map f l) ≡ map f (take k l)
-take-map f zero l = refl
-take-map f (suc k) [] = refl
-take-map f (suc k) (x ∷ l) = ap (λ (r : List _). f x ∷ r) (take-map f k l)
-
-pub drop-map : {A B : Type 0} (f : A → B) (k : ℕ) (l : List A) → drop k (map f l) ≡ map f (drop k l)
-drop-map f zero l = refl
-drop-map f (suc k) [] = refl
-drop-map f (suc k) (x ∷ l) = drop-map f k l
 
 pub times-same : (n : ℕ) (rs : List Read) → times n (is n ∷ rs) ≡ suc (times n rs)
 unfolding times isNumber

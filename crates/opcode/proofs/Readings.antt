@@ -20,11 +20,12 @@ use Rattle.field.specs.View.{Ends, lineEnd, lineFields}
 use Rattle.field.proofs.Numbers.{up-to-bound}
 use Rattle.field.proofs.Parts.{parts-last, parts-more, line-part, line-is, line-ends, Some, some-part, split-some}
 use Rattle.field.proofs.Fields.{Whole}
+use Rattle.field.proofs.Lists.{drop-map}
 use Rattle.opcode.specs.Table.{tableSize, sheetIn, Listed, groupStart}
 use Rattle.opcode.specs.Reading.{byteOr, Takes, faulty, no-byte, repeats, put, Reads, Answers}
 use Rattle.opcode.proofs.Roles.{seen-at}
 use Rattle.opcode.proofs.Sheets.{has-cons, distinct-cons}
-use Rattle.opcode.proofs.Faults.{spelled, fault-refused, times-same, times-has, drop-map}
+use Rattle.opcode.proofs.Faults.{spelled, fault-refused, times-same, times-has}
 
 -- ---- is a byte one of these?
 

@@ -10,15 +10,15 @@ use lib.Dec.{eqb}
 use lib.ListN.{length, take}
 use Rattle.definition.specs.Limits.{maxCode, entrySize, badSheet, badRule}
 use Rattle.definition.specs.Res.{Res, ok, refuse, _>>=_, _>>_, demand, given, open-Res}
-use Rattle.definition.specs.Field.{open-Field}
 use Rattle.definition.specs.Opcode.{Sheet}
 use Rattle.definition.specs.Sheet.{readSheet}
 use Rattle.definition.specs.Emit.{LineEntry}
-use Rattle.definition.specs.Rules.{Rule, readRules, rulesFrom, isEmpty}
+use Rattle.definition.specs.Rules.{Rule, readRules}
 use Rattle.definition.specs.Rewrite.{decode, cut as cutBytes, endFrom, boundariesFrom}
 use Rattle.definition.specs.Lent.{filled, entryNumbers, entriesOf}
 use Rattle.definition.specs.Alone.{Given, Rewritten, answer, boundaries, checked, rewritten, rewriteFiles, rewriteInto, roomy}
 use Rattle.definition.specs.Passes.{malformedLine, refusalLine, text}
+use Rattle.rules.proofs.File.{no-rules}
 use Rattle.optimize.proofs.Filling.{front-of}
 use Rattle.optimize.proofs.Lines.{length-numbers}
 use Rattle.store.specs.Store.{contents}
@@ -89,10 +89,6 @@ cut-text : (s : Sheet) (k : ℕ) (x : Res (List Rule)) → Properly x
 unfolding answerText endingText answer text Properly open-Res
 cut-text s k (ok rs) h = refl
 cut-text s k (refuse n p) h = refused (cut k) (some s) n p h
-
-no-rules : readRules [] ≡ ok []
-unfolding readRules rulesFrom isEmpty open-Field open-Res
-no-rules = refl
 
 -- and where none were counted
 countless-text : (t : Sheet) → answerText countless (some t) (answer fullRoom (ok [] >>= λ rs. ok (rewritten t rs nothingGiven))) ≡ text (refuse badRule 0)

@@ -9,6 +9,7 @@ use borrow.Author.Tests.{eqb-true, eqb-false, eq-eqb, ne-eqb}
 use lib.Dec.{eqb, leb, ltb}
 use lib.ListN.{length, getD, take, drop, length-take, length-map, List·getD-map}
 use lib.Seq.{take-all}
+use Rattle.field.proofs.Lists.{take-map, drop-map}
 use Rattle.definition.specs.Field.{lf, comma, split, Field, field, Read, malformed, outside, is, Numbers, wrong, far, are, numbers}
 use Rattle.definition.specs.Sheet.{byte, fieldCount, opcodeCount, onlyLine, counted, sheetFields, sheetOf, repeated, readFields, readSheet, isNumber, times, readAtFault, groupOf, fieldAtFault, faultAt, sheetFault}
 use Rattle.definition.specs.Rules.{ruleFields, ruleFrom, readRule, isEmpty, rulesFrom, readRules}
@@ -141,16 +142,6 @@ unfolding readAtFault readAs countOf
 read-plain g malformed = refl
 read-plain g outside = refl
 read-plain g (is n) = ap (leb 2) (times-plain n g)
-
-take-map : {A B : Type 0} (f : A → B) (k : ℕ) (l : List A) → take k (map f l) ≡ map f (take k l)
-take-map f zero l = refl
-take-map f (suc k) [] = refl
-take-map f (suc k) (x ∷ l) = ap (λ (r : List _). f x ∷ r) (take-map f k l)
-
-drop-map : {A B : Type 0} (f : A → B) (k : ℕ) (l : List A) → drop k (map f l) ≡ map f (drop k l)
-drop-map f zero l = refl
-drop-map f (suc k) [] = refl
-drop-map f (suc k) (x ∷ l) = drop-map f k l
 
 group-plain : (i : ℕ) (rs : List Read) → groupOf i (map plain rs) ≡ map plain (groupOf i rs)
 unfolding groupOf

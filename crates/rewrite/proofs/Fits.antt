@@ -1,38 +1,17 @@
 -- What a rule leaves of two instructions fits them: only an instruction of three bytes has its operand rewritten.
-use mathlib.Core.Path.{_≡_, refl, _∙_}
-use mathlib.Core.Bool.{Bool, true, false}
+use mathlib.Core.Path.{_≡_, _∙_}
+use mathlib.Core.Bool.{true}
 use mathlib.Core.Option.{Option, some}
 use mathlib.Core.List.{List}
 use Prim.Native.Nat.{ℕ}
-use native.Mathlib.Omega.{arith}
 use lib.ListN.{length}
-use Rattle.definition.specs.Opcode.{Role, Sheet, size, traits, row, dup, pop, loadVar, storeVar, loadConst, loadTrue, loadFalse, binary, unary, compare, jmp, jmpIfNot, cmpBr, ret}
-use Rattle.definition.specs.Rules.{Action, keep, remove, rewriteOperand, isVariable, allowed}
+use Rattle.definition.specs.Opcode.{Role, Sheet, size}
+use Rattle.definition.specs.Rules.{Action, keep, remove, rewriteOperand, allowed}
 use Rattle.definition.specs.Rewrite.{Bytes, instruction}
 use Rattle.rules.specs.View.{rulesIn, IsRules}
-use Rattle.rules.proofs.Pairs.{matched, rewritten}
+use Rattle.rules.proofs.Pairs.{matched, rewritten, variable-size}
 use Rattle.rewrite.specs.View.{Fitting, matcher}
 use Rattle.rewrite.proofs.Decoding.{Listed}
-
-no-false : {A : Type 0} → _≡_ {A = Bool} false true → A
-no-false e = absurd (let z : _≡_ {A = ℕ} 0 1 = cc in omega arith)
-
-variable-size : (r : Role) → isVariable r ≡ true → size r ≡ 3
-unfolding isVariable size traits row
-variable-size dup e = no-false e
-variable-size pop e = no-false e
-variable-size loadVar e = refl
-variable-size storeVar e = refl
-variable-size loadConst e = no-false e
-variable-size loadTrue e = no-false e
-variable-size loadFalse e = no-false e
-variable-size (binary o) e = no-false e
-variable-size (unary o) e = no-false e
-variable-size (compare c) e = no-false e
-variable-size jmp e = no-false e
-variable-size jmpIfNot e = no-false e
-variable-size cmpBr e = no-false e
-variable-size ret e = no-false e
 
 allowed-fits : (x : Action) (r : Role) → allowed x r ≡ true → Fitting x (size r)
 unfolding Fitting

@@ -61,6 +61,11 @@ module _ (n : ℕ) (l : List ℕ) where
   unfolding rulesFrom _>>=_ _>>_ demand given
   rules-good some-part h e = rw (le-leb n maxRules h, e)
 
+-- an empty file has no rules
+pub no-rules : readRules [] ≡ ok []
+unfolding readRules rulesFrom split isEmpty demand _>>_
+no-rules = refl
+
 -- ---- what a line's answer says
 
 module _ (next : ℕ) where

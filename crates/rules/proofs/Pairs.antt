@@ -11,7 +11,7 @@ use lib.ListN.{length, getD}
 use Rattle.definition.specs.Limits.{maxRules, maxVariables, badRule}
 use Rattle.definition.specs.Res.{Res, ok, refuse, _>>=_, _>>_, demand, given}
 use Rattle.definition.specs.Field.{lf, comma, split, Numbers, wrong, far, are, numbers}
-use Rattle.definition.specs.Opcode.{Role, dup, pop, loadVar, storeVar, loadConst, loadTrue, loadFalse, binary, unary, compare, jmp, jmpIfNot, cmpBr, ret, number, Effect, up, down, same, shift, onward, row, traits, needs, effect, flow}
+use Rattle.definition.specs.Opcode.{Role, dup, pop, loadVar, storeVar, loadConst, loadTrue, loadFalse, binary, unary, compare, jmp, jmpIfNot, cmpBr, ret, number, Effect, up, down, same, shift, onward, row, traits, size, needs, effect, flow}
 use Rattle.definition.specs.Rules.{Action, keep, remove, rewriteOperand, Rule, Instruction, nameable, ruleFields, ruleOf, isVariable, allowed, removed, cancel, testable, goodRule, goodOnly, ruleFrom, readRule, isEmpty, rulesFrom, readRules, roleNumbered, hasRole, fits, matches}
 use Rattle.rules.specs.View.{Accepted, Each, Bounded, tableOf, IsRules}
 use Rattle.rules.proofs.Lines.{bounded}
@@ -249,6 +249,24 @@ keeps remove (rewriteOperand n) r q p = former (same-left (effect r) (p .cancels
 keeps (rewriteOperand n) keep r q p = neither (no-remove n) no-keep
 keeps (rewriteOperand n) remove r q p = latter (same-right (effect q) (p .cancels)) (no-remove n)
 keeps (rewriteOperand n) (rewriteOperand m) r q p = neither (no-remove n) (no-remove m)
+
+-- an instruction whose operand may be rewritten has three bytes
+pub variable-size : (r : Role) → isVariable r ≡ true → size r ≡ 3
+unfolding isVariable size traits row
+variable-size dup e = never e
+variable-size pop e = never e
+variable-size loadVar e = refl
+variable-size storeVar e = refl
+variable-size loadConst e = never e
+variable-size loadTrue e = never e
+variable-size loadFalse e = never e
+variable-size (binary o) e = never e
+variable-size (unary o) e = never e
+variable-size (compare c) e = never e
+variable-size jmp e = never e
+variable-size jmpIfNot e = never e
+variable-size cmpBr e = never e
+variable-size ret e = never e
 
 -- an operand is rewritten only of a variable's load or store, and to a variable
 pub rewritten : (n : ℕ) (r : Role) → allowed (rewriteOperand n) r ≡ true → (isVariable r ≡ true) × (n < maxVariables)

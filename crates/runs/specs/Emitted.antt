@@ -79,7 +79,7 @@ unfoldable pub rowFor : Role → List ℕ → ℕ → Option ℕ → Row
 rowFor r o h a = record { role = r; operand = o; height = h; aim = a }
 
 -- a byte put before the last three
-fold-bytes : (F W c : List ℕ) (x : ℕ) → c ≡ F ++ W → length W ≡ 3 → take (length c - 3) c ++ (x ∷ drop (length c - 3) c) ≡ F ++ (x ∷ W)
+pub fold-bytes : (F W c : List ℕ) (x : ℕ) → c ≡ F ++ W → length W ≡ 3 → take (length c - 3) c ++ (x ∷ drop (length c - 3) c) ≡ F ++ (x ∷ W)
 fold-bytes F W c x p q =
     let n : length c - 3 ≡ length F = omega (arith, ap length p ∙ length-append F W) in
     ap (λ m. take m c ++ (x ∷ drop m c)) n ∙ (ap (λ b. take (length F) b ++ (x ∷ drop (length F) b)) p

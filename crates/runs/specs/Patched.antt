@@ -23,13 +23,13 @@ use Rattle.runs.specs.Rows.{Row, next-height, bytes-of, place-at, place-
 -- ---- the displacement, written and read
 
 -- what a run makes of two offset bytes that are the number d
-reached : ℕ → ℕ → Option ℕ
+unfoldable pub reached : ℕ → ℕ → Option ℕ
 reached d next = elim (ltb d 32768) [
   | true ↦ some (next + d)
   | false ↦ elim (leb (65536 - d) next) [ true ↦ some (next + d - 65536) | false ↦ none ]
 ]
 
-reached-back : (t n : ℕ) → t ≤ maxCode → n ≤ maxCode → reached (displacement t n) n ≡ some t
+pub reached-back : (t n : ℕ) → t ≤ maxCode → n ≤ maxCode → reached (displacement t n) n ≡ some t
 unfolding displacement reached
 reached-back t n a b = near (ltb ((t + 65536 - n) % 65536) 32768) refl
   where
