@@ -2,8 +2,8 @@
 use Prim.Native.Nat.{ℕ, _*_}
 use mathlib.Core.Path.{_≡_}
 use mathlib.Core.List.{List, [], _∷_, map}
-use mathlib.Core.Bool.{Bool, true, false, _&&_}
-use mathlib.Core.Option.{Option, some, none}
+use mathlib.Core.Bool.{Bool, _&&_}
+use mathlib.Core.Option.{none}
 use lib.Dec.{eqb, leb}
 use lib.ListN.{length}
 use Rattle.definition.specs.Limits.{maxCode, maxProtected, maxLines, entrySize, badSheet, badCode, codeFull, labelsFull, linesFull, outputShort}
@@ -14,7 +14,7 @@ use Rattle.definition.specs.Sheet.{readSheet}
 use Rattle.definition.specs.Rules.{Rule, readRules}
 use Rattle.definition.specs.Emit.{LineEntry}
 use Rattle.definition.specs.Rewrite.{decode, endFrom, boundariesFrom}
-use Rattle.definition.specs.Optimize.{Pipeline, optimize, remapLineMap}
+use Rattle.definition.specs.Optimize.{optimize, remapLineMap}
 use Rattle.definition.specs.Lent.{filled, zeros, entryNumbers, entriesOf}
 use Rattle.definition.specs.Compile.{Free}
 

@@ -3,7 +3,7 @@
 use Prim.Native.Nat.{ℕ, _+_, _-_, _*_, _%_}
 use mathlib.Core.Path.{_≡_}
 use mathlib.Core.List.{List, [], _∷_, _++_, map}
-use mathlib.Core.Bool.{Bool, true, false, _&&_}
+use mathlib.Core.Bool.{Bool, true, _&&_}
 use mathlib.Core.Option.{Option, some, none}
 use lib.Dec.{leb}
 use lib.ListN.{length, getD, take, drop}
@@ -17,7 +17,7 @@ use Rattle.definition.specs.Program.{readProgram}
 use Rattle.definition.specs.Emit.{Emitter, emitterAt, PendingPatch, LineEntry, le16, acts}
 use Rattle.definition.specs.Stmt.{emitStmts}
 use Rattle.definition.specs.Rewrite.{OffsetMap, movedTo}
-use Rattle.definition.specs.Optimize.{Pipeline, optimize, remapLineMap}
+use Rattle.definition.specs.Optimize.{optimize, remapLineMap}
 use Rattle.definition.specs.Lent.{filled, zeros, entryNumbers}
 
 -- ---- patching

@@ -2,7 +2,6 @@
 use Prim.Native.Nat.{ℕ, _-_, suc, zero}
 use mathlib.Core.List.{List, [], _∷_, _++_}
 use lib.ListN.{length}
-use Rattle.definition.specs.Tree.{Pos}
 use Rattle.definition.specs.Emit.{LineEntry}
 
 unfoldable pub zeros : ℕ → List ℕ

@@ -1,5 +1,5 @@
 -- Document 01's limits, field ranges and refusal numbers. Each stands here and nowhere else.
-use Prim.Native.Nat.{ℕ, _*_, _^_}
+use Prim.Native.Nat.{ℕ}
 
 -- ---- limits of emission, and of what is lent for its results
 

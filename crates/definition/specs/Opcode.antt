@@ -1,7 +1,7 @@
 -- Roles, comparisons and the opcode sheet's meaning (document 01, 'Sheet'; the stand-in for the source's `opcode`).
 use Prim.Native.Nat.{ℕ, suc, zero}
 use mathlib.Core.List.{List, [], _∷_}
-use mathlib.Core.Bool.{Bool, true, false}
+use mathlib.Core.Bool.{true, false}
 use mathlib.Core.Option.{Option, some, none}
 use lib.Dec.{eqb}
 use lib.ListN.{getD}

@@ -17,7 +17,7 @@ use Rattle.definition.specs.Rules.{isEmpty, readRules}
 use Rattle.definition.specs.Rewrite.{decode}
 use Rattle.definition.specs.Compile.{Free}
 use Rattle.definition.specs.Alone.{Given, Rewritten, rewriteFiles}
-use Rattle.definition.specs.Listing.{cutLine, cutLines, withoutLF, countLine, decimal, fields, numberLine, entryLines, instructionLines}
+use Rattle.definition.specs.Listing.{cutLine, cutLines, withoutLF, countLine, fields, numberLine, entryLines, instructionLines}
 
 -- ---- the input
 

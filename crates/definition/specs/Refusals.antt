@@ -6,8 +6,8 @@ use mathlib.Core.List.{List, [], _∷_, _++_}
 use mathlib.Core.Bool.{Bool, true, false, _&&_}
 use Rattle.definition.specs.Res.{Res, ok, refuse}
 use Rattle.definition.specs.Sheet.{sheetFault}
-use Rattle.definition.specs.Compile.{compileFiles, compileInto, FinalizedFunction}
-use Rattle.definition.specs.Alone.{rewriteFiles, Rewritten}
+use Rattle.definition.specs.Compile.{compileFiles, compileInto}
+use Rattle.definition.specs.Alone.{rewriteFiles}
 use Rattle.definition.specs.Cases.{bytes, plainSheet, same, open-Definition}
 
 -- a refusal's number and place; nothing for an answer

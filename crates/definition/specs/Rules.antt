@@ -1,12 +1,12 @@
 -- Pair rules: reading a rule file from any bytes (document 01, 'Rules'; refusal 9), and the lookup that the rewriter asks (`matches`).
-use Prim.Native.Nat.{ℕ, _+_, suc, zero}
+use Prim.Native.Nat.{ℕ, _+_, suc}
 use mathlib.Core.List.{List, [], _∷_}
 use mathlib.Core.Bool.{Bool, true, false, _&&_}
 use mathlib.Core.Option.{Option, some, none}
 use lib.Dec.{eqb, leb}
 use lib.ListN.{getD}
 use Rattle.definition.specs.Limits.{maxField, maxRules, maxVariables, passCount, badRule}
-use Rattle.definition.specs.Res.{Res, ok, refuse, _>>=_, _>>_, demand, given}
+use Rattle.definition.specs.Res.{Res, ok, _>>=_, _>>_, demand, given}
 use Rattle.definition.specs.Field.{lf, comma, split, Field, upTo, below, Numbers, wrong, far, are, numbers}
 use Rattle.definition.specs.Opcode.{Role, dup, pop, loadVar, storeVar, loadConst, loadTrue, loadFalse, binary, unary, compare, jmp, jmpIfNot, cmpBr, ret, roles, number, size, Effect, up, down, same, effect}
 

@@ -1,7 +1,7 @@
 -- Reading an opcode sheet from any bytes (document 01, 'Sheet'; refusal 7).
 use Prim.Native.Nat.{ℕ, _+_, suc, zero}
 use mathlib.Core.List.{List, [], _∷_, map}
-use mathlib.Core.Bool.{Bool, true, false, not, _&&_, _||_}
+use mathlib.Core.Bool.{Bool, true, false, not, _&&_}
 use mathlib.Core.Option.{Option, some, none}
 use lib.Dec.{eqb, leb, ltb}
 use lib.ListN.{length, getD, take, drop}

@@ -1,9 +1,8 @@
 -- The tree that a program's lines spell (the source's lowered statements and expressions). It is read from any bytes: where the text
 -- is at fault there is a leaf `bad` with the refusal, and emission refuses at it.
 use Prim.Native.Nat.{ℕ}
-use mathlib.Core.List.{List, [], _∷_}
+use mathlib.Core.List.{List, []}
 use mathlib.Core.Bool.{Bool}
-use mathlib.Core.Option.{Option, some, none}
 use Rattle.definition.specs.Opcode.{BinaryOp, UnaryOp, CompareOp, ShortCircuitOp}
 
 -- a source position

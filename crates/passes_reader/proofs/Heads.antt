@@ -8,7 +8,7 @@ use borrow.Author.Tests.{lt-ltb, le-ltb, le-leb, lt-leb, eq-eqb, ne-eqb, leb-tru
 use lib.Dec.{eqb, leb, ltb}
 use Rattle.definition.specs.Limits.{maxField, maxRules, entrySize}
 use Rattle.definition.specs.Field.{lf, comma, digit0, digit9}
-use Rattle.passes_machine.specs.Machine.{Phase, Head, Put, nothing, sheetLine, countLine, ruleLine, codeLine, entryLine, malformed, uncounted, blank, bad, fieldRoom, fieldWidth, lastLine, lineAfter, lineIn, withKept, withNumber, fieldAfter, keeps, textByte, atMost, digitAfter, numberAfter, digitByte, stop, isBlank, rulesAt, counted, listComma, listEnd, listByte, entryComma, entryEnd, entryByte, nextIn, isKept, ends, putIf, putIn, next, Ending, whole, cut, endingIn, ending}
+use Rattle.passes_machine.specs.Machine.{Phase, Head, Put, nothing, sheetLine, countLine, ruleLine, codeLine, entryLine, malformed, uncounted, blank, bad, fieldRoom, fieldWidth, lastLine, lineAfter, lineIn, withKept, withNumber, fieldAfter, keeps, textByte, atMost, digitAfter, numberAfter, digitByte, stop, isBlank, rulesAt, counted, listComma, listEnd, listByte, entryComma, entryEnd, entryByte, nextIn, isKept, ends, putIf, putIn, next, whole, cut, endingIn, ending}
 
 -- ---- a byte within a field
 

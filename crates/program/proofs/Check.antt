@@ -1,21 +1,20 @@
 -- The laws behind the check: each answer is the definition's.
-use mathlib.Core.Path.{_≡_, refl, ap, sym, _∙_}
-use mathlib.Core.Bool.{Bool, true, false, _&&_}
+use mathlib.Core.Path.{_≡_, refl, sym, _∙_}
+use mathlib.Core.Bool.{true, false, _&&_}
 use mathlib.Core.Option.{Option, some, none}
 use mathlib.Core.List.{List, [], _∷_}
-use Prim.Native.Nat.{ℕ, zero, suc, _+_, _-_, _≤_, _<_}
+use Prim.Native.Nat.{ℕ, zero, suc, _-_, _≤_, _<_}
 use native.Mathlib.Omega.{arith}
 use borrow.Author.Tests.{le-leb, lt-leb, ne-eqb, eq-eqb}
 use lib.Dec.{eqb, leb}
 use lib.ListN.{length, getD}
-use Rattle.definition.specs.Limits.{maxProgram, maxNesting, badText, wrongLines}
+use Rattle.definition.specs.Limits.{maxProgram, maxNesting, wrongLines}
 use Rattle.definition.specs.Res.{Res, ok, refuse, _>>=_, _>>_, demand}
 use Rattle.definition.specs.Field.{lf}
 use Rattle.definition.specs.Tree.{Pos, Fault, Program, Block}
 use Rattle.definition.specs.Program as def
-use Rattle.definition.specs.Program.{Line, is, not, Header, lineAt, headerForms, nextLine, stmtAt, blockOf, faultOfBlock, endsInLF, headerOf, noFault, topStmts, readProgram}
+use Rattle.definition.specs.Program.{is, not, Header, lineAt, headerForms, nextLine, stmtAt, blockOf, faultOfBlock, endsInLF, headerOf, noFault, topStmts, readProgram}
 use Rattle.program.specs.declared.Walk.{Walk}
-use Rattle.program.specs.declared.Checked.{Checked}
 use Rattle.program.specs.declared.Checked.the-variants.{Refused, Accepted}
 use Rattle.program.specs.Walk.{cursorIn, standBy, stand, Walked, outcome, many, overStmt, Passed}
 use Rattle.program.specs.Check.{answer, checked, Headed}

@@ -12,7 +12,7 @@ use lib.ListN.{length, drop}
 use Rattle.definition.specs.Limits.{badForm, badRange, wrongLines, tooDeep}
 use Rattle.definition.specs.Res.{Res, ok, refuse, _>>=_}
 use Rattle.definition.specs.Field.{Numbers, wrong, far, are, numbers, split, comma, firstLine}
-use Rattle.definition.specs.Tree.{Fault, Expr, bad, Stmt, badStmt, Block, Arms, CaseLabel, value, range, badLabel, Pos, Source}
+use Rattle.definition.specs.Tree.{Fault, Expr, bad, Stmt, badStmt, Arms, CaseLabel, value, range, badLabel, Pos, Source}
 use Rattle.definition.specs.Program as def
 use Rattle.definition.specs.Program.{Form, Line, is, not, made, byLetter, lineOf, lineAt, refusal, Reader, A, I, S, F, L, X, N, R, K, B, D, O, U, C, H, M, StmtLine, ExprLine, ArmLine, nextLine, faultAt, exprForms, stmtForms, armForms, labelForms, exprOf, exprBy, exprAt, labelBy, labelsAt, blockOf, armBy, armsAt, stmtOf, stmtBy, stmtAt, orElse, faultOfExpr, faultOfLabels, faultOfStmt, faultOfBlock, faultOfArms}
 use Rattle.field.specs.View.{Ends}

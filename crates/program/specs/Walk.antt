@@ -7,7 +7,7 @@ use mathlib.Core.Option.{Option, some, none}
 use lib.ListN.{length}
 use Rattle.definition.specs.Limits.{maxProgram}
 use Rattle.definition.specs.Res.{Res, ok, refuse, _>>=_}
-use Rattle.definition.specs.Tree.{Fault, Stmt, CaseLabel}
+use Rattle.definition.specs.Tree.{Fault, CaseLabel}
 use Rattle.definition.specs.Program as def
 use Rattle.definition.specs.Program.{Line, is, not, A, I, S, F, L, X, N, R, K, B, D, O, U, C, H, M, ArmLine, nextLine, faultAt, lineAt, armForms, labelForms, labelBy, exprAt, stmtAt, faultOfExpr, faultOfLabels, faultOfStmt}
 use Rattle.program.specs.declared.Cursor.{Cursor}

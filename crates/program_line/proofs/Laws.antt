@@ -3,16 +3,16 @@ use mathlib.Core.Path.{_≡_, refl, ap, sym, _∙_}
 use mathlib.Core.Bool.{Bool, true, false}
 use mathlib.Core.Option.{Option, some, none}
 use mathlib.Core.List.{List, [], _∷_}
-use Prim.Native.Nat.{ℕ, zero, suc, _+_, _-_, _^_, _≤_, _<_}
+use Prim.Native.Nat.{ℕ, zero, suc, _-_, _≤_, _<_}
 use native.Mathlib.Nat.{sub-zero}
 use native.Mathlib.Omega.{arith}
 use borrow.Author.Tests.{lt-ltb, le-ltb, ltb-true, ltb-false, leb-true, ne-eqb}
 use lib.Dec.{eqb, leb, ltb}
 use lib.ListN.{length, getD, take, drop}
-use Rattle.definition.specs.Limits.{maxField, width, badForm, badRange, tooDeep, wrongLines}
+use Rattle.definition.specs.Limits.{maxField, badForm, badRange, tooDeep, wrongLines}
 use Rattle.definition.specs.Field as def
-use Rattle.definition.specs.Field.{comma, onto, split, firstLine, Field, upTo, below, value, Read, malformed, outside, field, natural, naturalWithin, within, negative, signed, Numbers, wrong, far, are, andThese, numbers}
-use Rattle.definition.specs.Program.{Form as LetterForm, Line, is, not, made, byLetter, lineOf, lineAt}
+use Rattle.definition.specs.Field.{comma, onto, split, firstLine, Field, upTo, below, value, Read, malformed, outside, field, natural, naturalWithin, within, Numbers, wrong, far, are, andThese, numbers}
+use Rattle.definition.specs.Program.{Form as LetterForm, is, not, made, byLetter, lineOf, lineAt}
 use Rattle.field.specs.View.{before, Ends}
 use Rattle.field.proofs.Parts.{parts-last, parts-more, line-is}
 use Rattle.program_line.specs.declared.Pos.{Pos}

@@ -1,5 +1,4 @@
 -- What this crate's types stand for in the definition.
-use Prim.Native.Nat.{ℕ}
 use Rattle.definition.specs.Tree as tree
 use Rattle.definition.specs.Opcode as op
 use Rattle.definition.specs.Program as def

@@ -2,25 +2,25 @@
 use mathlib.Core.Path.{_≡_, refl, ap, sym, _∙_}
 use mathlib.Core.Bool.{Bool, true, false, _&&_}
 use mathlib.Core.Option.{Option, some, none}
-use mathlib.Core.List.{List, [], _∷_}
+use mathlib.Core.List.{List, []}
 use Prim.Native.Nat.{ℕ, zero, suc, _+_, _-_, _≤_, _<_}
 use native.Mathlib.Omega.{arith}
 use lib.Dec.{eqb, eqb·suc-zero, eqb·suc-suc}
 use borrow.Author.Tests.{eqb-true}
 use lib.ListN.{length}
-use Rattle.definition.specs.Res.{Res, ok, refuse, _>>=_}
+use Rattle.definition.specs.Res.{Res, ok, _>>=_}
 use Rattle.definition.specs.Field.{firstLine}
 use Rattle.definition.specs.Opcode.{CompareOp}
-use Rattle.definition.specs.Tree.{Pos, Source, Expr, Stmt, if, Block, done, _then_, Arms}
+use Rattle.definition.specs.Tree.{Pos, Source, Expr, Stmt, if, Arms}
 use Rattle.definition.specs.Program as def
-use Rattle.definition.specs.Program.{Line, is, not, Reader, A, I, S, F, L, X, N, R, K, B, D, O, U, C, H, StmtLine, ExprLine, nextLine, lineAt, stmtForms, exprForms, exprOf, exprAt, stmtOf, stmtAt, blockOf, faultOfBlock}
+use Rattle.definition.specs.Program.{Line, is, not, Reader, A, I, S, F, L, X, N, R, K, B, D, O, U, C, H, StmtLine, ExprLine, nextLine, lineAt, stmtForms, exprForms, exprOf, exprAt, stmtOf, stmtAt, blockOf}
 use Rattle.definition.specs.Stmt as shapes
 use Rattle.definition.specs.Stmt.{isDone, isExitStmt, isExit, onlyIf, exitWhen, exitUnless, repeatOr, whileOr, shape}
 use Rattle.definition.specs.CompileExpr.{readOf, constantOf, zip, orClassified, classify}
 use Rattle.field.specs.View.{Ends}
 use Rattle.program.specs.declared.Cursor.{Cursor}
 use Rattle.program.specs.declared.Walk.{Walk}
-use Rattle.program.specs.Walk.{cursorOf, cursorIn, standBy, stand, Near, Walked, outcome, many, overExpr, overStmt}
+use Rattle.program.specs.Walk.{cursorOf, cursorIn, standBy, Near, Walked, outcome, many, overExpr, overStmt}
 use Rattle.program.proofs.Laws.{block-many, line-there, expr-bad, expr-is, stmt-bad, stmt-is}
 use Rattle.program_shape.specs.declared.Operand.{Operand}
 use Rattle.program_shape.specs.declared.Condition.{Condition}

@@ -7,7 +7,7 @@ use mathlib.Core.Option.{Option, some, none}
 use lib.Dec.{eqb}
 use Rattle.definition.specs.Tree.{Expr, Stmt}
 use Rattle.definition.specs.Program as def
-use Rattle.definition.specs.Program.{Line, is, not, A, I, S, F, L, X, N, R, K, B, D, O, U, C, H, nextLine, exprAt, stmtAt, blockOf}
+use Rattle.definition.specs.Program.{Line, is, not, A, I, S, F, L, X, N, R, K, B, D, O, U, C, H, exprAt, stmtAt, blockOf}
 use Rattle.definition.specs.Opcode.{CompareOp, commute}
 use Rattle.definition.specs.CompileExpr.{ClassifiedCmp, readOf, constantOf, zip, orClassified}
 use Rattle.definition.specs.Stmt as shapes
