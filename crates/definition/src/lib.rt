@@ -1,7 +1,7 @@
 // The limits and refusal numbers of document 01 for code, each shown to be the definition's (specs/Limits.antt).
 ghost use mathlib.Core.Path.{_≡_};
 ghost use Prim.Native.Nat.{_*_};
-ghost use Rattle.definition.specs.Limits.{maxCode, maxLabels, maxProtected, maxLines, maxConstants, entrySize, maxProgram, maxNesting, maxVariables, maxField, maxRules, passCount, width, badSheet, badCode, badRule, codeFull, labelsFull, linesFull, outputShort};
+ghost use Rattle.definition.specs.Limits.{maxCode, maxLabels, maxProtected, maxLines, maxConstants, entrySize, maxProgram, maxNesting, maxVariables, maxField, maxRules, passCount, width, badText, badForm, badRange, noLoop, tooDeep, wrongLines, badSheet, badCode, badRule, codeFull, labelsFull, linesFull, constantsFull, outputShort};
 
 // Bytes of code, emitted and finished.
 pub const MAX_CODE: usize = 16384;
@@ -30,6 +30,18 @@ pub const PASS_COUNT: u32 = 3;
 // Bits of a value.
 pub const WIDTH: u32 = 32;
 
+// Refusal: a program that is empty, too long, or not ended by LF.
+pub const BAD_TEXT: u8 = 1;
+// Refusal: wrong letter, wrong field count or malformed number.
+pub const BAD_FORM: u8 = 2;
+// Refusal: a number outside its range.
+pub const BAD_RANGE: u8 = 3;
+// Refusal: no open loop of that number.
+pub const NO_LOOP: u8 = 4;
+// Refusal: nesting too deep.
+pub const TOO_DEEP: u8 = 5;
+// Refusal: a line missing or left over.
+pub const WRONG_LINES: u8 = 6;
 // Refusal: bad sheet.
 pub const BAD_SHEET: u8 = 7;
 // Refusal: code, protected offset or line offset that rewriting called alone cannot take.
@@ -42,6 +54,8 @@ pub const CODE_FULL: u8 = 10;
 pub const LABELS_FULL: u8 = 11;
 // Refusal: line entries over their limit.
 pub const LINES_FULL: u8 = 12;
+// Refusal: constants over their limit.
+pub const CONSTANTS_FULL: u8 = 13;
 // Refusal: a lent output shorter than its limit.
 pub const OUTPUT_SHORT: u8 = 14;
 
@@ -124,6 +138,42 @@ pub fn width() -> u32
     WIDTH
 }
 
+pub fn bad_text() -> u8
+    ensures { λ r. ⌜ r ≡ badText ⌝ }
+{
+    BAD_TEXT
+}
+
+pub fn bad_form() -> u8
+    ensures { λ r. ⌜ r ≡ badForm ⌝ }
+{
+    BAD_FORM
+}
+
+pub fn bad_range() -> u8
+    ensures { λ r. ⌜ r ≡ badRange ⌝ }
+{
+    BAD_RANGE
+}
+
+pub fn no_loop() -> u8
+    ensures { λ r. ⌜ r ≡ noLoop ⌝ }
+{
+    NO_LOOP
+}
+
+pub fn too_deep() -> u8
+    ensures { λ r. ⌜ r ≡ tooDeep ⌝ }
+{
+    TOO_DEEP
+}
+
+pub fn wrong_lines() -> u8
+    ensures { λ r. ⌜ r ≡ wrongLines ⌝ }
+{
+    WRONG_LINES
+}
+
 pub fn bad_sheet() -> u8
     ensures { λ r. ⌜ r ≡ badSheet ⌝ }
 {
@@ -158,6 +208,12 @@ pub fn lines_full() -> u8
     ensures { λ r. ⌜ r ≡ linesFull ⌝ }
 {
     LINES_FULL
+}
+
+pub fn constants_full() -> u8
+    ensures { λ r. ⌜ r ≡ constantsFull ⌝ }
+{
+    CONSTANTS_FULL
 }
 
 pub fn output_short() -> u8

@@ -1,8 +1,9 @@
--- Taking and dropping what was mapped.
+-- Lists: taking and dropping what was mapped, and an element that is there.
 use mathlib.Core.Path.{_≡_, refl, ap}
 use mathlib.Core.List.{List, [], _∷_, map}
-use Prim.Native.Nat.{ℕ, zero, suc}
-use lib.ListN.{take, drop}
+use Prim.Native.Nat.{ℕ, zero, suc, _<_}
+use native.Mathlib.Omega.{arith}
+use lib.ListN.{length, getD, take, drop}
 
 pub take-map : {A B : Type 0} (f : A → B) (k : ℕ) (l : List A) → take k (map f l) ≡ map f (take k l)
 take-map f zero l = refl
@@ -13,3 +14,9 @@ pub drop-map : {A B : Type 0} (f : A → B) (k : ℕ) (l : List A) → drop k (m
 drop-map f zero l = refl
 drop-map f (suc k) [] = refl
 drop-map f (suc k) (x ∷ l) = drop-map f k l
+
+-- no other element is read inside a list
+pub inside : (l : List ℕ) (i d e : ℕ) → i < length l → getD l i d ≡ getD l i e
+inside [] i d e h = absurd (omega arith)
+inside (x ∷ l) zero d e h = refl
+inside (x ∷ l) (suc i) d e h = inside l i d e (omega arith)

@@ -3,6 +3,7 @@
 ghost use mathlib.Core.Path.{_≡_};
 ghost use Prim.Native.Nat.{_≤_, _+_, _*_, min};
 ghost use lib.Dec.{ltb};
+ghost use lib.ListN.{getD};
 ghost use Rattle.definition.specs.Limits.{width};
 ghost use Rattle.definition.specs.Field.{comma, firstLine, natural, naturalWithin, negative, field, upTo, below, value};
 ghost use Rattle.field.specs.View.{readOf, numberOf, longer, separates, capped, cap, before, Ends, Reads, separator};
@@ -35,6 +36,13 @@ const CAP: u64 = 10000000000000000000;
 const VALUES: u64 = 4294967296;
 
 const NEGATIVES: u64 = 2147483648;
+
+// A byte of lent bytes of any length, and another where they end before it.
+pub fn byte_or(bytes: &[u8], i: usize, other: u8) -> u8
+    ensures { λ r. ⌜ r ≡ getD (now (bytes .entry)) i other ⌝ }
+{
+    if i < bytes.len() { bytes[i] } else { other }
+}
 
 // One digit more.
 fn add_digit(n: u64, digit: u8) -> u64

@@ -13,17 +13,12 @@ use lib.Seq.{getD-take, getD-drop, getD-append-add, getD-set-same, getD-set-othe
 use Rattle.definition.specs.Opcode.{Role, CompareOp, number, compareIndex, ret, roles, beside, roleOf, opcode, comparisonByte, Sheet}
 use Rattle.definition.specs.Rules.{roleNumbered}
 use Rattle.definition.specs.Lent.{zeros}
+use Rattle.field.proofs.Lists.{inside}
 use Rattle.opcode.specs.Table.{sheetIn, IsTable, numberIn, numberOr, tableOf, upFrom}
 use Rattle.opcode.proofs.Roles.{compare-index, seen-at}
 use Rattle.opcode.proofs.Sheets.{number-below, number-role, up-from}
 
 -- ---- what a table holds
-
--- no other element is read inside a list
-pub inside : (l : List ℕ) (i d e : ℕ) → i < length l → getD l i d ≡ getD l i e
-inside [] i d e h = absurd (omega arith)
-inside (x ∷ l) zero d e h = refl
-inside (x ∷ l) (suc i) d e h = inside l i d e (omega arith)
 
 pub table-opcode : (t : List ℕ) (r : Role) → getD t (number r) 0 ≡ opcode (sheetIn t) r
 unfolding opcode

@@ -2,7 +2,7 @@
 // its role. The table is filled once and then lent as one slice, so that nothing of it is copied at a call.
 ghost use mathlib.Core.Path.{_≡_};
 ghost use Prim.Native.Nat.{_<_};
-ghost use lib.ListN.{length, getD, replicate};
+ghost use lib.ListN.{length, replicate};
 ghost use Rattle.definition.specs.Res.{refuse};
 ghost use Rattle.definition.specs.Field.{has};
 ghost use Rattle.definition.specs.Sheet.{fieldCount};
@@ -33,19 +33,12 @@ pub enum SheetRead {
     Refused(u8, u32),
 }
 
-// An element of a table of any length, and another where it ends before.
-fn byte_or(bytes: &[u8], i: usize, other: u8) -> u8
-    ensures { λ r. ⌜ r ≡ getD (now (bytes .entry)) i other ⌝ }
-{
-    if i < bytes.len() { bytes[i] } else { other }
-}
-
 // The opcode of a role; 0 where the table ends before it.
 pub fn opcode_of(sheet: &[u8], role: Role) -> u8
     ensures { λ r. ⌜ r ≡ opcode (sheetIn (now (sheet .entry))) (roleView role) ⌝ }
 {
     let n = role.number() as usize;
-    byte_or(sheet, n, 0)
+    field::byte_or(sheet, n, 0)
 }
 
 // The byte that stands for a comparison in a CMP_BR; 0 where the table ends before it.
@@ -53,7 +46,7 @@ pub fn comparison_byte(sheet: &[u8], op: CompareOp) -> u8
     ensures { λ r. ⌜ r ≡ comparisonByte (sheetIn (now (sheet .entry))) (compareView op) ⌝ }
 {
     let n = op.index() as usize;
-    byte_or(sheet, OPCODES + n, 0)
+    field::byte_or(sheet, OPCODES + n, 0)
 }
 
 // The number of the role of an opcode, as a table that was read lists it (proofs/Tables.antt, `table-number`). UNLISTED for a byte that the
@@ -62,7 +55,7 @@ pub fn role_number(sheet: &[u8], opcode: u8) -> u8
     ensures { λ r. ⌜ r ≡ numberIn (now (sheet .entry)) opcode ⌝ }
 {
     let n = opcode as usize;
-    byte_or(sheet, FIELDS + n, UNLISTED)
+    field::byte_or(sheet, FIELDS + n, UNLISTED)
 }
 
 // Is the byte one of these?

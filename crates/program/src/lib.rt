@@ -6,6 +6,10 @@ ghost use Rattle.definition.specs.Program.{nextLine};
 ghost use Rattle.program_line.specs.View.{posView, stmtLine, exprLine};
 ghost use Rattle.program.specs.Walk.{stand, cursorIn, Near, Walked, many, overExpr, overStmt, overLabel, overArm, partsOf, operandsOf, blocks, failed, Passed};
 ghost use Rattle.program.specs.Check.{checked, Headed};
+use definition::BAD_TEXT;
+use definition::MAX_NESTING;
+use definition::MAX_PROGRAM;
+use definition::WRONG_LINES;
 use program_line::ArmLine;
 use program_line::ExprLine;
 use program_line::HeaderLine;
@@ -307,14 +311,7 @@ fn check_body(text: &[u8], variables: u16, statements: u16, pos: Pos) -> Checked
     };
     let top = next_line(text, first);
     let next = top.at;
-    let w = walk_stmts(
-        text,
-        variables,
-        true,
-        definition::MAX_NESTING,
-        statements as usize,
-        top,
-    );
+    let w = walk_stmts(text, variables, true, MAX_NESTING, statements as usize, top);
     if w.refused != 0 {
         return Checked::Refused {
             number: w.refused,
@@ -323,7 +320,7 @@ fn check_body(text: &[u8], variables: u16, statements: u16, pos: Pos) -> Checked
     }
     if w.at < text.len() {
         return Checked::Refused {
-            number: 6,
+            number: WRONG_LINES,
             place: w.row,
         };
     }
@@ -342,23 +339,23 @@ pub fn check_program(text: &[u8]) -> Checked
     let n = text.len();
     if n == 0 {
         return Checked::Refused {
-            number: 1,
+            number: BAD_TEXT,
             place: 0,
         };
     }
-    if n > definition::MAX_PROGRAM {
+    if n > MAX_PROGRAM {
         return Checked::Refused {
-            number: 1,
+            number: BAD_TEXT,
             place: 0,
         };
     }
-    if text[n - 1] != 10 {
+    if text[n - 1] != b'\n' {
         return Checked::Refused {
-            number: 1,
+            number: BAD_TEXT,
             place: 0,
         };
     }
-    let line = program_line::read_header(text, definition::MAX_NESTING, 0);
+    let line = program_line::read_header(text, MAX_NESTING, 0);
     match line {
         HeaderLine::Bad(b) => Checked::Refused {
             number: b,

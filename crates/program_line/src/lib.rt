@@ -11,6 +11,10 @@ ghost use Rattle.field.specs.View.{readOf};
 ghost use Rattle.opcode.specs.View.{binaryView, unaryView, compareView};
 ghost use Rattle.program_line.specs.View.{shortCircuitView, headerLine, stmtLine, exprLine, armLine, labelLine};
 ghost use Rattle.program_line.specs.Scan.{kindOf, rest, behind, worse, numberIn, refusalAt, Opened, Fresh, Took, TookPos};
+use definition::BAD_FORM;
+use definition::BAD_RANGE;
+use definition::TOO_DEEP;
+use definition::WRONG_LINES;
 use field::Read;
 use opcode::BinaryOp;
 use opcode::CompareOp;
@@ -304,13 +308,13 @@ fn refusal(s: Scan) -> u8
     ensures { λ r. ⌜ r ≡ refusalAt s ⌝ }
 {
     if s.more {
-        return 2;
+        return BAD_FORM;
     }
     let form = s.form;
     match form {
         Form::Good => 0,
-        Form::Far => 3,
-        Form::Wrong => 2,
+        Form::Far => BAD_RANGE,
+        Form::Wrong => BAD_FORM,
     }
 }
 
@@ -668,7 +672,7 @@ fn header_of(line: &[u8]) -> HeaderLine
     let b = l.letter;
     match b {
         b'P' => header_line(line, s),
-        _ => HeaderLine::Bad(2),
+        _ => HeaderLine::Bad(BAD_FORM),
     }
 }
 
@@ -687,7 +691,7 @@ fn stmt_of(line: &[u8], variables: u16) -> StmtLine
         b'X' => exit_line(line, s, variables),
         b'N' => continue_line(line, s, variables),
         b'R' => return_line(line, s, variables),
-        _ => StmtLine::Bad(2),
+        _ => StmtLine::Bad(BAD_FORM),
     }
 }
 
@@ -705,7 +709,7 @@ fn expr_of(line: &[u8], variables: u16) -> ExprLine
         b'U' => unary_line(line, s, variables),
         b'C' => compare_line(line, s, variables),
         b'H' => short_circuit_line(line, s, variables),
-        _ => ExprLine::Bad(2),
+        _ => ExprLine::Bad(BAD_FORM),
     }
 }
 
@@ -717,7 +721,7 @@ fn arm_of(line: &[u8]) -> ArmLine
     let b = l.letter;
     match b {
         b'M' => arm_line(line, s),
-        _ => ArmLine::Bad(2),
+        _ => ArmLine::Bad(BAD_FORM),
     }
 }
 
@@ -730,7 +734,7 @@ fn label_of(line: &[u8]) -> LabelLine
     match b {
         b'Q' => value_line(line, s),
         b'G' => range_line(line, s),
-        _ => LabelLine::Bad(2),
+        _ => LabelLine::Bad(BAD_FORM),
     }
 }
 
@@ -741,10 +745,10 @@ pub fn read_header(text: &[u8], left: usize, at: usize) -> HeaderLine
     ensures { λ r. ⌜ headerLine r ≡ lineAt headerForms left (now (text .entry)) at ⌝ }
 {
     if at >= text.len() {
-        return HeaderLine::Bad(6);
+        return HeaderLine::Bad(WRONG_LINES);
     }
     if left == 0 {
-        return HeaderLine::Bad(5);
+        return HeaderLine::Bad(TOO_DEEP);
     }
     let end = field::line_end(text, at);
     header_of(&text[at..end])
@@ -755,10 +759,10 @@ pub fn read_stmt(text: &[u8], variables: u16, left: usize, at: usize) -> StmtLin
     ensures { λ r. ⌜ stmtLine r ≡ lineAt (stmtForms variables) left (now (text .entry)) at ⌝ }
 {
     if at >= text.len() {
-        return StmtLine::Bad(6);
+        return StmtLine::Bad(WRONG_LINES);
     }
     if left == 0 {
-        return StmtLine::Bad(5);
+        return StmtLine::Bad(TOO_DEEP);
     }
     let end = field::line_end(text, at);
     stmt_of(&text[at..end], variables)
@@ -769,10 +773,10 @@ pub fn read_expr(text: &[u8], variables: u16, left: usize, at: usize) -> ExprLin
     ensures { λ r. ⌜ exprLine r ≡ lineAt (exprForms variables) left (now (text .entry)) at ⌝ }
 {
     if at >= text.len() {
-        return ExprLine::Bad(6);
+        return ExprLine::Bad(WRONG_LINES);
     }
     if left == 0 {
-        return ExprLine::Bad(5);
+        return ExprLine::Bad(TOO_DEEP);
     }
     let end = field::line_end(text, at);
     expr_of(&text[at..end], variables)
@@ -783,10 +787,10 @@ pub fn read_arm(text: &[u8], left: usize, at: usize) -> ArmLine
     ensures { λ r. ⌜ armLine r ≡ lineAt armForms left (now (text .entry)) at ⌝ }
 {
     if at >= text.len() {
-        return ArmLine::Bad(6);
+        return ArmLine::Bad(WRONG_LINES);
     }
     if left == 0 {
-        return ArmLine::Bad(5);
+        return ArmLine::Bad(TOO_DEEP);
     }
     let end = field::line_end(text, at);
     arm_of(&text[at..end])
@@ -797,10 +801,10 @@ pub fn read_label(text: &[u8], left: usize, at: usize) -> LabelLine
     ensures { λ r. ⌜ labelLine r ≡ lineAt labelForms left (now (text .entry)) at ⌝ }
 {
     if at >= text.len() {
-        return LabelLine::Bad(6);
+        return LabelLine::Bad(WRONG_LINES);
     }
     if left == 0 {
-        return LabelLine::Bad(5);
+        return LabelLine::Bad(TOO_DEEP);
     }
     let end = field::line_end(text, at);
     label_of(&text[at..end])

@@ -2,7 +2,7 @@
 ghost use mathlib.Core.Path.{_≡_};
 ghost use mathlib.Core.List.{_++_};
 ghost use Prim.Native.Nat.{_+_, _-_, _≤_};
-ghost use lib.ListN.{length, take, drop, getD};
+ghost use lib.ListN.{length, take, drop};
 ghost use Rattle.definition.specs.Limits.{maxCode};
 ghost use Rattle.definition.specs.Rewrite.{decode, operandOf, instruction, applied, applyPeephole};
 ghost use Rattle.definition.specs.Lent.{zeros};
@@ -63,17 +63,11 @@ pub fn decode<'a>(sheet: &[u8], code: &'a [u8], at: usize) -> &'a [u8]
     &code[at..end]
 }
 
-fn byte_at(bytes: &[u8], i: usize) -> u8
-    ensures { λ r. ⌜ r ≡ getD (now (bytes .entry)) i 0 ⌝ }
-{
-    if i < bytes.len() { bytes[i] } else { 0 }
-}
-
 fn u16_operand(bytes: &[u8]) -> u16
     ensures { λ r. ⌜ r ≡ operandOf (now (bytes .entry)) ⌝ }
 {
-    let low = byte_at(bytes, 1);
-    let high = byte_at(bytes, 2);
+    let low = field::byte_or(bytes, 1, 0);
+    let high = field::byte_or(bytes, 2, 0);
     low as u16 + 256 * (high as u16)
 }
 
@@ -82,7 +76,7 @@ fn seen(sheet: &[u8], bytes: &[u8]) -> Instruction
     requires { ⌜ IsTable (now sheet) ⌝ }
     ensures { λ r. ⌜ instructionView r ≡ instruction (sheetIn (now (sheet .entry))) (now (bytes .entry)) ⌝ }
 {
-    let opcode = byte_at(bytes, 0);
+    let opcode = field::byte_or(bytes, 0, 0);
     let role = sheet::role_number(sheet, opcode);
     let operand = u16_operand(bytes);
     Instruction {

@@ -10,7 +10,7 @@ pub seen-spec : {M : Type 1} → statement M
 seen-spec =
     tie.close
     (tie.spec
-    (λ c κs. search needs)  -- byte-at-requires
+    (λ c κs. search needs)  -- byte-or-requires
     (λ c κs. search needs)  -- role-number-requires
     (λ c κs. search needs)  -- u16-operand-requires
-    (λ c. saw _ _ (c .before .before .byte-at .ensures) (c .before .role-number .ensures ∙ table-number (c .before .before .before .before .before .pre) _ (search needs)) (c .u16-operand .ensures)))  -- returns
+    (λ c. saw _ _ (c .before .before .byte-or .ensures) (c .before .role-number .ensures ∙ table-number (c .before .before .before .before .before .pre) _ (search needs)) (c .u16-operand .ensures)))  -- returns

@@ -6,14 +6,14 @@ use Rattle.rewrite.proofs.u16_operand.Tie as tie
 
 returns : tie.Need-returns
 unfolding operandOf
-returns c = rw (c .before .byte-at .ensures, c .byte-at2 .ensures)
+returns c = rw (c .before .byte-or .ensures, c .byte-or2 .ensures)
 
 pub u16-operand-spec : {M : Type 1} → statement M
 u16-operand-spec =
     tie.close
     (tie.spec
-    (λ c κs. search needs)  -- byte-at-requires
-    (λ c κs. search needs)  -- byte-at-requires-2
+    (λ c κs. search needs)  -- byte-or-requires
+    (λ c κs. search needs)  -- byte-or-requires-2
     (λ c. search needs)  -- cast-result
     (λ c. search needs)  -- cast-result-2
     (λ c. search needs)  -- mul-result

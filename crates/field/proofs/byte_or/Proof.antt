@@ -1,10 +1,10 @@
--- Made by `answers` from crates/opcode/answers/sheet/byte_or.txt: edit that file, not this one.
+-- Made by `answers` from crates/field/answers/byte_or.txt: edit that file, not this one.
 use mathlib.Core.Path.{sym}
 use lib.ListN.{List·getD-eq-default}
-use Rattle.opcode.proofs.Tables.{inside}
+use Rattle.field.proofs.Lists.{inside}
 use borrow.Author.Needs.{needs}
-use Rattle.opcode.proofs.sheet.byte_or.Statement.{statement}
-use Rattle.opcode.proofs.sheet.byte_or.Tie as tie
+use Rattle.field.proofs.byte_or.Statement.{statement}
+use Rattle.field.proofs.byte_or.Tie as tie
 
 pub byte-or-spec : {M : Type 1} → statement M
 byte-or-spec =
