@@ -10,6 +10,7 @@ use lib.Dec.{eqb}
 use lib.ListN.{length, getD, length-append, length-set, List·getD-append}
 use lib.Seq.{getD-set-same}
 use borrow.Author.Tests.{ltb-true, eq-eqb}
+use Rattle.definition.specs.Limits.{maxCode}
 use Rattle.definition.specs.Field.{has}
 use Rattle.definition.specs.Res.{ok, _>>=_}
 use Rattle.definition.specs.Opcode.{Role, Sheet, opcode, roleOf, comparisonByte, comparisonOf, Gt, loadVar, storeVar, loadConst, dup, binary, Add, jmp, cmpBr, size, traits, row}
@@ -283,7 +284,7 @@ module _ (m : Image) (s : Sheet) (goal : ℕ → ℕ) (p : ℕ) where
   unfolding constantAt constRow
   constant-read k ks h e = ap (λ i. getD (m .constants) i 0) (variable-read loadConst (indexOf k ks) h) ∙ e
 
-  jump-read : (l t : ℕ) → Placed m p jmp (finalBytes s goal p (jumpRow l)) → goal l ≡ t → t ≤ 16384 → p + 3 ≤ 16384 → target (m .bytecode) (p + 3) ≡ some t
+  jump-read : (l t : ℕ) → Placed m p jmp (finalBytes s goal p (jumpRow l)) → goal l ≡ t → t ≤ maxCode → p + 3 ≤ maxCode → target (m .bytecode) (p + 3) ≡ some t
   unfolding finalBytes patchedWith jumpRow rowOf le16
   jump-read l t h g a b =
       let d : displacement (goal l) (p + 1 + 2) ≡ displacement t (p + 3) = ap (λ x. displacement x (p + 1 + 2)) g ∙ ap (λ x. displacement t x) (omega arith) in
@@ -302,7 +303,7 @@ module _ (m : Image) (s : Sheet) (goal : ℕ → ℕ) (p : ℕ) where
     unfolding finalBytes patchedWith testRow rowOf le16 constantAt
     test-constant e = ap (λ i. getD (m .constants) i 0) (operand-at m p cmpBr _ h 4 (omega arith) ∙ sixteen (indexOf k ks)) ∙ e
 
-    test-target : goal l ≡ t → t ≤ 16384 → p + 8 ≤ 16384 → target (m .bytecode) (p + 8) ≡ some t
+    test-target : goal l ≡ t → t ≤ maxCode → p + 8 ≤ maxCode → target (m .bytecode) (p + 8) ≡ some t
     unfolding finalBytes patchedWith testRow rowOf le16
     test-target g a b =
         let d : displacement (goal l) (p + 6 + 2) ≡ displacement t (p + 8) = ap (λ x. displacement x (p + 6 + 2)) g ∙ ap (λ x. displacement t x) (omega arith) in
@@ -665,7 +666,7 @@ module _ (s : Sheet) (known : (r : Role) → roleOf s (opcode s r) ≡ some r) (
       let o₂ = op .place in
       let o₆ = op .body in
       let o₇ = cu .place in
-      let short : length (x .v₆ .bytecode) ≤ 16384 = cu .all .formed .short in
+      let short : length (x .v₆ .bytecode) ≤ maxCode = cu .all .formed .short in
       let inc = places .increment in
       let at = placed s known goal rows (formed .sized) image refl code in
       let k₃ = at Y₂ test Z (places .endTest) e₃ (omega arith) in

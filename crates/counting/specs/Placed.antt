@@ -9,6 +9,7 @@ use lib.Dec.{eqb}
 use lib.ListN.{length, getD, length-append, List·getD-append}
 use lib.Seq.{getD-append-add}
 use borrow.Author.Tests.{eq-eqb, ne-eqb}
+use Rattle.definition.specs.Limits.{maxCode}
 use Rattle.definition.specs.Field.{has}
 use Rattle.definition.specs.Opcode.{Role, Sheet, opcode, roleOf, size}
 use Rattle.definition.specs.Rewrite.{Bytes, decode, startsFrom, boundariesFrom}
@@ -120,7 +121,7 @@ operand-at m p r i h n l =
 -- ---- a displacement read back
 
 pub target-at : (m : Image) (p : ℕ) (r : Role) (i : Bytes) (n next t : ℕ) → Placed m p r i → suc n < length i → next ≡ p + n + 2
-    → getD i n 0 ≡ displacement t next % 256 → getD i (suc n) 0 ≡ displacement t next / 256 → t ≤ 16384 → next ≤ 16384 → target (m .bytecode) next ≡ some t
+    → getD i n 0 ≡ displacement t next % 256 → getD i (suc n) 0 ≡ displacement t next / 256 → t ≤ maxCode → next ≤ maxCode → target (m .bytecode) next ≡ some t
 unfolding target reached
 target-at m p r i n next t h l e a b x y =
     let u : getD (m .bytecode) (next - 2) 0 ≡ displacement t next % 256 = ap (λ q. getD (m .bytecode) q 0) (omega arith) ∙ (h .bytes n (omega arith) ∙ a) in

@@ -13,12 +13,19 @@ ghost use Rattle.program_line.specs.View.{shortCircuitView, headerLine, 
 ghost use Rattle.program_line.specs.Scan.{kindOf, rest, behind, worse, numberIn, refusalAt, Opened, Fresh, Took, TookPos};
 use definition::BAD_FORM;
 use definition::BAD_RANGE;
+use definition::MAX_FIELD;
+use definition::MAX_VARIABLES;
 use definition::TOO_DEEP;
 use definition::WRONG_LINES;
 use field::Read;
 use opcode::BinaryOp;
 use opcode::CompareOp;
 use opcode::UnaryOp;
+
+// The largest count, position or loop number, and the largest number of variables.
+const COUNTS: u16 = MAX_FIELD as u16;
+
+const VARIABLES: u16 = MAX_VARIABLES as u16;
 
 // ---- what a line says
 
@@ -284,7 +291,7 @@ fn count(line: &[u8], s: Scan) -> Short
     requires { ⌜ s .at ≤ length (now line) ⌝ }
     ensures { λ r. ⌜ Took (upTo maxField) (now (line .entry)) s (r .n) (r .scan) ⌝ }
 {
-    up_to(line, s, 65535)
+    up_to(line, s, COUNTS)
 }
 
 fn position(line: &[u8], s: Scan) -> Placed
@@ -324,7 +331,7 @@ fn header_line(line: &[u8], s: Scan) -> HeaderLine
     requires { ⌜ Fresh (now line) s ⌝ }
     ensures { λ r. ⌜ headerLine r ≡ byLetter headerForms 0x50 (rest (now (line .entry)) s) ⌝ }
 {
-    let v = up_to(line, s, 1024);
+    let v = up_to(line, s, VARIABLES);
     let n = count(line, v.scan);
     let p = position(line, n.scan);
     let pos = p.pos;

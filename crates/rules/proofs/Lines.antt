@@ -11,6 +11,7 @@ use borrow.Author.Tests.{lt-ltb, le-ltb}
 use lib.Dec.{lit≤}
 use lib.ListN.{length, getD, take, drop, set, length-set, drop-of-length-le}
 use lib.Seq.{drop-cons, take-suc-set, take-all, append-snoc}
+use Rattle.definition.specs.Limits.{maxField, passCount}
 use Rattle.definition.specs.Field as def
 use Rattle.definition.specs.Field.{firstLine, Field, upTo, field, malformed, outside, is, Numbers, wrong, far, are, andThese, numbers}
 use Rattle.definition.specs.Rules.{Rule, ruleFields, ruleFrom, goodOnly, goodRule, ruleOf, readRule}
@@ -22,7 +23,7 @@ use Rattle.rules.specs.View.{lineNumbers, Numbered, Bounded, rowOf, line
 
 -- the largest number of each field
 abbrev pub maxima : List ℕ
-maxima = 3 ∷ 22 ∷ 22 ∷ 3 ∷ 65535 ∷ 2 ∷ 65535 ∷ 2 ∷ 65535 ∷ []
+maxima = passCount ∷ 22 ∷ 22 ∷ 3 ∷ maxField ∷ 2 ∷ maxField ∷ 2 ∷ maxField ∷ []
 
 -- `below 23` is `upTo 22`
 numbers-same : (f g : Field) (fs gs : List Field) → ((bs : List ℕ) → field f bs ≡ field g bs) → ((xs : List (List ℕ)) → numbers fs xs ≡ numbers gs xs)
@@ -202,7 +203,7 @@ bounded xs {ns} e =
     let b = number-bound maxima xs ns (sym (fields-are xs) ∙ e) in
     record { first = omega (arith, b 1); second = omega (arith, b 2); test = omega (arith, b 3); one = omega (arith, b 5); two = omega (arith, b 7) }
 
-maxima-small : (k : ℕ) → getD maxima k 0 ≤ 65535
+maxima-small : (k : ℕ) → getD maxima k 0 ≤ maxField
 maxima-small zero = lit≤ tt
 maxima-small (suc zero) = lit≤ tt
 maxima-small (suc (suc zero)) = lit≤ tt
