@@ -8,7 +8,7 @@ use native.Mathlib.Omega.{arith}
 use native.Mathlib.Nat.{zero-add, mod-lt, div-add-mod'}
 use lib.Dec.{eqb}
 use lib.ListN.{length}
-use lib.IntN.{ℤ, pos, _+ℤ_, _-ℤ_}
+use lib.IntN.{pos, _+ℤ_, _-ℤ_}
 use lib.Signed.{ltZ, quotZ}
 use borrow.Author.Tests.{ne-eqb, eq-eqb, eqb-false}
 use Rattle.definition.specs.Opcode.{Role, dup, pop, loadVar, storeVar, loadConst, loadTrue, loadFalse, binary, unary, compare, jmp, jmpIfNot, cmpBr, ret, Add, size, traits, row, number as roleNumber}
@@ -146,14 +146,8 @@ pub reaches-then : {m : Image} {x y z : State} → Reaches m x y → step m y �
 reaches-then {m = m} {x = x} {y = y} {z = z} r g = record { steps = suc (r .steps); runs = reaches-later m (r .steps) x y z (r .runs) g }
 
 -- the claim's result, its count in ℕ
-pub record Finish (m : Image) (f : Places) (x : State) (c : ℕ) : Type 0 where
-  pub steps : ℕ
-  pub last : State
-  pub runs : afterSteps m steps x ≡ some last
-  pub there : last .place ≡ f .end
-  pub empty : last .stack ≡ []
-  pub inside : (k : ℕ) (y : State) → k < steps → afterSteps m k x ≡ some y → (f .first ≤ y .place) × (y .place < f .end)
-  pub count : passes m f steps x ≡ c
+abbrev pub Finish : Image → Places → State → ℕ → Type 0
+Finish m f x c = Makes m f x (pos c)
 
 finish-here : (m : Image) (f : Places) (x : State) → x .place ≡ f .end → x .stack ≡ [] → Finish m f x 0
 unfolding afterSteps passes crossings
@@ -172,10 +166,13 @@ finish-cons m f x y c p g r = record {
   there = r .there;
   empty = r .empty;
   inside = inside;
-  count = ap (λ s. onward s 0 (λ z. oneIf (eqb (x .place) (f .endTest) && eqb (z .place) (f .body)) + crossings m (f .endTest) (f .body) (r .steps) z)) g
-      ∙ ap (λ k. oneIf (eqb (x .place) (f .endTest) && eqb (y .place) (f .body)) + k) (r .count);
+  count = ap pos (ap (λ s. onward s 0 (λ z. oneIf (eqb (x .place) (f .endTest) && eqb (z .place) (f .body)) + crossings m (f .endTest) (f .body) (r .steps) z)) g
+      ∙ ap (λ k. oneIf (eqb (x .place) (f .endTest) && eqb (y .place) (f .body)) + k) counted);
 }
   where
+    counted : crossings m (f .endTest) (f .body) (r .steps) y ≡ c
+    counted = let e : pos (crossings m (f .endTest) (f .body) (r .steps) y) ≡ pos c = r .count in cc
+
     inside : (k : ℕ) (z : State) → k < suc (r .steps) → afterSteps m k x ≡ some z → (f .first ≤ z .place) × (z .place < f .end)
     inside zero z l q = subst (λ (u : State). (f .first ≤ u .place) × (u .place < f .end)) (some-inj x z q) p
     inside (suc k) z l q = r .inside k z (omega arith) (sym (after-cons m k x y g) ∙ q)
@@ -348,17 +345,6 @@ module _ (m : Image) (f : Places) (v from to by : ℕ) (l : Laid m f v from to b
 
 -- ---- the whole FOR
 
-finish-makes : (m : Image) (f : Places) (x : State) (c : ℕ) (z : ℤ) → pos c ≡ z → Finish m f x c → Makes m f x z
-finish-makes m f x c z e r = record {
-  steps = r .steps;
-  last = r .last;
-  runs = r .runs;
-  there = r .there;
-  empty = r .empty;
-  inside = r .inside;
-  count = ap pos (r .count) ∙ e;
-}
-
 -- A FOR that is laid out so and counts up makes (to − from) ÷ step + 1 passes from any state at its first place, if its body always ends.
 pub counted : (m : Image) (f : Places) (v from to by : ℕ) → Laid m f v from to by → CountsUp from to by
     → (x : State) → x .place ≡ f .first → x .stack ≡ [] → AlwaysEnds m f v x → Makes m f x (passCount from to by)
@@ -388,7 +374,7 @@ counted m f v from to by l h x p e always =
     let i₂ = l .opening .bodyNext in
     let i₃ = l .bodyEnds in
     let i₄ = l .endNext in
-    finish-makes m f x (suc (d / by)) _ count
+    subst (λ z. Makes m f x z) count
     (subst (λ y. Finish m f y (suc (d / by))) (sym same)
     (finish-plain m f (standing (f .first) [] vs) _ _ (λ q. omega arith) (omega arith, omega arith) s₁
     (finish-plain m f (standing (f .first + 3) (from ∷ []) vs) _ _ (λ q. omega arith) (omega arith, omega arith) s₂ looped)))

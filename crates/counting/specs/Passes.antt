@@ -8,7 +8,7 @@ use native.Mathlib.Omega.{arith}
 use lib.Dec.{ltb}
 use borrow.Author.Tests.{lt-leb}
 use Rattle.definition.specs.Limits.{badSheet}
-use Rattle.definition.specs.Res.{ok, _>>=_, _>>_, given}
+use Rattle.definition.specs.Res.{ok, given}
 use Rattle.definition.specs.Rules.{readRules}
 use Rattle.definition.specs.Program.{readProgram}
 use Rattle.definition.specs.Opcode.{Role, Sheet, opcode, roleOf, comparisonByte, comparisonOf, Gt}

@@ -7,7 +7,7 @@ use native.Mathlib.Omega.{arith}
 use lib.ListN.{length, length-append}
 use borrow.Author.Tests.{leb-true}
 use Rattle.definition.specs.Limits.{maxCode}
-use Rattle.definition.specs.Res.{ok, _>>=_, _>>_}
+use Rattle.definition.specs.Res.{ok}
 use Rattle.definition.specs.Opcode.{Role, Sheet, opcode, size}
 use Rattle.definition.specs.Emit.{le16, Emitter, Last, other, LineEntry, PendingPatch, added, add, patched, branch}
 use Rattle.runs.specs.Results.{ok-demand, ok-bind, ok-is}
