@@ -3,7 +3,7 @@ use mathlib.Core.Path.{_≡_, refl, ap, sym, _∙_}
 use mathlib.Core.Bool.{Bool, true, false, _&&_}
 use mathlib.Core.Option.{Option, some, none}
 use mathlib.Core.List.{List, []}
-use Prim.Native.Nat.{ℕ, zero, suc, _+_, _-_, _≤_, _<_}
+use Prim.Native.Nat.{ℕ, zero, suc, _+_, _-_, _<_}
 use native.Mathlib.Omega.{arith}
 use lib.Dec.{eqb, eqb·suc-zero, eqb·suc-suc}
 use borrow.Author.Tests.{eqb-true}
@@ -24,9 +24,10 @@ use Rattle.program.specs.Walk.{cursorOf, cursorIn, standBy, Near, Walked, outco
 use Rattle.program.proofs.Laws.{block-many, line-there, expr-bad, expr-is, stmt-bad, stmt-is}
 use Rattle.program_shape.specs.declared.Operand.{Operand}
 use Rattle.program_shape.specs.declared.Condition.{Condition}
+use Rattle.program_shape.specs.declared.ExitIf.{ExitIf}
 use Rattle.program_shape.specs.declared.ExitIf.the-variants as exit-if
 use Rattle.program_shape.specs.declared.Shape.the-variants as loop-shape
-use Rattle.program_shape.specs.Shape.{Skipped, walkFrom, operandOf, variableIn, constantIn, Sided, comparisonIn, classified, fused, exitIf, sizesFit, ifFits, exitLine, Exiting, Shaped}
+use Rattle.program_shape.specs.Shape.{Skipped, walkFrom, operandOf, variableIn, constantIn, Sided, comparisonIn, classified, fused, exitIf, sizesFit, ifFits, exitLine, Exiting, Shaped, whileBy, repeatBy}
 
 -- ---- skipping: a walk that heeds no fault
 
@@ -294,33 +295,25 @@ module _ (when : Bool) (i left v : ℕ) (text : List ℕ) (c : def.Cursor) (x : 
 -- ---- a loop's shape
 
 module _ (i n m left v : ℕ) (text : List ℕ) (c : def.Cursor) where
-  module _ (e : m ≡ 1) {p : Cursor} (s : Skipped text (blockOf (λ d. stmtAt left v text d) n c .1) p) where
-    pub shape-repeat : {condition end : Cursor} → Exiting true i left v text (cursorOf p) (exit-if.Exits condition end) → Shaped i n m left v text c (loop-shape.Repeat condition end)
-    unfolding shape blockOf exitIf repeatOr
-    shape-repeat x = let y = rw (s .is) at x in rw e (record { is = ap repeatOr (y .is); places = y .places })
-
-    pub shape-not-repeat : Exiting true i left v text (cursorOf p) exit-if.Other → Shaped i n m left v text c loop-shape.Plain
-    unfolding shape blockOf exitIf repeatOr
-    shape-not-repeat x = let y = rw (s .is) at x in rw e (record { is = ap repeatOr (y .is); places = tt })
+  pub shape-repeat : m ≡ 1 → {p : Cursor} → Skipped text (blockOf (λ d. stmtAt left v text d) n c .1) p → (r : ExitIf) → Exiting true i left v text (cursorOf p) r → Shaped i n m left v text c (repeatBy r)
+  unfolding shape blockOf exitIf repeatOr
+  shape-repeat e s (exit-if.Exits condition end) x = let y = rw (s .is) at x in rw e (record { is = ap repeatOr (y .is); places = y .places })
+  shape-repeat e s exit-if.Other x = let y = rw (s .is) at x in rw e (record { is = ap repeatOr (y .is); places = tt })
 
 module _ (i m left v : ℕ) (text : List ℕ) (c : def.Cursor) (e : m ≡ 0) where
-  pub shape-while : (n : ℕ) → 0 < n → {condition end : Cursor} → Exiting false i left v text c (exit-if.Exits condition end) → Shaped i n m left v text c (loop-shape.While condition end)
+  pub shape-while : (n : ℕ) → (n ≡ 0 → ⊥) → (r : ExitIf) → Exiting false i left v text c r → Shaped i n m left v text c (whileBy r)
   unfolding shape blockOf exitIf whileOr
-  shape-while zero h x = absurd (omega arith)
-  shape-while (suc n) h x = rw e (record { is = ap whileOr (x .is); places = x .places })
+  shape-while zero h r x = absurd (h refl)
+  shape-while (suc n) h (exit-if.Exits condition end) x = rw e (record { is = ap whileOr (x .is); places = x .places })
+  shape-while (suc n) h exit-if.Other x = rw e (record { is = ap whileOr (x .is); places = tt })
 
-  pub shape-not-while : (n : ℕ) → 0 < n → Exiting false i left v text c exit-if.Other → Shaped i n m left v text c loop-shape.Plain
-  unfolding shape blockOf exitIf whileOr
-  shape-not-while zero h x = absurd (omega arith)
-  shape-not-while (suc n) h x = rw e (record { is = ap whileOr (x .is); places = tt })
-
-  pub shape-empty : (n : ℕ) → n ≤ 0 → Shaped i n m left v text c loop-shape.Plain
+  pub shape-empty : (n : ℕ) → n ≡ 0 → Shaped i n m left v text c loop-shape.Plain
   unfolding shape blockOf
   shape-empty zero h = rw e (record { is = refl; places = tt })
   shape-empty (suc n) h = absurd (omega arith)
 
-pub shape-plain : (i n m left v : ℕ) (text : List ℕ) (c : def.Cursor) → (m ≡ 1 → ⊥) → (m ≡ 0 → ⊥) → Shaped i n m left v text c loop-shape.Plain
+pub shape-plain : (i n m left v : ℕ) (text : List ℕ) (c : def.Cursor) → 1 < m → Shaped i n m left v text c loop-shape.Plain
 unfolding shape blockOf
-shape-plain i n zero left v text c a b = absurd (b refl)
-shape-plain i n (suc zero) left v text c a b = absurd (a refl)
-shape-plain i n (suc (suc m)) left v text c a b = record { is = refl; places = tt }
+shape-plain i n zero left v text c h = absurd (omega arith)
+shape-plain i n (suc zero) left v text c h = absurd (omega arith)
+shape-plain i n (suc (suc m)) left v text c h = record { is = refl; places = tt }

@@ -136,6 +136,15 @@ pub record Exiting (when : Bool) (i left v : ℕ) (text : List ℕ) (c : def.Cur
   pub is : exitCondition left v text r ≡ exitIf when i (stmtAt left v text c .0)
   pub places : exitPlaces text (stmtAt left v text c .1) r
 
+-- the shape that such an IF makes of a loop, at its front or as its `continuing`
+abbrev pub whileBy : ExitIf → Shape
+whileBy (exit-if.Exits c end) = loop-shape.While c end
+whileBy exit-if.Other = loop-shape.Plain
+
+abbrev pub repeatBy : ExitIf → Shape
+repeatBy (exit-if.Exits c end) = loop-shape.Repeat c end
+repeatBy exit-if.Other = loop-shape.Plain
+
 abbrev pub shapeOf : ℕ → ℕ → List ℕ → Shape → shapes.Shape
 shapeOf left v text (loop-shape.While c rest) = shapes.while (conditionAt left v text c)
 shapeOf left v text (loop-shape.Repeat c end) = shapes.repeat (conditionAt left v text c)

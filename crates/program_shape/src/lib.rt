@@ -8,7 +8,7 @@ ghost use Rattle.definition.specs.CompileExpr.{classify};
 ghost use Rattle.opcode.specs.View.{compareView};
 ghost use Rattle.program_line.specs.View.{stmtLine, exprLine};
 ghost use Rattle.program.specs.Walk.{cursorOf, Near};
-ghost use Rattle.program_shape.specs.Shape.{Skipped, walkFrom, operandOf, variableIn, constantIn, Sided, comparisonIn, compared, classified, fused, sizesFit, ifFits, exitLine, Exiting, Shaped};
+ghost use Rattle.program_shape.specs.Shape.{Skipped, walkFrom, operandOf, variableIn, constantIn, Sided, comparisonIn, compared, classified, fused, sizesFit, ifFits, exitLine, Exiting, whileBy, repeatBy, Shaped};
 use opcode::CompareOp;
 use program::Cursor;
 use program::Walk;
@@ -283,6 +283,30 @@ fn exit_at(text: &[u8], variables: u16, left: usize, c: Cursor, i: u16, when: bo
     ExitIf::Other
 }
 
+fn while_by(e: ExitIf) -> Shape
+    ensures { λ r. ⌜ r ≡ whileBy e ⌝ }
+{
+    match e {
+        ExitIf::Exits { condition, end } => Shape::While {
+            condition: condition,
+            rest: end,
+        },
+        ExitIf::Other => Shape::Plain,
+    }
+}
+
+fn repeat_by(e: ExitIf) -> Shape
+    ensures { λ r. ⌜ r ≡ repeatBy e ⌝ }
+{
+    match e {
+        ExitIf::Exits { condition, end } => Shape::Repeat {
+            condition: condition,
+            end: end,
+        },
+        ExitIf::Other => Shape::Plain,
+    }
+}
+
 // The shape of loop i, whose body of n and whose `continuing` of m statements stand from `c` on. A REPEAT is seen behind its body, which is
 // skipped for that.
 pub fn loop_shape(
@@ -297,37 +321,15 @@ pub fn loop_shape(
     requires { ⌜ Near (now text) (c .at) (c .row) ⌝ }
     ensures { λ r. ⌜ Shaped i n m left variables (now (text .entry)) (cursorOf c) r ⌝ }
 {
-    if m == 1 {
-        let p = skip_block(text, variables, left, n as usize, c);
-        let e = exit_at(text, variables, left, p, i, true);
-        match e {
-            ExitIf::Exits { condition, end } => {
-                return Shape::Repeat {
-                    condition: condition,
-                    end: end,
-                };
-            }
-            ExitIf::Other => {
-                return Shape::Plain;
-            }
-        }
-    }
-    if m == 0 {
-        if n > 0 {
-            let e = exit_at(text, variables, left, c, i, false);
-            match e {
-                ExitIf::Exits { condition, end } => {
-                    return Shape::While {
-                        condition: condition,
-                        rest: end,
-                    };
-                }
-                ExitIf::Other => {
-                    return Shape::Plain;
-                }
-            }
-        }
+    if m > 1 {
         return Shape::Plain;
     }
-    Shape::Plain
+    if m == 1 {
+        let p = skip_block(text, variables, left, n as usize, c);
+        return repeat_by(exit_at(text, variables, left, p, i, true));
+    }
+    if n == 0 {
+        return Shape::Plain;
+    }
+    while_by(exit_at(text, variables, left, c, i, false))
 }
