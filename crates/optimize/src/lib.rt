@@ -206,7 +206,6 @@ fn last_after(r: Remapped, last: Kept) -> Kept
 
 // 0 from a place up to the end.
 fn zero_from(list: &mut [u16], from: usize)
-    requires { ⌜ from ≤ length (now list) ⌝ }
     ensures { λ r. ⌜ now (list .exit) ≡ take from (now (list .entry)) ++ zeros (length (now (list .entry)) - from) ⌝ }
 {
     let mut i = from;

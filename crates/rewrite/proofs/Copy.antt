@@ -99,14 +99,14 @@ pub record Zeroing (list₀ : List ℕ) (from : ℕ) (list : List ℕ) (i : ℕ)
   pub head : take i list ≡ take from list₀ ++ zeros (i - from)
   pub room : length list ≡ length list₀
   pub low : from ≤ i
-  pub high : i ≤ length list
+  pub high : i ≤ from + (length list - from)
 
 module _ (list₀ : List ℕ) (from : ℕ) where
-  pub zero-begins : from ≤ length list₀ → Zeroing list₀ from list₀ from
+  pub zero-begins : Zeroing list₀ from list₀ from
   unfolding zeros
-  zero-begins h =
+  zero-begins =
       let e : from - from ≡ 0 = omega arith in
-      record { head = rw (e, append-nil); room = refl; low = omega arith; high = h }
+      record { head = rw (e, append-nil); room = refl; low = omega arith; high = omega arith }
 
   pub zero-goes-on : (list : List ℕ) (i : ℕ) → Zeroing list₀ from list i → i < length list → Zeroing list₀ from (set list i 0) (i + 1)
   zero-goes-on list i z h =
@@ -115,10 +115,10 @@ module _ (list₀ : List ℕ) (from : ℕ) where
         head = rw (e, add-one, take-suc-set list i 0 h, z .head, ← (zeros-more (i - from)), append-assoc);
         room = length-set list i 0 ∙ z .room;
         low = omega (arith, z .low);
-        high = simp length-set (omega arith);
+        high = simp length-set (omega (arith, z .low));
       }
 
   pub zero-ends : (list : List ℕ) (i : ℕ) → Zeroing list₀ from list i → length list ≤ i → list ≡ take from list₀ ++ zeros (length list₀ - from)
   zero-ends list i z h =
-      let e : i ≡ length list₀ = omega (arith, z .high, z .room) in
-      sym (take-all i list h) ∙ z .head ∙ ap (λ (n : ℕ). take from list₀ ++ zeros (n - from)) e
+      let e : i - from ≡ length list₀ - from = omega (arith, z .low, z .high, z .room) in
+      sym (take-all i list h) ∙ z .head ∙ ap (λ (n : ℕ). take from list₀ ++ zeros n) e

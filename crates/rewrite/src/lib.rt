@@ -195,7 +195,6 @@ fn decide(
 
 // 0 from a place up to the end.
 pub fn zero_from(list: &mut [u8], from: usize)
-    requires { ⌜ from ≤ length (now list) ⌝ }
     ensures { λ r. ⌜ now (list .exit) ≡ take from (now (list .entry)) ++ zeros (length (now (list .entry)) - from) ⌝ }
 {
     let mut i = from;

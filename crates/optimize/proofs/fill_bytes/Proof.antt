@@ -25,6 +25,6 @@ fill-bytes-spec =
     (λ c. search needs)  -- add-i
     (λ c. search needs)  -- loop-less
     (λ c. fill-goes-on _ _ (c .before .before .before .before .before .pre) _ _ (c .before .before .loop .inv) (c .before .loop-test .taken))  -- loop-again
-    (λ c κs. omega (arith, c .before .before .loop .inv .room, c .before .before .loop .inv .within, c .before .before .before .before .before .pre))  -- zero-from-requires
+    (λ c κs. search needs)  -- zero-from-requires
     (λ c. search needs)  -- same-length
     (λ c. fill-ends _ _ (c .before .before .before .before .before .before .before .before .pre) _ _ _ (c .before .before .before .before .before .loop .inv) (c .before .before .before .before .loop-test .left) (c .before .before .zero-from .ensures)))  -- returns

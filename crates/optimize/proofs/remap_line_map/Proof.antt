@@ -37,6 +37,6 @@ remap-line-map-spec =
     (λ c. search needs)  -- add-at
     (λ c. search needs)  -- loop-less
     (λ c. remap-last _ _ _ _ (c .before .before .before .before .before .before .before .before .before .before .before .before .before .before .pre) (c .last-after .ensures) (remap-goes-on _ _ _ _ (c .before .before .before .before .before .before .before .before .before .before .before .before .before .before .pre) (c .before .before .before .before .before .remap-entry .result) _ (c .before .before .before .before .before .before .before .before .before .before .loop .inv) (c .before .before .before .before .before .before .before .before .before .loop-test .taken) refl refl refl (c .before .before .before .before .before .remap-entry .ensures) (c .before .before .before .put-entry .ensures)))  -- loop-again
-    (λ c κs. omega (arith, c .before .before .loop .inv .behind, c .before .before .loop .inv .within, c .before .before .loop .inv .room, c .before .before .loop .inv .threes, c .before .before .before .before .before .before .pre))  -- zero-from-requires
+    (λ c κs. search needs)  -- zero-from-requires
     (λ c. search needs)  -- same-length
     (λ c. remap-ends _ _ _ _ (c .before .before .before .before .before .before .before .before .before .pre) (c .before .before .before .before .before .loop .inv) (c .before .before .before .before .loop-test .left) (c .before .before .zero-from .ensures)))  -- returns

@@ -18,7 +18,7 @@ zero-from-spec =
     (tie.spec
     Inv-loop
     μ-loop
-    (λ c. zero-begins _ _ (c .pre))  -- loop-holds
+    (λ c. zero-begins _ _)  -- loop-holds
     (λ c. search needs)  -- mul-list
     (λ c. search needs)  -- slice-write-list
     (λ c. search needs)  -- add-i

@@ -9,6 +9,7 @@ use Rattle.rewrite.proofs.Pass.{Going, begins}
 use Rattle.rewrite.proofs.Plans.{turns, turn-within, finishes, still-ready}
 use Rattle.rewrite.proofs.apply_peephole.Statement.{statement}
 use Rattle.rewrite.proofs.apply_peephole.Tie as tie
+use borrow.Author.Needs.{needs}
 
 abbrev Inv-loop : tie.InvT-loop
 Inv-loop sheet rules count pass marks code₀ moves₀ at₀ to₀ next₀ code moves at to next = Going (sheetIn sheet) (matcher rules count pass) (marked marks) code₀ code moves at to (nextView next)
@@ -27,7 +28,7 @@ apply-peephole-spec =
     (λ c κs. omega (arith, c .before .before .loop .inv .behind, c .before .before .loop .inv .within, c .before .before .loop .inv .room, c .before .before .before .before .before .before .before .before .pre .0 .small))  -- narrow-requires
     (λ c. omega (arith, c .before .before .before .loop .inv .within, c .before .before .before .loop .inv .room, c .before .before .before .before .before .before .before .before .before .pre .0 .small))  -- mul-moves
     (λ c. omega (arith, c .before .before .before .loop .inv .within, c .before .before .before .loop .inv .room, c .before .before .before .loop .inv .slots, c .before .before .before .before .before .before .before .before .before .pre .0 .small))  -- slice-write-moves
-    (λ c κs. omega (arith, c .before .before .before .before .before .loop .inv .behind, c .before .before .before .before .before .loop .inv .within))  -- zero-from-requires
+    (λ c κs. search needs)  -- zero-from-requires
     (λ c. c .before .before .zero-from .kept .0 ∙ (c .before .before .before .before .before .before .before .before .loop) .inv .room)  -- same-length
     (λ c. simp length-set (c .before .before .before .before .before .before .before .before .loop .inv .slots ∙ sym (c .before .before .before .before .before .before .before .before .before .before .before .before .before .before .pre .1 .slots)))  -- same-length-2
     (λ c. finishes (c .before .before .before .before .before .before .before .before .loop .inv) (c .before .before .before .before .before .before .decide .ensures) (c .before .before .before .before .before .narrow .ensures) (c .before .before .before .before .before .before .before .before .before .before .before .before .before .before .pre .0 .small) (c .before .before .before .before .if1 .taken) (c .before .before .zero-from .ensures))  -- returns
