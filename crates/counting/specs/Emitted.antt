@@ -1,5 +1,5 @@
 -- What calls do to rows, pool and labels; and that code before an instruction other than a store never changes again.
-use Prim.Native.Nat.{ℕ, _+_, _-_, suc, _<_}
+use Prim.Native.Nat.{ℕ, _+_, _-_, _<_}
 use mathlib.Core.Path.{_≡_, refl, sym, _∙_, ap, subst}
 use mathlib.Core.List.{List, [], _∷_, _++_, append-assoc, append-nil}
 use mathlib.Core.Bool.{Bool, true, false}
@@ -8,7 +8,7 @@ use native.Mathlib.Omega.{arith}
 use lib.Dec.{eqb, ltb}
 use lib.ListN.{length, getD, take, drop, set, length-append, length-set, List·getD-append}
 use lib.Seq.{getD-set-other}
-use borrow.Author.Tests.{ltb-true, eqb-true, eq-eqb}
+use borrow.Author.Tests.{ltb-true, eq-eqb}
 use Rattle.definition.specs.Limits.{maxCode}
 use Rattle.definition.specs.Res.{ok, _>>=_, _>>_}
 use Rattle.definition.specs.Opcode.{Sheet, opcode, comparisonByte, dup, loadVar, storeVar, loadConst, jmp, jmpIfNot, cmpBr, size, traits, row}
@@ -18,29 +18,10 @@ use Rattle.counting.specs.Pass.{oneIf}
 use Rattle.counting.specs.Once.{OneByte, OneBytes, closes, closed, isBind, binds}
 use Rattle.runs.specs.Results.{never, ok-demand, ok-bind, ok-is}
 use Rattle.runs.specs.Emitted.{fold-bytes}
+use Rattle.runs.specs.Fused.{index-last}
 use Rattle.counting.specs.Rows.{Row, rowOf, unpatched, bytesOf, codeOf, patchOf, patchesOf, Sized, code-append, patches-append, sized-append, sized-left, Formed, FormedBy, Adds, add-adds, branch-adds}
 
 -- ---- the pool
-
-index-end : (k : ℕ) (xs : List ℕ) → indexOf k (xs ++ (k ∷ [])) < length (xs ++ (k ∷ []))
-unfolding indexOf
-index-end k [] = subst (λ (b : Bool). elim b [ true ↦ 0 | false ↦ 1 ] < 1) (sym (eq-eqb k k refl)) (omega arith)
-index-end k (x ∷ xs) = go (eqb x k) (index-end k xs)
-  where
-    go : (b : Bool) → indexOf k (xs ++ (k ∷ [])) < length (xs ++ (k ∷ [])) → elim b [ true ↦ 0 | false ↦ suc (indexOf k (xs ++ (k ∷ []))) ] < suc (length (xs ++ (k ∷ [])))
-    go true h = omega arith
-    go false h = omega arith
-
--- a constant stands at its index
-pub index-found : (k : ℕ) (xs : List ℕ) → indexOf k xs < length xs → getD xs (indexOf k xs) 0 ≡ k
-unfolding indexOf
-index-found k [] = λ h. absurd (omega arith)
-index-found k (x ∷ xs) = go (eqb x k) refl (index-found k xs)
-  where
-    go : (b : Bool) → eqb x k ≡ b → (indexOf k xs < length xs → getD xs (indexOf k xs) 0 ≡ k)
-        → elim b [ true ↦ 0 | false ↦ suc (indexOf k xs) ] < suc (length xs) → getD (x ∷ xs) (elim b [ true ↦ 0 | false ↦ suc (indexOf k xs) ]) 0 ≡ k
-    go true e f h = eqb-true x k e
-    go false e f h = f (omega arith)
 
 -- entering a constant: the pool grows at its end alone, and holds the constant
 pub record Pools (k : ℕ) (e e′ : Emitter) : Type 0 where
@@ -68,7 +49,7 @@ pools-if false k e e′ t p =
     subst (λ x. Pools k e x) (sym (ok-is (d .1))) (record {
       more = k ∷ [];
       grows = refl;
-      found = index-end k (e .constants);
+      found = index-last k (e .constants);
       bytecode = refl;
       patches = refl;
       labels = refl;

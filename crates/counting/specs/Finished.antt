@@ -16,6 +16,7 @@ use Rattle.definition.specs.Emit.{le16, PendingPatch}
 use Rattle.definition.specs.Rewrite.{Bytes, ends, sizeOr1, cut, decode, boundariesFrom, instruction, actions, applied, output, OffsetMap, offsets, movedTo, applyPeephole}
 use Rattle.definition.specs.Optimize.{Pipeline, mapThrough, run, identity, optimize}
 use Rattle.definition.specs.Compile.{boundLabel, displacement, overwrite, patchJump, patchJumps}
+use Rattle.field.proofs.Lists.{has-here}
 use Rattle.counting.specs.Rows.{Row, unpatched, bytesOf, codeOf, patchOf, patchesOf, Sized}
 
 -- ---- decoding
@@ -128,10 +129,6 @@ unfoldable pub Among : List ℕ → List ℕ → Type 0
 Among [] ys = Unit {0}
 Among (x ∷ xs) ys = (has ys x ≡ true) × Among xs ys
 
-has-head : (x : ℕ) (xs : List ℕ) → has (x ∷ xs) x ≡ true
-unfolding has
-has-head x xs = ap (λ b. elim b [ true ↦ true | false ↦ has xs x ]) (eq-eqb x x refl)
-
 has-later : (y x : ℕ) (xs : List ℕ) → has xs x ≡ true → has (y ∷ xs) x ≡ true
 unfolding has
 has-later y x xs e = go (eqb x y)
@@ -148,7 +145,7 @@ among-later y (x ∷ xs) ys a = (has-later y x ys (a .0), among-later y xs ys (a
 pub among-self : (xs : List ℕ) → Among xs xs
 unfolding Among
 among-self [] = tt
-among-self (x ∷ xs) = (has-head x xs, among-later x xs xs (among-self xs))
+among-self (x ∷ xs) = (has-here x xs, among-later x xs xs (among-self xs))
 
 through-diagonal : (xs ys : List ℕ) → Among ys xs → mapThrough (diagonal xs) (diagonal ys) ≡ diagonal ys
 unfolding mapThrough diagonal Among

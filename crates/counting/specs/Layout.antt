@@ -15,9 +15,9 @@ use Rattle.definition.specs.Field.{has}
 use Rattle.definition.specs.Res.{ok, _>>=_}
 use Rattle.definition.specs.Opcode.{Role, Sheet, opcode, roleOf, comparisonByte, comparisonOf, Gt, loadVar, storeVar, loadConst, dup, binary, Add, jmp, cmpBr, size, traits, row}
 use Rattle.definition.specs.Tree.{Program}
-use Rattle.definition.specs.Emit.{le16, Call, createLabel, bindLabel, loadVariable, storeVariable, loadConstant, addConstant, emitOpcode, emitJmp, emitJmpIfNot, emitCmpBr, resetStackDepth, setPosition, refused, Last, other, loaded, stored, Emitter, emitterAt, indexOf, loadAfter, foldStore, folded, add, act, acts}
+use Rattle.definition.specs.Emit.{le16, Call, createLabel, bindLabel, loadVariable, storeVariable, loadConstant, emitOpcode, emitJmp, emitCmpBr, Last, other, loaded, stored, Emitter, emitterAt, indexOf, loadAfter, foldStore, folded, add, act, acts}
 use Rattle.definition.specs.Walk as walk
-use Rattle.definition.specs.Walk.{next, after, say, nothing}
+use Rattle.definition.specs.Walk.{after, say, nothing}
 use Rattle.definition.specs.Stmt.{Loops, bound}
 use Rattle.definition.specs.Rewrite.{boundariesFrom, movedTo}
 use Rattle.definition.specs.Optimize.{optimize}
@@ -29,9 +29,10 @@ use Rattle.counting.specs.Laid.{constantAt, Opening, Laid}
 use Rattle.counting.specs.Stands.{Emits, For, forStmt, settingOf, testingOf, bodyOf, countingOf, lengthOf, placeAfter, placesOf, imageOf}
 use Rattle.counting.specs.Once.{OneByte, OneBytes, bytes-left, bytes-right, binds, isBind, binds-append}
 use Rattle.runs.specs.Results.{ok-demand, ok-bind, ok-is}
-use Rattle.runs.specs.Heights.{Either, left, right}
+use Rattle.runs.specs.Heights.{Either, left, right, after-mono}
+use Rattle.runs.specs.Fused.{indexed}
 use Rattle.counting.specs.Rows.{Row, rowOf, unpatched, bytesOf, codeOf, patchesOf, Sized, code-append, FormedBy}
-use Rattle.counting.specs.Emitted.{index-found, rowsOf, lastOf, labelsOf, Names, foldsInto, folds, acted, folded-formed, Tail, NotLoaded, Within, Goes, goes-all, acts-append}
+use Rattle.counting.specs.Emitted.{rowsOf, lastOf, labelsOf, Names, foldsInto, folds, acted, folded-formed, Tail, NotLoaded, Within, Goes, goes-all, acts-append}
 use Rattle.counting.specs.Finished.{joined, optimize-same, diagonal, moved-diagonal, among-self, finalBytes, finalRows, patchedWith, instructionsOf, code-joined, goalIn, patched-all, wholes}
 use Rattle.counting.specs.ForCalls.{body-closed}
 use Rattle.counting.specs.Placed.{Placed, placed, no-start, operand-at, target-at, boundary-between}
@@ -416,29 +417,9 @@ emission s p f n before body behind e a =
       w₂ = y₂ .2;
     }
 
-after-more : (n : ℕ) (cs : List Call) → n ≤ after n cs
-unfolding after next
-after-more n [] = omega arith
-after-more n (c ∷ cs) = let q = after-more (next c n) cs in let r = one c in omega arith
-  where
-    one : (c : Call) → n ≤ next c n
-    one (createLabel h) = omega arith
-    one (bindLabel k) = omega arith
-    one (loadVariable v) = omega arith
-    one (storeVariable v) = omega arith
-    one (loadConstant k) = omega arith
-    one (addConstant k) = omega arith
-    one (emitOpcode r) = omega arith
-    one (emitJmp k) = omega arith
-    one (emitJmpIfNot k) = omega arith
-    one (emitCmpBr c v k m) = omega arith
-    one (resetStackDepth h) = omega arith
-    one (setPosition p) = omega arith
-    one (refused f) = omega arith
-
 -- a constant that was entered is where it was
 constant-stays : (k : ℕ) (ks all more : List ℕ) → all ≡ ks ++ more → indexOf k ks < length ks → getD all (indexOf k ks) 0 ≡ k
-constant-stays k ks all more e h = ap (λ x. getD x (indexOf k ks) 0) e ∙ (List·getD-append ks more 0 (indexOf k ks) h ∙ index-found k ks h)
+constant-stays k ks all more e h = ap (λ x. getD x (indexOf k ks) 0) e ∙ (List·getD-append ks more 0 (indexOf k ks) h ∙ indexed k ks h)
 
 begin-within : (s : Sheet) (p : Program) → Within s [] (emitterAt (p .pos))
 unfolding emitterAt codeOf patchesOf Sized Tail
@@ -542,7 +523,7 @@ module _ (s : Sheet) (known : (r : Role) → roleOf s (opcode s r) ≡ some r) (
   long : suc n < length (x .u₇ .labels)
   long =
       let a = middle .changed .table in
-      let b = after-more (length (x .u₆ .labels)) body in
+      let b = after-mono (length (x .u₆ .labels)) body in
       let c = op .labels in
       omega arith
 

@@ -5,12 +5,12 @@ use mathlib.Core.List.{List, [], _∷_, _++_, append-assoc, append-nil}
 use mathlib.Core.Option.{Option, some, none}
 use native.Mathlib.Omega.{arith}
 use lib.ListN.{length, length-append}
-use borrow.Author.Tests.{leb-true}
 use Rattle.definition.specs.Limits.{maxCode}
 use Rattle.definition.specs.Res.{ok}
 use Rattle.definition.specs.Opcode.{Role, Sheet, opcode, size}
-use Rattle.definition.specs.Emit.{le16, Emitter, Last, other, LineEntry, PendingPatch, added, add, patched, branch}
-use Rattle.runs.specs.Results.{ok-demand, ok-bind, ok-is}
+use Rattle.definition.specs.Emit.{le16, Emitter, Last, other, PendingPatch, added, add, patched, branch}
+use Rattle.runs.specs.Results.{ok-bind, ok-is}
+use Rattle.runs.specs.Emitted.{add-ok}
 
 -- ---- rows
 
@@ -105,13 +105,6 @@ grown s rows code ps r f z m = record {
   sized = sized-append s rows (r ∷ []) (f .sized) (z, tt);
   short = omega (arith, length-append code (bytesOf s r));
 }
-
-add-ok : (s : Sheet) (r : Role) (o : List ℕ) (l : Last) (e e′ : Emitter) → add s r o l e ≡ ok e′ → (xs : List LineEntry) × (e′ ≡ added s r o l xs e) × (length (e .bytecode) + suc (length o) ≤ maxCode)
-unfolding add
-add-ok s r o l e e′ p =
-    let d = ok-demand _ _ _ _ e′ p in
-    let q = ok-bind _ _ e′ (d .1) in
-    (q .0, ok-is (q .2), leb-true _ _ (d .0))
 
 -- what an added instruction leaves of the emitter
 pub record Adds (s : Sheet) (rows : List Row) (l : Last) (e e′ : Emitter) : Type 0 where

@@ -15,7 +15,7 @@ use Rattle.field.specs.declared.Number.{Number}
 use Rattle.field.specs.declared.Number.the-variants.{Empty}
 use Rattle.field.specs.View.{cap, numberOf, longer, until, separates, firstField, Reads, lineEnd, lineFields, separator}
 use Rattle.field.proofs.Numbers.{after, natural-after, up-to-is}
-use Rattle.field.proofs.Parts.{Finding, finds-start, finds-next, finds-here, finds-end, until-next, until-here, until-end, Some, some-part, split-some}
+use Rattle.field.proofs.Parts.{Finding, finds-start, finds-next, finds-here, finds-end, until-next, until-here, until-end, split-sep, split-other, Some, some-part, split-some}
 
 -- ---- one field, byte by byte: what is left makes of the number so far what all of it makes of none
 pub record Scanning (text : List ℕ) (at : ℕ) (n : Number) (i : ℕ) : Type 0 where
@@ -51,14 +51,6 @@ module _ {text : List ℕ} {at i : ℕ} {n : Number} (s : Scanning text at n i) 
 
 -- one byte of a line, and of a field
 module _ (b : ℕ) (bs : List ℕ) where
-  split-off : eqb b comma ≡ true → split comma (b ∷ bs) ≡ [] ∷ split comma bs
-  unfolding split
-  split-off p = rw (split, p)
-
-  split-on : eqb b comma ≡ false → (ps : List (List ℕ)) → split comma bs ≡ ps → split comma (b ∷ bs) ≡ onto b ps
-  unfolding split
-  split-on p ps e = rw (split, p, e)
-
   line-on : eqb b lf ≡ false → firstLine (b ∷ bs) ≡ b ∷ firstLine bs
   unfolding firstLine
   line-on q = rw (firstLine, q)
@@ -80,11 +72,11 @@ goes (b ∷ bs) = go (eqb b comma) (eqb b lf) refl refl (goes bs)
   where
     go : (t u : Bool) → eqb b comma ≡ t → eqb b lf ≡ u → (getD bs (length (firstField bs)) 0 ≡ comma → Goes bs) → getD (b ∷ bs) (length (firstField (b ∷ bs))) 0 ≡ comma → Goes (b ∷ bs)
     go true true p q more e = absurd (let a = eqb-true b comma p in let c = eqb-true b lf q in omega arith)
-    go true false p q more e = rw (until, p, line-on b bs q) (split-off b (firstLine bs) p, omega arith)
+    go true false p q more e = rw (until, p, line-on b bs q) (split-sep comma b (firstLine bs) p, omega arith)
     go false true p q more e = absurd (let a = eqb-true b lf q in omega (arith, rw (until, p, q) at e))
     go false false p q more e =
         let m = more (rw (field-on b bs p q) at e) in
-        rw (field-on b bs p q, line-on b bs q) (split-on b (firstLine bs) p _ (m .0), omega (arith, m .1))
+        rw (field-on b bs p q, line-on b bs q) (split-other comma b (firstLine bs) p ∙ ap (onto b) (m .0), omega (arith, m .1))
 
 -- and otherwise it ends there: with an LF, or with the text
 unfoldable Stays : List ℕ → Type 0
@@ -100,7 +92,7 @@ stays (b ∷ bs) = go (eqb b comma) (eqb b lf) refl refl (stays bs)
     go false true p q more e = rw (until, p, q, firstLine, split) (refl, refl, λ h. absurd (h (eqb-true b lf q)))
     go false false p q more e =
         let m = more (rw (field-on b bs p q) at e) in
-        rw (field-on b bs p q, line-on b bs q) (split-on b (firstLine bs) p _ (m .0), ap suc (m .1), λ h. omega (arith, m .2 h))
+        rw (field-on b bs p q, line-on b bs q) (split-other comma b (firstLine bs) p ∙ ap (onto b) (m .0), ap suc (m .1), λ h. omega (arith, m .2 h))
 
 module _ {f : def.Field} {text : List ℕ} {at end stop : ℕ} {x : def.Read} (r : Reads f text at x end stop) where
   here : getD (drop at text) (length (firstField (drop at text))) 0 ≡ stop

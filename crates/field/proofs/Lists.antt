@@ -1,9 +1,12 @@
--- Lists: taking and dropping what was mapped, and an element that is there.
+-- Lists: taking and dropping what was mapped; an element that is there.
 use mathlib.Core.Path.{_≡_, refl, ap}
+use mathlib.Core.Bool.{true}
 use mathlib.Core.List.{List, [], _∷_, map}
 use Prim.Native.Nat.{ℕ, zero, suc, _<_}
 use native.Mathlib.Omega.{arith}
+use borrow.Author.Tests.{eq-eqb}
 use lib.ListN.{length, getD, take, drop}
+use Rattle.definition.specs.Field.{has}
 
 pub take-map : {A B : Type 0} (f : A → B) (k : ℕ) (l : List A) → take k (map f l) ≡ map f (take k l)
 take-map f zero l = refl
@@ -20,3 +23,7 @@ pub inside : (l : List ℕ) (i d e : ℕ) → i < length l → getD l i d ≡ ge
 inside [] i d e h = absurd (omega arith)
 inside (x ∷ l) zero d e h = refl
 inside (x ∷ l) (suc i) d e h = inside l i d e (omega arith)
+
+pub has-here : (y : ℕ) (ys : List ℕ) → has (y ∷ ys) y ≡ true
+unfolding has
+has-here y ys = rw (eq-eqb y y refl, has)

@@ -103,6 +103,16 @@ module _ {bytes : List ℕ} {at r : ℕ} (e : Ends firstLine bytes at r) where
   pub line-is : take (r - at) (drop at bytes) ≡ firstLine (drop at bytes)
   line-is = part-is lf line-part ∙ before-lf (drop at bytes)
 
+-- ---- byte by byte
+
+pub split-sep : (sep b : ℕ) (bs : List ℕ) → eqb b sep ≡ true → split sep (b ∷ bs) ≡ [] ∷ split sep bs
+unfolding split
+split-sep sep b bs e = rw (e, split)
+
+pub split-other : (sep b : ℕ) (bs : List ℕ) → eqb b sep ≡ false → split sep (b ∷ bs) ≡ onto b (split sep bs)
+unfolding split
+split-other sep b bs e = rw (e, split)
+
 -- there is always a part
 pub data Some : List (List ℕ) → Type 0 where
   some-part : {x : List ℕ} {xs : List (List ℕ)} → Some (x ∷ xs)
@@ -117,6 +127,12 @@ split-some sep [] = some-part
 split-some sep (b ∷ bs) =
     elim (eqb b sep) as (λ t. Some (elim t [ true ↦ [] ∷ split sep bs | false ↦ onto b (split sep bs) ]))
     [ true ↦ some-part | false ↦ onto-some b (split-some sep bs) ]
+
+pub split-is : (sep : ℕ) (bs : List ℕ) → (x : List ℕ) × (xs : List (List ℕ)) × (split sep bs ≡ x ∷ xs)
+split-is sep bs = go (split-some sep bs)
+  where
+    go : {ps : List (List ℕ)} → Some ps → (x : List ℕ) × (xs : List (List ℕ)) × (ps ≡ x ∷ xs)
+    go (some-part {x = x} {xs = xs}) = (x, xs, refl)
 
 -- ---- finding an end, byte by byte: nothing stops before i
 pub record Finding (stops : ℕ → Bool) (bytes : List ℕ) (at i : ℕ) : Type 0 where

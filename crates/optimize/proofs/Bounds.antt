@@ -17,7 +17,8 @@ use Rattle.definition.specs.Optimize.{identity}
 use Rattle.definition.specs.Alone.{boundaries}
 use Rattle.rewrite.specs.View.{slotCount, firstOf, Clear}
 use Rattle.rewrite.proofs.Decoding.{first-is, first-none, first-within}
-use Rattle.rewrite.proofs.Marked.{has-here, has-past}
+use Rattle.field.proofs.Lists.{has-here}
+use Rattle.rewrite.proofs.Marked.{has-past}
 use Rattle.rewrite.proofs.Pass.{moved-here, moved-past, moved-set}
 use Rattle.optimize.specs.View.{fixedIn, Bounds}
 use Rattle.optimize.proofs.Tables.{has-fixed}

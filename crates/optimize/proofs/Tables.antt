@@ -14,7 +14,8 @@ use Rattle.definition.specs.Limits.{maxCode}
 use Rattle.definition.specs.Field.{has}
 use Rattle.definition.specs.Rewrite.{movedTo}
 use Rattle.rewrite.specs.View.{isMark, slotCount, Clear}
-use Rattle.rewrite.proofs.Marked.{has-here, has-past, has-where, has-marked}
+use Rattle.field.proofs.Lists.{has-here}
+use Rattle.rewrite.proofs.Marked.{has-past, has-where, has-marked}
 use Rattle.rewrite.proofs.Pass.{moved-here, moved-past}
 use Rattle.optimize.specs.View.{Small, Marks, mapFrom, mapIn, fixedIn}
 

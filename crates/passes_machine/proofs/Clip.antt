@@ -9,10 +9,11 @@ use borrow.Author.Tests.{lt-ltb, le-ltb, ltb-true, ltb-false}
 use lib.Dec.{eqb, ltb}
 use lib.ListN.{length, take, length-append}
 use lib.Seq.{take-nil}
+use Rattle.field.proofs.Parts.{split-is, split-sep, split-other}
 use Rattle.definition.specs.Field.{lf, comma, onto, split}
 use Rattle.definition.specs.Listing.{cutLine, cutLines}
 use Rattle.passes_machine.specs.Machine.{fieldRoom, fieldWidth, fieldAfter, sheetRoom}
-use Rattle.passes_machine.proofs.Text.{hasLF, no-lf, cut, cut-ended, cut-open, split-some, split-sep, split-other}
+use Rattle.passes_machine.proofs.Text.{hasLF, no-lf, cut, cut-ended, cut-open}
 
 -- ---- a byte, in the machine's order: fields before this one, bytes kept of this one
 
@@ -107,10 +108,10 @@ split-line (b ∷ l) i k m w a c = go (eqb b comma) refl m w a c (split-line l)
           first-same (take fieldWidth) (split comma l),
         )
     go false e m zero a c more =
-        let p = split-some comma l in
+        let p = split-is comma l in
         rw (line-wide i k b l e (omega arith) (omega arith), split-other comma b l e, more i k m 0 a c, p .2)
     go false e m (suc w) a c more =
-        let p = split-some comma l in
+        let p = split-is comma l in
         rw (line-byte i k b l e (omega arith) (omega arith), split-other comma b (lineFrom i (suc k) l) e, split-other comma b l e, more i (suc k) m w a (omega arith), p .2)
 
 pub fields-clipped : (l : List ℕ) → split comma (clippedLine l) ≡ take fieldRoom (map (take fieldWidth) (split comma l))
@@ -148,7 +149,7 @@ split-text i k (b ∷ t) = go (eqb b lf) refl (λ j q. split-text j q t)
         → split lf (textFrom i k (b ∷ t)) ≡ first (lineFrom i k) (lineFrom 0 0) (split lf (b ∷ t))
     go true e more = rw (text-lf i k b t e, split-sep lf b (textFrom 0 0 t) e, split-sep lf b t e, more 0 0, first-same (lineFrom 0 0) (split lf t))
     go false e more =
-        let p = split-some lf t in
+        let p = split-is lf t in
         let q : split lf (textFrom (indexAfter i b) (keptAfter i k b) t) ≡ lineFrom (indexAfter i b) (keptAfter i k b) (p .0) ∷ map (lineFrom 0 0) (p .1) =
         more (indexAfter i b) (keptAfter i k b) ∙ ap (first (lineFrom (indexAfter i b) (keptAfter i k b)) (lineFrom 0 0)) (p .2) in
         rw (text-byte i k b t e, split-other lf b t e, p .2) (puts (keepsByte i k b) _ _ _ e q)

@@ -10,6 +10,7 @@ use native.Mathlib.Omega.{arith}
 use borrow.Author.Tests.{ne-eqb, ltb-false}
 use lib.Dec.{leb, ltb, eqb, eqb·suc-zero}
 use lib.ListN.{length, length-append}
+use Rattle.field.proofs.Parts.{split-is, split-sep, split-other}
 use Rattle.definition.specs.Limits.{maxField, entrySize}
 use Rattle.definition.specs.Res.{Res, ok, refuse, _>>=_, _>>_, demand, given}
 use Rattle.definition.specs.Field.{lf, comma, onto, split, Field, upTo}
@@ -20,7 +21,7 @@ use Rattle.definition.specs.Alone.{Given, Rewritten}
 use Rattle.definition.specs.Passes.{malformedLine, word, listLine, entryLine, entriesFrom, offsetsFrom, givenFrom}
 use Rattle.passes_machine.specs.Machine as machine
 use Rattle.passes_machine.specs.Machine.{Phase, Put, Stores, Ending, cut, whole, intoCode, intoOffsets, intoEntries, blank, lastLine, lineAfter, lineIn, withNumber, numberAfter, digitByte, stop, isBlank, entryComma, entryEnd, entryByte, nextIn, next, putIf, ends, putIn, stored, step, steps, endingIn, ending, concludedAs, concluded}
-use Rattle.passes_machine.proofs.Text.{hasLF, no-lf, split-some, split-ended, split-open, split-sep, split-other, storedAll, all-append, line-after}
+use Rattle.passes_machine.proofs.Text.{hasLF, no-lf, split-ended, split-open, storedAll, all-append, line-after}
 use Rattle.passes_machine.proofs.Numbers.{both}
 use Rattle.passes_machine.proofs.Text as text
 use Rattle.passes_machine.proofs.Scan.{numberIn, upToOf, not-blank}
@@ -44,7 +45,7 @@ unfolding entryParts readOn numberIn onto
 entry-onto i x b p ps = refl
 
 entry-other : (i x b : ℕ) (l : List ℕ) → eqb b comma ≡ false → entryOn i (numberAfter x b) l ≡ entryOn i x (b ∷ l)
-entry-other i x b l c = let p = split-some comma l in rw (split-other comma b l c, p .2) (entry-onto i x b (p .0) (p .1))
+entry-other i x b l c = let p = split-is comma l in rw (split-other comma b l c, p .2) (entry-onto i x b (p .0) (p .1))
 
 entry-comma : (i x : ℕ) (ps : List (List ℕ)) → 1 ≤ length ps
     → entryParts i x ([] ∷ ps) ≡ elim (leb x maxField && ltb (suc i) entrySize) [ true ↦ both (some x) (entryParts (suc i) blank ps) | false ↦ none ]
@@ -77,7 +78,7 @@ open-left n [] = refl
 open-left n (b ∷ l) = refl
 
 some-parts : (l : List ℕ) → 1 ≤ length (split comma l)
-some-parts l = let p = split-some comma l in rw (p .2) (omega arith)
+some-parts l = let p = split-is comma l in rw (p .2) (omega arith)
 
 module _ (place n : ℕ) where
   -- a comma
@@ -221,7 +222,7 @@ entries-last place (b ∷ l) h n s near = rw (split-open (b ∷ l) h) (entry-ope
 entries-more : (place : ℕ) (l m : List ℕ) → hasLF l ≡ false → EntriesRead place m → EntriesRead place (l ++ (lf ∷ m))
 unfolding lineIn entriesFrom stored refused
 entries-more place l m h rest n s near =
-    let p = split-some lf m in
+    let p = split-is lf m in
     entry-line place n 0 blank s l m h
     ∙ ap (afterLine place n machine.entryLine intoEntries s m) (entry-read l)
     ∙ rw (split-ended l m h, p .2)
@@ -246,7 +247,7 @@ module _ (place : ℕ) {B C : Type 0} {m : ℕ} {p q : Phase} {into : ℕ → Pu
       → outcome place (lineIn p n 0) s (l ++ (lf ∷ r)) ≡ afterwards place put′ s (listFrom (upTo m) R pair n (split lf (l ++ (lf ∷ r))))
   unfolding lineIn listFrom
   list-ended l r h n s near =
-      let k = split-some lf r in
+      let k = split-is lf r in
       list-line place z n 0 blank s l r h
       ∙ ap (afterLine place n q into s r) (list-read m (z .low) l)
       ∙ rw (split-ended l r h, k .2)

@@ -8,6 +8,7 @@ use native.Mathlib.Omega.{arith}
 use borrow.Author.Tests.{eq-eqb, ne-eqb, ltb-false, leb-true, eqb-true}
 use lib.Dec.{leb, ltb, eqb, eqb·zero-suc, eqb·suc-zero, eqb·suc-suc}
 use lib.ListN.{length}
+use Rattle.field.proofs.Parts.{split-is, split-sep, split-other}
 use Rattle.definition.specs.Limits.{maxField, badSheet}
 use Rattle.definition.specs.Res.{Res, refuse, _>>=_, given}
 use Rattle.definition.specs.Field.{lf, comma, onto, split, upTo, field, malformed, numbers}
@@ -19,7 +20,7 @@ use Rattle.definition.specs.Passes.{these, listLine, malformedLine}
 use Rattle.store.specs.Store.{contents}
 use Rattle.passes_machine.specs.Machine as machine
 use Rattle.passes_machine.specs.Machine.{Phase, Head, Put, Stores, cut, blank, fieldRoom, lineAfter, lineIn, withNumber, fieldAfter, numberAfter, digitByte, stop, isBlank, listComma, listEnd, listByte, nextIn, next, putIf, ends, putIn, stored, step, steps, endingIn, ending, concludedAs, concluded}
-use Rattle.passes_machine.proofs.Text.{hasLF, no-lf, split-some, split-sep, split-other, state, storedAll}
+use Rattle.passes_machine.proofs.Text.{hasLF, no-lf, state, storedAll}
 use Rattle.passes_machine.proofs.Numbers.{both, these-and}
 use Rattle.passes_machine.proofs.Scan.{numberIn, upToOf, scanned, not-blank}
 
@@ -51,7 +52,7 @@ numbers-read m low (suc c) (p ∷ ps) =
 -- a byte that is no comma goes to the number so far
 pub read-other : (m x b : ℕ) (l : List ℕ) → readOn m x (onto b (split comma l)) ≡ readOn m (numberAfter x b) (split comma l)
 unfolding readOn numberIn onto
-read-other m x b l = let p = split-some comma l in rw (p .2)
+read-other m x b l = let p = split-is comma l in rw (p .2)
 
 -- ---- a line of any count
 

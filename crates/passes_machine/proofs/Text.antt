@@ -9,6 +9,7 @@ use native.Mathlib.Omega.{arith}
 use borrow.Author.Tests.{eqb-true, lt-ltb}
 use lib.Dec.{eqb, leb}
 use lib.ListN.{length}
+use Rattle.field.proofs.Parts.{split-is}
 use Rattle.definition.specs.Limits.{maxRules, badRule}
 use Rattle.definition.specs.Res.{Res, ok, refuse, _>>=_, _>>_, demand, given}
 use Rattle.definition.specs.Field.{lf, onto, split}
@@ -91,16 +92,6 @@ unfolding lfs
 lfs-open [] n = refl
 lfs-open (b ∷ l) n = let p = no-lf b l n in rw (p .0, lfs) (lfs-open l (p .1))
 
--- ---- fields or lines, byte by byte
-
-pub split-sep : (sep b : ℕ) (l : List ℕ) → eqb b sep ≡ true → split sep (b ∷ l) ≡ [] ∷ split sep l
-unfolding split
-split-sep sep b l e = rw (e, split)
-
-pub split-other : (sep b : ℕ) (l : List ℕ) → eqb b sep ≡ false → split sep (b ∷ l) ≡ onto b (split sep l)
-unfolding split
-split-other sep b l e = rw (e, split)
-
 -- ---- the machine over bytes and those that follow
 
 abbrev pub state : Head → Stores → State
@@ -127,20 +118,10 @@ line-after n h = rw (lt-ltb n lastLine h, lineAfter)
 
 -- ---- as many rules as lines
 
-pub split-some : (sep : ℕ) (t : List ℕ) → (x : List ℕ) × (xs : List (List ℕ)) × (split sep t ≡ x ∷ xs)
-unfolding split onto
-split-some sep [] = ([], [], refl)
-split-some sep (b ∷ t) = go (eqb b sep) (split-some sep t)
-  where
-    go : (c : Bool) → (x : List ℕ) × (xs : List (List ℕ)) × (split sep t ≡ x ∷ xs)
-        → (x : List ℕ) × (xs : List (List ℕ)) × (_≡_ {A = List (List ℕ)} (elim c [ true ↦ [] ∷ split sep t | false ↦ onto b (split sep t) ]) (x ∷ xs))
-    go true p = ([], split sep t, refl)
-    go false p = (b ∷ p .0, p .1, rw (p .2))
-
 pub lines-lfs : (t : List ℕ) → length (split lf t) ≡ suc (lfs t)
 unfolding split lfs onto
 lines-lfs [] = refl
-lines-lfs (b ∷ t) = go (eqb b lf) (split-some lf t) (lines-lfs t)
+lines-lfs (b ∷ t) = go (eqb b lf) (split-is lf t) (lines-lfs t)
   where
     go : (c : Bool) → (x : List ℕ) × (xs : List (List ℕ)) × (split lf t ≡ x ∷ xs) → length (split lf t) ≡ suc (lfs t)
         → length {A = List ℕ} (elim c [ true ↦ [] ∷ split lf t | false ↦ onto b (split lf t) ]) ≡ suc (elim c [ true ↦ suc (lfs t) | false ↦ lfs t ])
@@ -166,6 +147,6 @@ from-count n l (m ∷ ls) rs = go (leb n maxRules) (readRule l) (rulesFrom (n + 
 pub rules-count : (t : List ℕ) (rs : List Rule) → readRules t ≡ ok rs → length rs ≡ lfs t
 unfolding readRules
 rules-count t rs e =
-    let p = split-some lf t in
+    let p = split-is lf t in
     let q : length rs ≡ length (p .1) = from-count 1 (p .0) (p .1) rs (rw (p .2) at e) in
     omega (arith, q, rw (p .2) at (lines-lfs t))

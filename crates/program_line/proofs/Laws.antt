@@ -7,14 +7,14 @@ use Prim.Native.Nat.{ℕ, zero, suc, _-_, _≤_, _<_}
 use native.Mathlib.Nat.{sub-zero}
 use native.Mathlib.Omega.{arith}
 use borrow.Author.Tests.{lt-ltb, le-ltb, ltb-true, ltb-false, leb-true, ne-eqb}
-use lib.Dec.{eqb, leb, ltb}
+use lib.Dec.{leb, ltb}
 use lib.ListN.{length, getD, take, drop}
 use Rattle.definition.specs.Limits.{maxField, badForm, badRange, tooDeep, wrongLines}
 use Rattle.definition.specs.Field as def
-use Rattle.definition.specs.Field.{comma, onto, split, firstLine, Field, upTo, below, value, Read, malformed, outside, field, natural, naturalWithin, within, Numbers, wrong, far, are, andThese, numbers}
+use Rattle.definition.specs.Field.{comma, split, firstLine, Field, upTo, below, value, Read, malformed, outside, field, natural, naturalWithin, within, Numbers, wrong, far, are, andThese, numbers}
 use Rattle.definition.specs.Program.{Form as LetterForm, is, not, made, byLetter, lineOf, lineAt}
 use Rattle.field.specs.View.{before, Ends}
-use Rattle.field.proofs.Parts.{parts-last, parts-more, line-is}
+use Rattle.field.proofs.Parts.{parts-last, parts-more, line-is, Some, some-part, split-some}
 use Rattle.program_line.specs.declared.Pos.{Pos}
 use Rattle.program_line.specs.declared.Form.{Form}
 use Rattle.program_line.specs.declared.Form.the-variants.{Good, Far, Wrong}
@@ -126,20 +126,13 @@ pub record Ended (line : List ℕ) (fs : List Field) (s : Scan) (r : ℕ) (ns : 
   pub good : r ≡ 0 → left line fs s ≡ are ns
   pub bad : (r ≡ 0 → ⊥) → refused (left line fs s) ≡ r
 
-split-some : (bs : List ℕ) → numbers [] (split comma bs) ≡ wrong
-unfolding numbers split onto
-split-some [] = refl
-split-some (b ∷ bs) =
-    elim (eqb b comma) as (λ t. numbers [] (elim t [ true ↦ [] ∷ split comma bs | false ↦ onto b (split comma bs) ]) ≡ wrong)
-    [ true ↦ refl | false ↦ onto-some (split comma bs) ]
-  where
-    onto-some : (fs : List (List ℕ)) → numbers [] (onto b fs) ≡ wrong
-    onto-some [] = refl
-    onto-some (x ∷ xs) = refl
+numbers-over : {xs : List (List ℕ)} → Some xs → numbers [] xs ≡ wrong
+unfolding numbers
+numbers-over some-part = refl
 
 ended-at : (line : List ℕ) (at : ℕ) (more : Bool) (form : Form) → Ended line [] (record { at = at; more = more; form = form }) (refusalIf more form) []
 unfolding held numbers restFrom refusalIf refused
-ended-at line at true form = record { good = λ h. absurd (omega arith); bad = λ h. rw (split-some (drop at line), held-wrong form) }
+ended-at line at true form = record { good = λ h. absurd (omega arith); bad = λ h. rw (numbers-over (split-some comma (drop at line)), held-wrong form) }
 ended-at line at false Good = record { good = λ h. refl; bad = λ h. absurd (h refl) }
 ended-at line at false Far = record { good = λ h. absurd (omega arith); bad = λ h. refl }
 ended-at line at false Wrong = record { good = λ h. absurd (omega arith); bad = λ h. refl }

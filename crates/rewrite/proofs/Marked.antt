@@ -5,14 +5,11 @@ use mathlib.Core.List.{List, [], _∷_}
 use Prim.Native.Nat.{ℕ, zero, suc, _+_, _≤_, _<_}
 use native.Mathlib.Nat.{add-zero}
 use native.Mathlib.Omega.{arith}
-use borrow.Author.Tests.{eq-eqb, ne-eqb}
+use borrow.Author.Tests.{ne-eqb}
 use lib.ListN.{length, getD}
 use Rattle.definition.specs.Field.{has}
+use Rattle.field.proofs.Lists.{has-here}
 use Rattle.rewrite.specs.View.{offsetsWhere, isMark, marked}
-
-pub has-here : (y : ℕ) (ys : List ℕ) → has (y ∷ ys) y ≡ true
-unfolding has
-has-here y ys = rw (eq-eqb y y refl, has)
 
 pub has-past : (x y : ℕ) (ys : List ℕ) → (x ≡ y → ⊥) → has (y ∷ ys) x ≡ has ys x
 unfolding has

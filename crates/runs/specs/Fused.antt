@@ -141,7 +141,8 @@ fused sheet s r c f e values false = taken-iec (good sheet s r) (negate (f .op))
 
 -- ---- the branch in the code: comparison byte, variable, and an index at which the pool holds the constant
 
-indexed : (k : ℕ) (xs : List ℕ) → indexOf k xs < length xs → getD xs (indexOf k xs) 0 ≡ k
+-- a constant stands at its index
+pub indexed : (k : ℕ) (xs : List ℕ) → indexOf k xs < length xs → getD xs (indexOf k xs) 0 ≡ k
 unfolding indexOf
 indexed k [] lt = absurd (not-suc-le-zero lt)
 indexed k (x ∷ xs) lt = by (eqb x k) refl lt (indexed k xs)
@@ -151,7 +152,7 @@ indexed k (x ∷ xs) lt = by (eqb x k) refl lt (indexed k xs)
     by true p l f = eqb-true x k p
     by false p l f = f (le-of-suc-le-suc l)
 
-index-last : (k : ℕ) (xs : List ℕ) → indexOf k (xs ++ (k ∷ [])) < length (xs ++ (k ∷ []))
+pub index-last : (k : ℕ) (xs : List ℕ) → indexOf k (xs ++ (k ∷ [])) < length (xs ++ (k ∷ []))
 unfolding indexOf
 index-last k [] = subst (λ b. elim b as (λ c. ℕ) [ true ↦ 0 | false ↦ 1 ] < 1) (sym (eq-eqb k k refl)) (suc-le-suc zero-le)
 index-last k (x ∷ xs) = by (eqb x k) (index-last k xs)

@@ -152,7 +152,7 @@ next-mono (resetStackDepth h) n = omega arith
 next-mono (setPosition p) n = omega arith
 next-mono (refused f) n = omega arith
 
-after-mono : (n : ℕ) (cs : List Call) → n ≤ after n cs
+pub after-mono : (n : ℕ) (cs : List Call) → n ≤ after n cs
 unfolding after
 after-mono n [] = omega arith
 after-mono n (c ∷ cs) = le-trans (next-mono c n) (after-mono (next c n) cs)
