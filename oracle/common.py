@@ -1,0 +1,40 @@
+"""What the scripts of oracle/ and tests/ share. A script that cannot run ends with one line and exit status 2."""
+
+import argparse
+import shutil
+import subprocess
+import sys
+from functools import cache
+from pathlib import Path
+
+ROOT = Path(__file__).resolve().parent.parent
+SHEET = ",".join(str(n) for n in [*range(1, 28), *range(1, 7)])     # document 01's example sheet
+
+
+def options(doc):
+    """A parser of the command line, with the script's comment as its help."""
+    return argparse.ArgumentParser(description=doc, formatter_class=argparse.RawDescriptionHelpFormatter)
+
+
+def stop(text):
+    print(f"{Path(sys.argv[0]).resolve().relative_to(ROOT)}: {text}", file=sys.stderr)
+    sys.exit(2)
+
+
+@cache
+def made(script):
+    """Runs oracle/assemble or oracle/build; the folder or the program that it prints. Where it fails it has said why."""
+    run = subprocess.run([ROOT / "oracle" / script], stdout=subprocess.PIPE, text=True)
+    if run.returncode:
+        sys.exit(2)
+    return Path(run.stdout.strip())
+
+
+def proved(*words):
+    """Runs rt on our crates, as `rt check passes`."""
+    if not shutil.which("rt"):
+        stop("rt is not on the PATH")
+    run = subprocess.run(["rt", *words], cwd=ROOT, stdout=subprocess.PIPE, stderr=subprocess.STDOUT, text=True)
+    if run.returncode:
+        print("\n".join(run.stdout.splitlines()[-12:]), file=sys.stderr)
+        stop(f"`rt {' '.join(words)}` failed (above)")
