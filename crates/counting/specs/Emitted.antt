@@ -16,9 +16,9 @@ use Rattle.definition.specs.Emit.{le16, Emitter, Last, other, loaded, stored, P
 use Rattle.definition.specs.Walk.{next, after}
 use Rattle.counting.specs.Pass.{oneIf}
 use Rattle.counting.specs.Once.{OneByte, OneBytes, closes, closed, isBind, binds}
-use Rattle.runs.specs.Results.{never, ok-demand, ok-bind, ok-is}
-use Rattle.runs.specs.Emitted.{fold-bytes}
-use Rattle.runs.specs.Fused.{index-last}
+use Rattle.runs.proofs.Results.{never, ok-demand, ok-bind, ok-is}
+use Rattle.runs.proofs.Emitted.{fold-bytes}
+use Rattle.runs.proofs.Conditions.{index-last}
 use Rattle.counting.specs.Rows.{Row, rowOf, unpatched, bytesOf, codeOf, patchOf, patchesOf, Sized, code-append, patches-append, sized-append, sized-left, Formed, FormedBy, Adds, add-adds, branch-adds}
 
 -- ---- the pool

@@ -18,6 +18,7 @@ use Rattle.definition.specs.Emit.{loadConstant, Emitter, emitterAt, acts}
 use Rattle.definition.specs.Walk.{after}
 use Rattle.definition.specs.Stmt.{countsDown, emitStmts}
 use Rattle.definition.specs.Compile.{FinalizedFunction, finalizeFunction, emitProgram, compileProgram, compileFiles}
+use Rattle.definition.specs.Claims.{Either, left, right}
 use Rattle.opcode.proofs.Faults.{good}
 use Rattle.opcode.proofs.Sheets.{role-of-opcode, comparison-of-byte}
 use Rattle.counting.specs.Machine.{Image, State, isStart}
@@ -28,8 +29,7 @@ use Rattle.counting.specs.Numbers.{counts}
 use Rattle.counting.specs.Counting.{counted, first-ends}
 use Rattle.counting.specs.Once.{OneBytes, below, binds, program-once}
 use Rattle.rules.proofs.File.{no-rules}
-use Rattle.runs.specs.Results.{ok-bind, ok-is, ok-given}
-use Rattle.runs.specs.Heights.{Either, left, right}
+use Rattle.runs.proofs.Results.{ok-bind, ok-is, ok-given}
 use Rattle.counting.specs.ForCalls.{for-calls}
 use Rattle.counting.specs.Found.{found}
 use Rattle.counting.specs.Layout.{rest₀, rest₁, rest₂, rest₅, Emission, emission, laid-out, places-are}

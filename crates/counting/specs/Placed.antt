@@ -15,7 +15,7 @@ use Rattle.definition.specs.Opcode.{Role, Sheet, opcode, roleOf, size}
 use Rattle.definition.specs.Rewrite.{Bytes, decode, startsFrom, boundariesFrom}
 use Rattle.definition.specs.Compile.{displacement}
 use Rattle.definition.specs.Runs.{target}
-use Rattle.runs.specs.Patched.{reached, reached-back}
+use Rattle.runs.proofs.Patched.{reached, reached-back}
 use Rattle.counting.specs.Machine.{Image, operandAt, isStart, roleAt}
 use Rattle.counting.specs.Laid.{Stands}
 use Rattle.counting.specs.Rows.{Row, bytesOf, codeOf, Sized, sized-left, sized-right}

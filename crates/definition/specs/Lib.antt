@@ -18,6 +18,8 @@ pub mod Lent
 pub mod Compile
 pub mod Alone
 pub mod Runs
+pub mod Claims
+pub mod Fused
 pub mod Listing
 pub mod Passes
 pub mod Cases

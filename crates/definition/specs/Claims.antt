@@ -5,15 +5,18 @@ use mathlib.Core.List.{List, [], _∷_, map}
 use mathlib.Core.Bool.{Bool, true, false}
 use mathlib.Core.Option.{Option, some, none}
 use lib.ListN.{length, getD}
 use Rattle.definition.specs.Field.{has}
-use Rattle.definition.specs.Opcode.{Role, Sheet, roleOf, size, flow}
+use Rattle.definition.specs.Opcode.{Role, Sheet, roleOf, size, Flow, onward, away, either, stop, flow}
 use Rattle.definition.specs.Rules.{Rule, matches}
 use Rattle.definition.specs.Rewrite.{Bytes, opcodeOf, decode, startsFrom, OffsetMap, movedTo, applyPeephole}
 use Rattle.definition.specs.Optimize.{Pipeline, run, identity}
 use Rattle.definition.specs.Emit.{Emitter, PendingPatch}
 use Rattle.definition.specs.Compile.{jumpTargets}
 use Rattle.definition.specs.Runs.{Break, finishes, breaks, Stand, target}
-use Rattle.runs.specs.Heights.{Either, branches}
+
+pub data Either (A B : Type 0) : Type 0 where
+  left : A → Either A B
+  right : B → Either A B
 
 -- ---- runs
 
@@ -26,6 +29,13 @@ pub record Fine (s : Sheet) (code : List ℕ) (depth : ℕ) (y : Stand) : Type 0
   pub empty : y .how ≡ finishes → y .state .height ≡ 0
 
 -- ---- branches
+
+-- may an instruction go to a target?
+unfoldable pub branches : Flow → Bool
+branches onward = false
+branches away = true
+branches either = true
+branches stop = false
 
 unfoldable pub isBranch : Option Role → Bool
 isBranch none = false

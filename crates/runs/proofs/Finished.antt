@@ -26,14 +26,14 @@ use Rattle.definition.specs.Lent.{zeros, filled}
 use Rattle.definition.specs.Runs.{target, run, start}
 use Rattle.opcode.proofs.Faults.{good}
 use Rattle.opcode.proofs.Sheets.{role-of-opcode}
-use Rattle.runs.specs.Results.{never, ok-demand, ok-bind, ok-is, ok-given, some-is}
-use Rattle.runs.specs.Heights.{Bound}
-use Rattle.runs.specs.Claims.{Fine, branchPlaces, inTurn, LeadsTo, Each, empty, _also_, BranchLeads, Branches}
-use Rattle.runs.specs.Rows.{Row, bytes-of, place-at, height-first, place-first, place-end, place-within, patchHere, patchesBy, patches-same, Linked}
-use Rattle.runs.specs.Emitted.{Stands, Placed, Acted, created, emitted}
-use Rattle.runs.specs.Passes.{Reads, Fine as FineMatcher, rules-fine, looked-moved, Piped, optimize-piped, moved-in-turn}
-use Rattle.runs.specs.Patched.{aimedRows, aimed-first, aimed-heights, aimed-count, aimed-linked, aimed-places, aimed-patches, aim-at, aimed-aims, patchWith, movedPatch, patchJumps-with, patched-rows, row-target}
-use Rattle.runs.specs.Running.{has-first, has-later, run-fine, row-leads, branch-places, each-patch}
+use Rattle.runs.proofs.Results.{never, ok-demand, ok-bind, ok-is, ok-given, some-is}
+use Rattle.runs.proofs.Heights.{Bound}
+use Rattle.definition.specs.Claims.{Fine, branchPlaces, inTurn, LeadsTo, Each, empty, _also_, BranchLeads, Branches}
+use Rattle.runs.proofs.Rows.{Row, bytes-of, place-at, height-first, place-first, place-end, place-within, patchHere, patchesBy, patches-same, Linked}
+use Rattle.runs.proofs.Emitted.{Stands, Placed, Acted, created, emitted}
+use Rattle.runs.proofs.Passes.{Reads, Fine as FineMatcher, rules-fine, looked-moved, Piped, optimize-piped, moved-in-turn}
+use Rattle.runs.proofs.Patched.{aimedRows, aimed-first, aimed-heights, aimed-count, aimed-linked, aimed-places, aimed-patches, aim-at, aimed-aims, patchWith, movedPatch, patchJumps-with, patched-rows, row-target}
+use Rattle.runs.proofs.Running.{has-first, has-later, run-fine, row-leads, branch-places, each-patch}
 
 -- ---- patches and what holds of each
 

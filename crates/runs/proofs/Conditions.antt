@@ -21,32 +21,11 @@ use Rattle.definition.specs.CompileExpr.{ClassifiedCmp, readOf, constantOf, zip
 use Rattle.definition.specs.Stmt.{Loops, branchUnlessBy, branchUnless, loopBody, endTestBy, whileBy, repeatBy}
 use Rattle.opcode.proofs.Faults.{good}
 use Rattle.opcode.proofs.Branches.{iec-negate, iec-commute, taken-iec}
-use Rattle.runs.specs.Results.{never, ok-demand, ok-bind, ok-is}
-use Rattle.runs.specs.Emitted.{add-ok}
+use Rattle.definition.specs.Fused.{side, holds, goes}
+use Rattle.runs.proofs.Results.{never, ok-demand, ok-bind, ok-is}
+use Rattle.runs.proofs.Emitted.{add-ok}
 
 -- ---- what a condition says
-
--- the bits of a side that is a variable or a constant, where the variables hold these
-unfoldable pub side : (ℕ → ℕ) → Expr → ℕ
-side values (const k) = k
-side values (bool b) = 0
-side values (read v) = values v
-side values (binary o a b) = 0
-side values (unary o a) = 0
-side values (compare c a b) = 0
-side values (shortCircuit o a b) = 0
-side values (bad f) = 0
-
--- IEC's comparison of the two sides, in the order in which they are written
-unfoldable pub holds : (ℕ → ℕ) → Expr → Bool
-holds values (const k) = false
-holds values (bool b) = false
-holds values (read v) = false
-holds values (binary o a b) = false
-holds values (unary o a) = false
-holds values (compare c a b) = iec c (signedOf width (side values a)) (signedOf width (side values b))
-holds values (shortCircuit o a b) = false
-holds values (bad f) = false
 
 read-side : (values : ℕ → ℕ) (a : Expr) (v : ℕ) → readOf a ≡ some v → side values a ≡ values v
 unfolding readOf side
@@ -124,11 +103,6 @@ pub emits : (f : ClassifiedCmp) (on : Bool) (target : ℕ) → emitClassifiedCmp
 unfolding emitClassifiedCmpBr emittedOp
 emits f true target = refl
 emits f false target = refl
-
--- does a branch on `on` go, where the condition is as said?
-unfoldable pub goes : Bool → Bool → Bool
-goes true says = says
-goes false says = not says
 
 -- For a condition that is fused, the branch, with the comparison byte that is emitted for it, is taken exactly when IEC's comparison of
 -- the condition as it is written holds, branching on true, or does not hold, branching on false.

@@ -4,8 +4,8 @@ use mathlib.Core.Path.{_≡_}
 use mathlib.Core.Bool.{true}
 use native.Mathlib.Omega.{arith}
 use Rattle.definition.specs.Opcode.{Role, dup, pop, loadVar, storeVar, loadConst, loadTrue, loadFalse, binary, unary, compare, jmp, jmpIfNot, cmpBr, ret, row, traits, size, flow}
-use Rattle.runs.specs.Results.{never}
-use Rattle.runs.specs.Heights.{branches}
+use Rattle.definition.specs.Claims.{branches}
+use Rattle.runs.proofs.Results.{never}
 
 -- a branch has two operand bytes at least
 pub branch-size : (r : Role) → branches (flow r) ≡ true → 3 ≤ size r

@@ -1,7 +1,6 @@
 pub mod Results
 pub mod Heights
 pub mod Emission
-pub mod Claims
 pub mod Roles
 pub mod Rows
 pub mod Emitted
@@ -10,4 +9,4 @@ pub mod Passes
 pub mod Patched
 pub mod Running
 pub mod Finished
-pub mod Fused
+pub mod Conditions

@@ -10,24 +10,15 @@ use Rattle.definition.specs.Opcode.{Role, CompareOp, size, needs, effect, same,
 use Rattle.definition.specs.Tree.{Pos, Fault}
 use Rattle.definition.specs.Emit.{Call, createLabel, bindLabel, loadVariable, storeVariable, loadConstant, addConstant, emitOpcode, emitJmp, emitJmpIfNot, emitCmpBr, resetStackDepth, setPosition, refused}
 use Rattle.definition.specs.Walk.{next, after, Calls, _>>=_, _>>_, say, nothing, newLabel}
-use Rattle.runs.specs.Results.{never}
+use Rattle.definition.specs.Claims.{Either, left, right, branches}
+use Rattle.runs.proofs.Results.{never}
 
-pub data Either (A B : Type 0) : Type 0 where
-  left : A → Either A B
-  right : B → Either A B
-
--- does a run go on behind an instruction, and may it go to a target?
+-- does a run go on behind an instruction?
 unfoldable pub falls : Flow → Bool
 falls onward = true
 falls away = false
 falls either = true
 falls stop = false
-
-unfoldable pub branches : Flow → Bool
-branches onward = false
-branches away = true
-branches either = true
-branches stop = false
 
 unfoldable pub Stops : Flow → Type 0
 Stops onward = ⊥

@@ -15,10 +15,10 @@ use Rattle.definition.specs.Emit.{le16, PendingPatch}
 use Rattle.definition.specs.Rewrite.{OffsetMap, movedTo}
 use Rattle.definition.specs.Compile.{boundLabel, displacement, overwrite, patchJump, patchJumps}
 use Rattle.definition.specs.Runs.{target}
-use Rattle.runs.specs.Results.{never}
-use Rattle.runs.specs.Heights.{branches}
-use Rattle.runs.specs.Roles.{branch-size}
-use Rattle.runs.specs.Rows.{Row, next-height, bytes-of, place-at, place-first, height-at, first-height, patchHere, patchesBy, patches-same, Leads, nowhere, to, RowOk, Linked, finished, follows}
+use Rattle.definition.specs.Claims.{branches}
+use Rattle.runs.proofs.Results.{never}
+use Rattle.runs.proofs.Roles.{branch-size}
+use Rattle.runs.proofs.Rows.{Row, next-height, bytes-of, place-at, place-first, height-at, first-height, patchHere, patchesBy, patches-same, Leads, nowhere, to, RowOk, Linked, finished, follows}
 
 -- ---- the displacement, written and read
 

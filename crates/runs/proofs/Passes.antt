@@ -18,10 +18,10 @@ use Rattle.definition.specs.Emit.{le16}
 use Rattle.definition.specs.Rewrite.{Bytes, opcodeOf, ends, sizeOr1, cut, decode, boundariesFrom, instruction, Matcher, actions, applied, output, OffsetMap, offsets, movedTo, applyPeephole}
 use Rattle.definition.specs.Optimize.{Pipeline, mapThrough, run, identity, optimize}
 use Rattle.rules.proofs.Pairs.{Pair, rewritten, read-accepted, matched, variable-size}
-use Rattle.runs.specs.Results.{never, some-is}
-use Rattle.runs.specs.Claims.{unmoved, passMap, inTurn}
-use Rattle.runs.specs.Rows.{Row, bytes-of, place-at, place-first, height-at, first-height, patchesBy, Linked, finished, follows}
-use Rattle.runs.specs.Rewritten.{kept, apply, past, move, Fits, over, alone, pair, Outer, rewrite-linked, height-moved, move-within, patches-moved}
+use Rattle.runs.proofs.Results.{never, some-is}
+use Rattle.definition.specs.Claims.{unmoved, passMap, inTurn}
+use Rattle.runs.proofs.Rows.{Row, bytes-of, place-at, place-first, height-at, first-height, patchesBy, Linked, finished, follows}
+use Rattle.runs.proofs.Rewritten.{kept, apply, past, move, Fits, over, alone, pair, Outer, rewrite-linked, height-moved, move-within, patches-moved}
 
 unfoldable pub insOf : Sheet → Row → Bytes
 insOf s r = opcode s (r .role) ∷ r .operand

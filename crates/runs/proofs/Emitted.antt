@@ -17,11 +17,11 @@ use Rattle.definition.specs.Tree.{Pos, Block}
 use Rattle.definition.specs.Emit.{le16, Emitter, emitterAt, Last, other, loaded, stored, LineEntry, PendingPatch, added, add, folded, foldStore, loadAfter, withConstant, pooledIf, pooled, patched, labelled, settled, branch, act, acts, Call, createLabel, bindLabel, loadVariable, storeVariable, loadConstant, addConstant, emitOpcode, emitJmp, emitJmpIfNot, emitCmpBr, resetStackDepth, setPosition, refused}
 use Rattle.definition.specs.Walk.{next}
 use Rattle.definition.specs.Stmt.{emitStmts}
-use Rattle.runs.specs.Results.{never, ok-demand, ok-bind, ok-is}
-use Rattle.runs.specs.Heights.{Either, left, right, falls, branches, Stops, Held, Holds, aim, Step, Safe, ends, goes, Jumps, this, later, Bound, here, there}
-use Rattle.runs.specs.Emission.{program-sound, Nobody}
-use Rattle.runs.specs.Claims.{Each, empty, _also_}
-use Rattle.runs.specs.Rows.{Row, next-height, bytes-of, place-at, height-at, first-height, first-snoc, patchHere, patchesBy, Leads, nowhere, to, RowOk, Linked, finished, bytes-snoc, place-end, height-end, place-snoc, height-snoc, patches-snoc, linked-snoc, linked-init, linked-mono}
+use Rattle.runs.proofs.Results.{never, ok-demand, ok-bind, ok-is}
+use Rattle.runs.proofs.Heights.{falls, Stops, Held, Holds, aim, Step, Safe, ends, goes, Jumps, this, later, Bound, here, there}
+use Rattle.runs.proofs.Emission.{program-sound, Nobody}
+use Rattle.definition.specs.Claims.{Either, left, right, branches, Each, empty, _also_}
+use Rattle.runs.proofs.Rows.{Row, next-height, bytes-of, place-at, height-at, first-height, first-snoc, patchHere, patchesBy, Leads, nowhere, to, RowOk, Linked, finished, bytes-snoc, place-end, height-end, place-snoc, height-snoc, patches-snoc, linked-snoc, linked-init, linked-mono}
 
 pub add-ok : (s : Sheet) (r : Role) (o : List ℕ) (l : Last) (e e′ : Emitter) → add s r o l e ≡ ok e′
     → (xs : List LineEntry) × (e′ ≡ added s r o l xs e) × (length (e .bytecode) + suc (length o) ≤ maxCode)

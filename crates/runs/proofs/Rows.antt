@@ -9,8 +9,9 @@ use native.Mathlib.Omega.{arith}
 use native.Mathlib.Nat.{le-trans, le-of-suc-le-suc, not-suc-le-zero}
 use Rattle.definition.specs.Opcode.{Role, Sheet, opcode, size, needs, effect, flow, shift}
 use Rattle.definition.specs.Emit.{PendingPatch}
-use Rattle.runs.specs.Results.{never}
-use Rattle.runs.specs.Heights.{falls, branches, Stops}
+use Rattle.definition.specs.Claims.{branches}
+use Rattle.runs.proofs.Results.{never}
+use Rattle.runs.proofs.Heights.{falls, Stops}
 
 pub record Row : Type 0 where
   pub role : Role

@@ -16,13 +16,13 @@ use Rattle.definition.specs.Opcode.{Role, Sheet, opcode, roleOf, size, needs, e
 use Rattle.definition.specs.Emit.{PendingPatch}
 use Rattle.definition.specs.Rewrite.{opcodeOf, decode, startsFrom}
 use Rattle.definition.specs.Runs.{State, offCode, emptyStack, Step, goes, finishes, waits, breaks, target, jump, branch, follow, outOfOutcomes, execute, executeIf, step, Stand, stand, run}
-use Rattle.runs.specs.Results.{never}
-use Rattle.runs.specs.Heights.{Either, left, right, falls, branches, Stops}
-use Rattle.runs.specs.Rows.{Row, next-height, bytes-of, place-at, height-at, height-first, height-end, place-first, place-end, patchHere, patchesBy, patches-same, Leads, nowhere, to, leads-to, RowOk, Linked, finished, follows}
-use Rattle.runs.specs.Emitted.{Stands}
-use Rattle.runs.specs.Passes.{insOf, Reads, decode-rows}
-use Rattle.runs.specs.Patched.{aim-at}
-use Rattle.runs.specs.Claims.{Fine, isBranch, branchesFrom, branchPlaces, LeadsTo, Each, empty, _also_}
+use Rattle.runs.proofs.Results.{never}
+use Rattle.runs.proofs.Heights.{falls, Stops}
+use Rattle.runs.proofs.Rows.{Row, next-height, bytes-of, place-at, height-at, height-first, height-end, place-first, place-end, patchHere, patchesBy, patches-same, Leads, nowhere, to, leads-to, RowOk, Linked, finished, follows}
+use Rattle.runs.proofs.Emitted.{Stands}
+use Rattle.runs.proofs.Passes.{insOf, Reads, decode-rows}
+use Rattle.runs.proofs.Patched.{aim-at}
+use Rattle.definition.specs.Claims.{Either, left, right, branches, Fine, isBranch, branchesFrom, branchPlaces, LeadsTo, Each, empty, _also_}
 
 -- ---- what the bytes of rows say at row i
 

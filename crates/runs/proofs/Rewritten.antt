@@ -9,9 +9,10 @@ use native.Mathlib.Omega.{arith}
 use Rattle.definition.specs.Opcode.{shift, onward, effect, flow}
 use Rattle.definition.specs.Rules.{Action, keep, remove, rewriteOperand, allowed}
 use Rattle.definition.specs.Emit.{le16}
+use Rattle.definition.specs.Claims.{branches}
 use Rattle.rules.proofs.Pairs.{Pair, Keeps, neither, former, latter, both, keeps, rewritten, variable-size}
-use Rattle.runs.specs.Heights.{falls, branches}
-use Rattle.runs.specs.Rows.{Row, next-height, height-at, first-height, height-first, patchHere, patchesBy, leads-nowhere, RowOk, Linked, follows}
+use Rattle.runs.proofs.Heights.{falls}
+use Rattle.runs.proofs.Rows.{Row, next-height, height-at, first-height, height-first, patchHere, patchesBy, leads-nowhere, RowOk, Linked, follows}
 
 -- what an action leaves of a row
 unfoldable pub kept : Action → Row → List Row

@@ -14,8 +14,9 @@ use Rattle.definition.specs.Walk.{Calls, when}
 use Rattle.definition.specs.CompileExpr.{ClassifiedCmp, constantOf, classify, emitClassifiedCmpBr}
 use Rattle.definition.specs.Expr.{emitExpr}
 use Rattle.definition.specs.Stmt.{LoopLabels, Loops, labels, jumpTo, exitOf, nextOf, continues, continuesStmt, continuesArms, isDone, Shape, while, repeat, plain, shape, branchUnlessBy, branchUnless, elsePart, testAgainst, testLabel, testLabels, armBody, emitArm, loopBody, countsDown, bound, endTestBy, emitFor, whileBy, emitWhile, repeatBy, emitRepeat, emitPlain, emitLoop, sourceOf, recordPosition, emitStmt, emitBlock, emitRest, emitArms, emitStmts}
-use Rattle.runs.specs.Results.{never}
-use Rattle.runs.specs.Heights.{left, right, Binds, sooner, further, binds, inside, Sound, With, wider, _⨾_, opens, leaves, silent, loads, stores, pushes, pools, emits, returns, binding, resets, places, refuses, jumps, unless, compares}
+use Rattle.definition.specs.Claims.{left, right}
+use Rattle.runs.proofs.Results.{never}
+use Rattle.runs.proofs.Heights.{Binds, sooner, further, binds, inside, Sound, With, wider, _⨾_, opens, leaves, silent, loads, stores, pushes, pools, emits, returns, binding, resets, places, refuses, jumps, unless, compares}
 
 -- ---- expressions
 
