@@ -18,6 +18,7 @@ pub mod Lent
 pub mod Compile
 pub mod Alone
 pub mod Runs
+pub mod Machine
 pub mod Listing
 pub mod Passes
 pub mod Cases
