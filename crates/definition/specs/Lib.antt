@@ -20,6 +20,7 @@ pub mod Alone
 pub mod Runs
 pub mod Claims
 pub mod Fused
+pub mod Machine
 pub mod Listing
 pub mod Passes
 pub mod Cases

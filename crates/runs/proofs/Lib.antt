@@ -10,3 +10,4 @@ pub mod Patched
 pub mod Running
 pub mod Finished
 pub mod Conditions
+pub mod Values
