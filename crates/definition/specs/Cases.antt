@@ -27,12 +27,14 @@ use Rattle.definition.specs.Compile.{FinalizedFunction, compileFiles, op
 use Rattle.definition.specs.Alone.{open-Alone}
 use Rattle.definition.specs.Runs.{open-Runs}
 use Rattle.definition.specs.Machine.{open-Machine}
+use Rattle.definition.specs.For.{open-For}
+use Rattle.definition.specs.Count.{open-Count}
 use Rattle.definition.specs.Listing.{text, listed, open-Listing}
 use Rattle.definition.specs.Passes.{open-Passes}
 
 -- `unfolding open-Definition` names every definition of the crate
 unfoldable pub open-Definition : Unit {0}
-unfolding open-Res open-Field open-Opcode open-Iec open-Sheet open-Rules open-Program open-Emit open-Walk open-CompileExpr open-Expr open-Stmt open-Rewrite open-Optimize open-Lent open-Compile open-Alone open-Runs open-Machine open-Listing open-Passes
+unfolding open-Res open-Field open-Opcode open-Iec open-Sheet open-Rules open-Program open-Emit open-Walk open-CompileExpr open-Expr open-Stmt open-Rewrite open-Optimize open-Lent open-Compile open-Alone open-Runs open-Machine open-For open-Count open-Listing open-Passes
 open-Definition = tt
 
 unfoldable pub bytes : String → List ℕ

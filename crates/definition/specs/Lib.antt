@@ -21,6 +21,8 @@ pub mod Runs
 pub mod Claims
 pub mod Fused
 pub mod Machine
+pub mod For
+pub mod Count
 pub mod Listing
 pub mod Passes
 pub mod Cases

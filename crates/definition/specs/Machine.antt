@@ -9,11 +9,13 @@ use lib.Dec.{eqb}
 use lib.ListN.{length, getD}
 use lib.IntN.{ℤ, pos, negsuc, negℤ, _+ℤ_, _-ℤ_, _*ℤ_}
 use lib.Signed.{quotZ, remZ}
+use Rattle.definition.specs.Limits.{width}
 use Rattle.definition.specs.Field.{has}
 use Rattle.definition.specs.Opcode.{Role, dup, pop, loadVar, storeVar, loadConst, loadTrue, loadFalse, binary, unary, compare, jmp, jmpIfNot, cmpBr, ret, BinaryOp, Add, Sub, Mul, Div, Mod, BoolAnd, BoolOr, BoolXor, UnaryOp, Neg, BoolNot, Sheet, roleOf, size, effect, shift, Flow, onward, away, either, stop, flow}
 use Rattle.definition.specs.Rules.{hasRole}
 use Rattle.definition.specs.Iec.{signedOf, iec, taken}
 use Rattle.definition.specs.Rewrite.{decode, startsFrom}
+use Rattle.definition.specs.Compile.{FinalizedFunction}
 use Rattle.definition.specs.Runs.{Break, offCode, emptyStack, target}
 use Rattle.definition.specs.Runs as runs
 
@@ -23,6 +25,10 @@ pub record Image : Type 0 where
   pub sheet : Sheet
   pub bytecode : List ℕ
   pub constants : List ℕ
+
+-- a finished function with its sheet
+unfoldable pub imageOf : Sheet → FinalizedFunction → Image
+imageOf s c = record { width = width; sheet = s; bytecode = c .bytecode; constants = c .constants }
 
 pub record State : Type 0 where
   pub place : ℕ
@@ -200,5 +206,5 @@ stepInRuns x os (breaks b) = runs.breaks b
 
 -- `unfolding open-Machine` names all of this module's definitions at once
 unfoldable pub open-Machine : Unit {0}
-unfolding wrapped onNumbers truth bit differ dividedBy calculate unaryResult operandAt constantAt compares at stored popOne popTwo leadsTo calculated branchIf execute executeIf isStart roleAt step andThen afterSteps inRuns outcomeIf outcomeOf decided stepInRuns
+unfolding imageOf wrapped onNumbers truth bit differ dividedBy calculate unaryResult operandAt constantAt compares at stored popOne popTwo leadsTo calculated branchIf execute executeIf isStart roleAt step andThen afterSteps inRuns outcomeIf outcomeOf decided stepInRuns
 open-Machine = tt

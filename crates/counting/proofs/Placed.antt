@@ -16,10 +16,10 @@ use Rattle.definition.specs.Rewrite.{Bytes, decode, startsFrom, boundariesFrom}
 use Rattle.definition.specs.Compile.{displacement}
 use Rattle.definition.specs.Runs.{target}
 use Rattle.runs.proofs.Patched.{reached, reached-back}
-use Rattle.counting.specs.Machine.{Image, operandAt, isStart, roleAt}
-use Rattle.counting.specs.Laid.{Stands}
-use Rattle.counting.specs.Rows.{Row, bytesOf, codeOf, Sized, sized-left, sized-right}
-use Rattle.counting.specs.Finished.{joined, Whole, Wholes, decode-joined, patchedWith, finalBytes, finalRows, final-length, final-wholes}
+use Rattle.definition.specs.Machine.{Image, operandAt, isStart, roleAt}
+use Rattle.counting.proofs.Laid.{Stands}
+use Rattle.counting.proofs.Rows.{Row, bytesOf, codeOf, Sized, sized-left, sized-right}
+use Rattle.counting.proofs.Finished.{joined, Whole, Wholes, decode-joined, patchedWith, finalBytes, finalRows, final-length, final-wholes}
 
 -- ---- lists of instructions
 

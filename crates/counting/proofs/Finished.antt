@@ -17,7 +17,7 @@ use Rattle.definition.specs.Rewrite.{Bytes, ends, sizeOr1, cut, decode, boundar
 use Rattle.definition.specs.Optimize.{Pipeline, mapThrough, run, identity, optimize}
 use Rattle.definition.specs.Compile.{boundLabel, displacement, overwrite, patchJump, patchJumps}
 use Rattle.field.proofs.Lists.{has-here}
-use Rattle.counting.specs.Rows.{Row, unpatched, bytesOf, codeOf, patchOf, patchesOf, Sized}
+use Rattle.counting.proofs.Rows.{Row, unpatched, bytesOf, codeOf, patchOf, patchesOf, Sized}
 
 -- ---- decoding
 

@@ -10,8 +10,8 @@ use Rattle.definition.specs.Emit.{Call, createLabel}
 use Rattle.definition.specs.Walk.{next, after, Walk, Calls, _>>=_, _>>_, newLabel}
 use Rattle.definition.specs.CompileExpr.{ClassifiedCmp, classify}
 use Rattle.definition.specs.Stmt.{Loops, isDone, isExitStmt, isExit, onlyIf, exitWhen, exitUnless, Shape, while, repeat, plain, repeatOr, whileOr, shape, branchUnless, elsePart, armBody, emitArm, loopBody, continues, emitFor, whileBy, emitWhile, repeatBy, emitRepeat, emitPlain, emitLoop, emitStmt, emitBlock, emitRest, emitArms, emitStmts}
-use Rattle.counting.specs.Once.{after-append}
-use Rattle.counting.specs.Stands.{In, here, inside, behind, InStmt, inThen, inElse, inArms, inOther, inFor, inBody, inContinuing, InArms, inArm, inLater, Emits, For, forStmt}
+use Rattle.counting.proofs.Once.{after-append}
+use Rattle.definition.specs.For.{In, here, inside, behind, InStmt, inThen, inElse, inArms, inOther, inFor, inBody, inContinuing, InArms, inArm, inLater, Emits, For, forStmt}
 
 -- a walk among whose calls are those of t
 record Split (t : Stmt) (n : ℕ) (calls : List Call) : Type 0 where

@@ -16,7 +16,7 @@ use Rattle.definition.specs.Walk.{next, after, Walk, Calls, _>>=_, _>>_, say, n
 use Rattle.definition.specs.CompileExpr.{ClassifiedCmp, constantOf, classify, emitClassifiedCmpBr}
 use Rattle.definition.specs.Expr.{emitExpr}
 use Rattle.definition.specs.Stmt.{Loops, labels, jumpTo, exitOf, nextOf, continues, isDone, Shape, while, repeat, plain, shape, branchUnlessBy, branchUnless, elsePart, testAgainst, testLabel, testLabels, armBody, emitArm, loopBody, countsDown, bound, endTestBy, emitFor, whileBy, emitWhile, repeatBy, emitRepeat, emitPlain, emitLoop, sourceOf, recordPosition, emitStmt, emitBlock, emitRest, emitArms, emitStmts}
-use Rattle.counting.specs.Pass.{oneIf}
+use Rattle.definition.specs.Count.{oneIf}
 
 -- ---- what is counted
 

@@ -1,7 +1,4 @@
-pub mod Machine
-pub mod Pass
 pub mod Laid
-pub mod Stands
 pub mod Numbers
 pub mod Counting
 pub mod Once
@@ -10,7 +7,7 @@ pub mod Emitted
 pub mod Finished
 pub mod Placed
 pub mod ForCalls
-pub mod Layout
+pub mod LaidOut
 pub mod Found
 pub mod Passes
 pub mod Example

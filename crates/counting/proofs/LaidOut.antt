@@ -24,19 +24,19 @@ use Rattle.definition.specs.Optimize.{optimize}
 use Rattle.definition.specs.Compile.{boundOr0, boundLabel, displacement, patchJumps, jumpTargets, finalizeFunction}
 use Rattle.definition.specs.Runs.{target}
 use Rattle.definition.specs.Claims.{Either, left, right}
-use Rattle.counting.specs.Machine.{Image, operandAt, isStart}
-use Rattle.counting.specs.Pass.{Places, oneIf}
-use Rattle.counting.specs.Laid.{constantAt, Opening, Laid}
-use Rattle.counting.specs.Stands.{Emits, For, forStmt, settingOf, testingOf, bodyOf, countingOf, lengthOf, placeAfter, placesOf, imageOf}
-use Rattle.counting.specs.Once.{OneByte, OneBytes, bytes-left, bytes-right, binds, isBind, binds-append}
+use Rattle.definition.specs.Machine.{Image, operandAt, constantAt, isStart, imageOf}
+use Rattle.definition.specs.For.{Places, Emits, For, forStmt, settingOf, testingOf, bodyOf, countingOf, lengthOf, placeAfter, placesOf}
+use Rattle.definition.specs.Count.{oneIf}
+use Rattle.counting.proofs.Laid.{Opening, Laid}
+use Rattle.counting.proofs.Once.{OneByte, OneBytes, bytes-left, bytes-right, binds, isBind, binds-append}
 use Rattle.runs.proofs.Results.{ok-demand, ok-bind, ok-is}
 use Rattle.runs.proofs.Heights.{after-mono}
 use Rattle.runs.proofs.Conditions.{indexed}
-use Rattle.counting.specs.Rows.{Row, rowOf, unpatched, bytesOf, codeOf, patchesOf, Sized, code-append, FormedBy}
-use Rattle.counting.specs.Emitted.{rowsOf, lastOf, labelsOf, Names, foldsInto, folds, acted, folded-formed, Tail, NotLoaded, Within, Goes, goes-all, acts-append}
-use Rattle.counting.specs.Finished.{joined, optimize-same, diagonal, moved-diagonal, among-self, finalBytes, finalRows, patchedWith, instructionsOf, code-joined, goalIn, patched-all, wholes}
-use Rattle.counting.specs.ForCalls.{body-closed}
-use Rattle.counting.specs.Placed.{Placed, placed, no-start, operand-at, target-at, boundary-between}
+use Rattle.counting.proofs.Rows.{Row, rowOf, unpatched, bytesOf, codeOf, patchesOf, Sized, code-append, FormedBy}
+use Rattle.counting.proofs.Emitted.{rowsOf, lastOf, labelsOf, Names, foldsInto, folds, acted, folded-formed, Tail, NotLoaded, Within, Goes, goes-all, acts-append}
+use Rattle.counting.proofs.Finished.{joined, optimize-same, diagonal, moved-diagonal, among-self, finalBytes, finalRows, patchedWith, instructionsOf, code-joined, goalIn, patched-all, wholes}
+use Rattle.counting.proofs.ForCalls.{body-closed}
+use Rattle.counting.proofs.Placed.{Placed, placed, no-start, operand-at, target-at, boundary-between}
 
 -- ---- calls, one by one
 

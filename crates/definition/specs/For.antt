@@ -3,15 +3,12 @@ use Prim.Native.Nat.{ℕ, suc}
 use mathlib.Core.Path.{_≡_}
 use mathlib.Core.List.{List, [], _∷_, _++_}
 use lib.ListN.{length}
 use Rattle.definition.specs.Res.{Res, ok, refuse}
 use Rattle.definition.specs.Opcode.{Sheet, Gt, Add, binary}
 use Rattle.definition.specs.Tree.{CaseLabel, Source, Expr, const, Stmt, if, case, for, loop, Block, _then_, Arms, arm, Program}
 use Rattle.definition.specs.Emit.{Call, createLabel, bindLabel, loadVariable, storeVariable, loadConstant, emitOpcode, emitJmp, emitCmpBr, Emitter, emitterAt, acts}
 use Rattle.definition.specs.Walk.{after}
 use Rattle.definition.specs.Stmt.{Loops, loopBody, continues, emitStmt, emitBlock, emitStmts}
-use Rattle.definition.specs.Compile.{FinalizedFunction}
-use Rattle.counting.specs.Machine.{Image}
-use Rattle.counting.specs.Pass.{Places}
 
 -- ---- a statement of a program that is emitted: an arm without labels is not
 
@@ -71,6 +68,19 @@ countingOf f n = loadVariable (f .control) ∷ loadConstant (f .step) ∷ emitOp
 
 -- ---- places
 
+-- where the parts of a FOR stand in finished code
+pub record Places : Type 0 where
+  -- its first instruction
+  pub first : ℕ
+  -- its end test, a CMP_BR
+  pub endTest : ℕ
+  -- the first place of its body
+  pub body : ℕ
+  -- the place after its body, where the control is counted up
+  pub increment : ℕ
+  -- the place after it
+  pub end : ℕ
+
 unfoldable pub lengthOf : Res Emitter → ℕ
 lengthOf (ok e) = length (e .bytecode)
 lengthOf (refuse n p) = 0
@@ -90,10 +100,7 @@ placesOf s p f o =
       end = placeAfter s p (o .before ++ (settingOf f ++ (testingOf f n ++ (bodyOf f (o .loops) n ++ countingOf f n))));
     }
 
-unfoldable pub imageOf : Sheet → FinalizedFunction → Image
-imageOf s c = record { sheet = s; bytecode = c .bytecode; constants = c .constants }
-
--- `unfolding open-Stands` names all of this module's definitions at once
-unfoldable pub open-Stands : Unit {0}
-unfolding forStmt settingOf testingOf bodyOf countingOf lengthOf placeAfter placesOf imageOf
-open-Stands = tt
+-- `unfolding open-For` names all of this module's definitions at once
+unfoldable pub open-For : Unit {0}
+unfolding forStmt settingOf testingOf bodyOf countingOf lengthOf placeAfter placesOf
+open-For = tt

@@ -6,18 +6,14 @@ use mathlib.Core.Option.{some}
 use lib.ListN.{length, getD}
 use Rattle.definition.specs.Opcode.{Role, loadVar, storeVar, loadConst, binary, jmp, cmpBr, Add, Gt, comparisonOf}
 use Rattle.definition.specs.Runs.{target}
-use Rattle.counting.specs.Machine.{Image, operandAt, isStart, roleAt}
-use Rattle.counting.specs.Pass.{Places}
+use Rattle.definition.specs.Machine.{Image, operandAt, constantAt, isStart, roleAt}
+use Rattle.definition.specs.For.{Places}
 
 -- an instruction of role r starts at place p
 pub record Stands (m : Image) (p : ℕ) (r : Role) : Type 0 where
   pub before : p < length (m .bytecode)
   pub start : isStart m p ≡ true
   pub role : roleAt m p ≡ some r
-
--- the constant that an operand at place p names
-unfoldable pub constantAt : Image → ℕ → ℕ
-constantAt m p = getD (m .constants) (operandAt (m .bytecode) p) 0
 
 -- LOAD_CONST from, STORE_VAR v
 pub record Begins (m : Image) (p v from : ℕ) : Type 0 where
@@ -59,7 +55,3 @@ pub record Laid (m : Image) (f : Places) (v from to by : ℕ) : Type 0 where
   pub bodyEnds : f .body ≤ f .increment
   pub counts : Counts m (f .increment) v by (f .endTest)
   pub endNext : f .end ≡ f .increment + 13
-
-unfoldable pub open-Laid : Unit {0}
-unfolding constantAt
-open-Laid = tt

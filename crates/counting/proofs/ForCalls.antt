@@ -11,8 +11,8 @@ use Rattle.definition.specs.Walk.{next, after, Calls, _>>=_, _>>_, say, nothing
 use Rattle.definition.specs.CompileExpr.{constantOf, emitClassifiedCmpBr}
 use Rattle.definition.specs.Expr.{emitExpr}
 use Rattle.definition.specs.Stmt.{Loops, loopBody, continues, countsDown, bound, endTestBy, emitFor, emitStmt, emitBlock}
-use Rattle.counting.specs.Stands.{For, forStmt, settingOf, testingOf, bodyOf, countingOf}
-use Rattle.counting.specs.Once.{closed, closes, block-closed, closed-append}
+use Rattle.definition.specs.For.{For, forStmt, settingOf, testingOf, bodyOf, countingOf}
+use Rattle.counting.proofs.Once.{closed, closes, block-closed, closed-append}
 
 -- a FOR's walk, by whether it counts down
 forBy : For → Loops → Bool → Calls

@@ -7,23 +7,11 @@ use mathlib.Core.Option.{some}
 use lib.Dec.{eqb}
 use lib.IntN.{ℤ, pos, _+ℤ_, _-ℤ_}
 use lib.Signed.{leZ, mag, quotZ}
-use Rattle.definition.specs.Limits.{width}
 use Rattle.definition.specs.Opcode.{storeVar}
 use Rattle.definition.specs.Rules.{hasRole}
-use Rattle.counting.specs.Machine.{Image, State, goes, number, operandAt, isStart, roleAt, step, onward, afterSteps}
-
--- where the parts of a FOR stand in finished code
-pub record Places : Type 0 where
-  -- its first instruction
-  pub first : ℕ
-  -- its end test, a CMP_BR
-  pub endTest : ℕ
-  -- the first place of its body
-  pub body : ℕ
-  -- the place after its body, where the control is counted up
-  pub increment : ℕ
-  -- the place after it
-  pub end : ℕ
+use Rattle.definition.specs.Iec.{signedOf}
+use Rattle.definition.specs.Machine.{Image, State, goes, operandAt, isStart, roleAt, step, andThen, afterSteps}
+use Rattle.definition.specs.For.{Places}
 
 -- ---- passes
 
@@ -34,7 +22,7 @@ oneIf false = 0
 -- how many of a run's first n steps lead from place p to place q
 unfoldable pub crossings : Image → ℕ → ℕ → ℕ → State → ℕ
 crossings m p q zero x = 0
-crossings m p q (suc n) x = onward (step m x) 0 (λ y. oneIf (eqb (x .place) p && eqb (y .place) q) + crossings m p q n y)
+crossings m p q (suc n) x = andThen (step m x) 0 (λ y. oneIf (eqb (x .place) p && eqb (y .place) q) + crossings m p q n y)
 
 -- a pass is made where the end test does not leave the loop: its step leads to the body
 unfoldable pub passes : Image → Places → ℕ → State → ℕ
@@ -56,23 +44,21 @@ pub data Ends (m : Image) (f : Places) (v : ℕ) : State → Type 0 where
 unfoldable pub AlwaysEnds : Image → Places → ℕ → State → Type 0
 AlwaysEnds m f v x = (n : ℕ) (y : State) → afterSteps m n x ≡ some y → y .place ≡ f .body → y .stack ≡ [] → Ends m f v y
 
--- a signed number of the values' width
-unfoldable pub IsValue : ℤ → Type 0
-IsValue z = mag z < 2 ^ (width - 1)
+-- a signed number of w bits
+unfoldable pub IsValue : ℕ → ℤ → Type 0
+IsValue w z = mag z < 2 ^ (w - 1)
 
--- From, to and step (two's complement bits) count up by 1 or more, from ≤ to, and to plus step is still a signed 32-bit number.
-pub record CountsUp (from to step : ℕ) : Type 0 where
-  pub fromBits : from < 2 ^ width
-  pub toBits : to < 2 ^ width
-  pub up : leZ (pos 1) (number step) ≡ true
-  pub ordered : leZ (number from) (number to) ≡ true
-  pub room : IsValue (number to +ℤ number step)
+-- From, to and step (two's complement, w bits) count up by 1 or more, from ≤ to, and to plus step is still a signed number of w bits.
+pub record CountsUp (w from to step : ℕ) : Type 0 where
+  pub up : leZ (pos 1) (signedOf w step) ≡ true
+  pub ordered : leZ (signedOf w from) (signedOf w to) ≡ true
+  pub room : IsValue w (signedOf w to +ℤ signedOf w step)
 
 -- ---- what follows
 
 -- (to − from) ÷ step + 1; rounded down, since neither number is negative
-unfoldable pub passCount : ℕ → ℕ → ℕ → ℤ
-passCount from to step = quotZ (number to -ℤ number from) (number step) +ℤ pos 1
+unfoldable pub upCount : ℕ → ℕ → ℕ → ℕ → ℤ
+upCount w from to step = quotZ (signedOf w to -ℤ signedOf w from) (signedOf w step) +ℤ pos 1
 
 -- the run from x comes to the place after the FOR with nothing on the stack, having stood only in the FOR until then, and
 -- having made c passes
@@ -85,7 +71,7 @@ pub record Makes (m : Image) (f : Places) (x : State) (c : ℤ) : Type 0 where
   pub inside : (k : ℕ) (y : State) → k < steps → afterSteps m k x ≡ some y → (f .first ≤ y .place) × (y .place < f .end)
   pub count : pos (passes m f steps x) ≡ c
 
--- `unfolding open-Pass` names all of this module's definitions at once
-unfoldable pub open-Pass : Unit {0}
-unfolding oneIf crossings passes storesTo AlwaysEnds IsValue passCount
-open-Pass = tt
+-- `unfolding open-Count` names all of this module's definitions at once
+unfoldable pub open-Count : Unit {0}
+unfolding oneIf crossings passes storesTo AlwaysEnds IsValue upCount
+open-Count = tt

@@ -18,9 +18,9 @@ use Rattle.definition.specs.Rewrite.{open-Rewrite}
 use Rattle.definition.specs.Optimize.{open-Optimize}
 use Rattle.definition.specs.Compile.{FinalizedFunction, compileProgram, open-Compile}
 use Rattle.definition.specs.Runs.{open-Runs}
-use Rattle.counting.specs.Machine.{State, afterSteps, open-Machine}
-use Rattle.counting.specs.Pass.{Places, passes, open-Pass}
-use Rattle.counting.specs.Stands.{For, forStmt, imageOf, open-Stands}
+use Rattle.definition.specs.Machine.{State, afterSteps, open-Machine, imageOf}
+use Rattle.definition.specs.For.{Places, For, forStmt, open-For}
+use Rattle.definition.specs.Count.{passes, open-Count}
 
 unfoldable plainSheet : Sheet
 plainSheet = record {
@@ -55,5 +55,5 @@ ran (ok c) = (shownState (afterSteps (imageOf plainSheet c) 53 begin), passes (i
 
 -- at the end v0 is 10, v1 is -5 - 2 + 1 + 4 + 7, and there were five passes
 counted-example : ran (compileProgram plainSheet [] program) ≡ (37 ∷ 10 ∷ 5 ∷ [], 5)
-unfolding plainSheet somewhere loop program places begin shownState ran open-Res open-Field open-Opcode open-Iec open-Rules open-Emit open-Walk open-CompileExpr open-Expr open-Stmt open-Rewrite open-Optimize open-Compile open-Runs open-Machine open-Pass open-Stands
+unfolding plainSheet somewhere loop program places begin shownState ran open-Res open-Field open-Opcode open-Iec open-Rules open-Emit open-Walk open-CompileExpr open-Expr open-Stmt open-Rewrite open-Optimize open-Compile open-Runs open-Machine open-Count open-For
 counted-example = refl

@@ -14,12 +14,12 @@ use Rattle.definition.specs.Res.{ok, _>>=_, _>>_}
 use Rattle.definition.specs.Opcode.{Sheet, opcode, comparisonByte, dup, loadVar, storeVar, loadConst, jmp, jmpIfNot, cmpBr, size, traits, row}
 use Rattle.definition.specs.Emit.{le16, Emitter, Last, other, loaded, stored, PendingPatch, add, folded, foldStore, loadAfter, withConstant, pooledIf, pooled, labelled, settled, indexOf, act, acts, Call, createLabel, bindLabel, loadVariable, storeVariable, loadConstant, addConstant, emitOpcode, emitJmp, emitJmpIfNot, emitCmpBr, resetStackDepth, setPosition, refused}
 use Rattle.definition.specs.Walk.{next, after}
-use Rattle.counting.specs.Pass.{oneIf}
-use Rattle.counting.specs.Once.{OneByte, OneBytes, closes, closed, isBind, binds}
+use Rattle.definition.specs.Count.{oneIf}
+use Rattle.counting.proofs.Once.{OneByte, OneBytes, closes, closed, isBind, binds}
 use Rattle.runs.proofs.Results.{never, ok-demand, ok-bind, ok-is}
 use Rattle.runs.proofs.Emitted.{fold-bytes}
 use Rattle.runs.proofs.Conditions.{index-last}
-use Rattle.counting.specs.Rows.{Row, rowOf, unpatched, bytesOf, codeOf, patchOf, patchesOf, Sized, code-append, patches-append, sized-append, sized-left, Formed, FormedBy, Adds, add-adds, branch-adds}
+use Rattle.counting.proofs.Rows.{Row, rowOf, unpatched, bytesOf, codeOf, patchOf, patchesOf, Sized, code-append, patches-append, sized-append, sized-left, Formed, FormedBy, Adds, add-adds, branch-adds}
 
 -- ---- the pool
 

@@ -1,5 +1,5 @@
 -- A FOR that is laid out so makes its passes: the part of the claim that is about runs alone.
-use Prim.Native.Nat.{ℕ, _+_, _-_, _*_, _/_, _%_, suc, zero, _≤_, _<_}
+use Prim.Native.Nat.{ℕ, _+_, _-_, _*_, _/_, _%_, _^_, suc, zero, _≤_, _<_}
 use mathlib.Core.Path.{_≡_, refl, sym, _∙_, ap, subst}
 use mathlib.Core.List.{List, [], _∷_}
 use mathlib.Core.Bool.{Bool, true, false, not, _&&_}
@@ -12,13 +12,14 @@ use lib.IntN.{pos, _+ℤ_, _-ℤ_}
 use lib.Signed.{ltZ, quotZ}
 use borrow.Author.Tests.{ne-eqb, eq-eqb, eqb-false}
 use Rattle.definition.specs.Opcode.{Role, dup, pop, loadVar, storeVar, loadConst, loadTrue, loadFalse, binary, unary, compare, jmp, jmpIfNot, cmpBr, ret, Add, size, traits, row, number as roleNumber}
-use Rattle.definition.specs.Iec.{iec, decides, taken}
+use Rattle.definition.specs.Iec.{signedOf, iec, decides, taken}
 use Rattle.definition.specs.Rules.{hasRole}
 use Rattle.definition.specs.Runs.{Break, offCode, target}
-use Rattle.counting.specs.Machine.{Image, State, Step, goes, finishes, stops, breaks, number, wrapped, calculate, operandAt, at, stored, popOne, popTwo, leadsTo, calculated, branchIf, truth, execute, executeIf, isStart, roleAt, step, onward, afterSteps}
-use Rattle.counting.specs.Pass.{Places, oneIf, crossings, passes, storesTo, Ends, ended, later, AlwaysEnds, IsValue, CountsUp, passCount, Makes}
-use Rattle.counting.specs.Laid.{Stands, constantAt, Tests, Opening, Laid}
-use Rattle.counting.specs.Numbers.{shifted, number-wrapped, number-value, shifted-le, shifted-lt, shifted-ge, summed, sum-value, difference, counts}
+use Rattle.definition.specs.Machine.{Image, State, Step, goes, finishes, stops, breaks, wrapped, onNumbers, calculate, operandAt, constantAt, compares, at, stored, popOne, popTwo, leadsTo, calculated, branchIf, truth, execute, executeIf, isStart, roleAt, step, andThen, afterSteps}
+use Rattle.definition.specs.For.{Places}
+use Rattle.definition.specs.Count.{oneIf, crossings, passes, storesTo, Ends, ended, later, AlwaysEnds, IsValue, CountsUp, upCount, Makes}
+use Rattle.counting.proofs.Laid.{Stands, Tests, Opening, Laid}
+use Rattle.counting.proofs.Numbers.{IsWidth, shifted, signed-wrapped, signed-value, shifted-le, shifted-lt, shifted-ge, summed, sum-value, difference, counts}
 
 -- ---- one step
 
@@ -93,7 +94,7 @@ execute-keeps storeVar m p st vs y v n e = one-keeps st _ vs y v (λ a rest q. a
 execute-keeps loadConst m p st vs y v n e = at-keeps _ _ vs y v e
 execute-keeps loadTrue m p st vs y v n e = at-keeps _ _ vs y v e
 execute-keeps loadFalse m p st vs y v n e = at-keeps _ _ vs y v e
-execute-keeps (binary o) m p st vs y v n e = two-keeps st _ vs y v (λ a b rest q. calculated-keeps (calculate o a b) _ _ vs y v q) e
+execute-keeps (binary o) m p st vs y v n e = two-keeps st _ vs y v (λ a b rest q. calculated-keeps (calculate (m .width) o a b) _ _ vs y v q) e
 execute-keeps (unary o) m p st vs y v n e = one-keeps st _ vs y v (λ a rest q. at-keeps _ _ vs y v q) e
 execute-keeps (compare c) m p st vs y v n e = two-keeps st _ vs y v (λ a b rest q. at-keeps _ _ vs y v q) e
 execute-keeps jmp m p st vs y v n e = lead-keeps (target (m .bytecode) (p + size jmp)) st vs y v e
@@ -127,15 +128,15 @@ unfolding afterSteps
 after-none m x y e = ap some e
 
 after-cons : (m : Image) (n : ℕ) (x y : State) → step m x ≡ goes y → afterSteps m (suc n) x ≡ afterSteps m n y
-unfolding afterSteps onward
-after-cons m n x y e = ap (λ s. onward s none (λ z. afterSteps m n z)) e
+unfolding afterSteps andThen
+after-cons m n x y e = ap (λ s. andThen s none (λ z. afterSteps m n z)) e
 
 reaches-later : (m : Image) (n : ℕ) (x y z : State) → afterSteps m n x ≡ some y → step m y ≡ goes z → afterSteps m (suc n) x ≡ some z
-unfolding afterSteps onward
+unfolding afterSteps andThen
 reaches-later m zero x y z e g = after-cons m 0 x z (ap (λ s. step m s) (some-inj x y e) ∙ g)
 reaches-later m (suc n) x y z e g = go (step m x) refl e (λ u r. reaches-later m n u y z r g)
   where
-    go : (s : Step) → step m x ≡ s → onward s none (λ u. afterSteps m n u) ≡ some y
+    go : (s : Step) → step m x ≡ s → andThen s none (λ u. afterSteps m n u) ≡ some y
         → ((u : State) → afterSteps m n u ≡ some y → afterSteps m (suc n) u ≡ some z) → afterSteps m (suc (suc n)) x ≡ some z
     go (goes u) q r more = after-cons m (suc n) x u q ∙ more u r
     go finishes q r more = absurd (let k : _≡_ {A = ℕ} 0 1 = cc in omega arith)
@@ -158,7 +159,7 @@ unfoldable isPass : Places → State → State → ℕ
 isPass f x y = oneIf (eqb (x .place) (f .endTest) && eqb (y .place) (f .body))
 
 finish-cons : (m : Image) (f : Places) (x y : State) (c : ℕ) → (f .first ≤ x .place) × (x .place < f .end) → step m x ≡ goes y → Finish m f y c → Finish m f x (isPass f x y + c)
-unfolding passes crossings onward afterSteps isPass
+unfolding passes crossings andThen afterSteps isPass
 finish-cons m f x y c p g r = record {
   steps = suc (r .steps);
   last = r .last;
@@ -166,7 +167,7 @@ finish-cons m f x y c p g r = record {
   there = r .there;
   empty = r .empty;
   inside = inside;
-  count = ap pos (ap (λ s. onward s 0 (λ z. oneIf (eqb (x .place) (f .endTest) && eqb (z .place) (f .body)) + crossings m (f .endTest) (f .body) (r .steps) z)) g
+  count = ap pos (ap (λ s. andThen s 0 (λ z. oneIf (eqb (x .place) (f .endTest) && eqb (z .place) (f .body)) + crossings m (f .endTest) (f .body) (r .steps) z)) g
       ∙ ap (λ k. oneIf (eqb (x .place) (f .endTest) && eqb (y .place) (f .body)) + k) counted);
 }
   where
@@ -230,8 +231,8 @@ module _ (m : Image) (p : ℕ) (st : List ℕ) (vs : ℕ → ℕ) where
   unfolding execute at size traits row popOne
   stores-variable w a h e = step-at m (standing p (a ∷ st) vs) storeVar h ∙ ap (λ k. goes (standing (p + 3) st (stored vs k a))) e
 
-  adds : (a b : ℕ) → Stands m p (binary Add) → step m (standing p (b ∷ a ∷ st) vs) ≡ goes (standing (p + 1) (wrapped (number a +ℤ number b) ∷ st) vs)
-  unfolding execute at size traits row popTwo calculated calculate
+  adds : (a b : ℕ) → Stands m p (binary Add) → step m (standing p (b ∷ a ∷ st) vs) ≡ goes (standing (p + 1) (wrapped (m .width) (signedOf (m .width) a +ℤ signedOf (m .width) b) ∷ st) vs)
+  unfolding execute at size traits row popTwo calculated calculate onNumbers
   adds a b h = step-at m (standing p (b ∷ a ∷ st) vs) (binary Add) h
 
   jumps-to : (t : ℕ) → Stands m p jmp → target (m .bytecode) (p + 3) ≡ some t → step m (standing p st vs) ≡ goes (standing t st vs)
@@ -239,25 +240,25 @@ module _ (m : Image) (p : ℕ) (st : List ℕ) (vs : ℕ → ℕ) where
   jumps-to t h e = step-at m (standing p st vs) jmp h ∙ ap (λ o. leadsTo o st vs) e
 
   -- the end test, by what its comparison says
-  tests-end : (b : Bool) (v to : ℕ) → Tests m p v to → ltZ (number to) (number (vs v)) ≡ b → step m (standing p st vs) ≡ branchIf b (m .bytecode) (p + 8) st vs
-  unfolding execute size traits row taken decides iec constantAt number
+  tests-end : (b : Bool) (v to : ℕ) → Tests m p v to → ltZ (signedOf (m .width) to) (signedOf (m .width) (vs v)) ≡ b → step m (standing p st vs) ≡ branchIf b (m .bytecode) (p + 8) st vs
+  unfolding execute size traits row compares taken decides iec
   tests-end b v to h e =
       step-at m (standing p st vs) cmpBr (h .test)
       ∙ ap (λ t. branchIf t (m .bytecode) (p + 8) st vs)
-      (ap (λ c. decides c (number (vs (operandAt (m .bytecode) (p + 2)))) (number (constantAt m (p + 4)))) (h .comparison)
-      ∙ (ap (λ w. ltZ (number (constantAt m (p + 4))) (number (vs w))) (h .tests) ∙ (ap (λ k. ltZ (number k) (number (vs v))) (h .against) ∙ e)))
+      (ap (λ c. decides c (signedOf (m .width) (vs (operandAt (m .bytecode) (p + 2)))) (signedOf (m .width) (constantAt m (p + 4)))) (h .comparison)
+      ∙ (ap (λ w. ltZ (signedOf (m .width) (constantAt m (p + 4))) (signedOf (m .width) (vs w))) (h .tests) ∙ (ap (λ k. ltZ (signedOf (m .width) k) (signedOf (m .width) (vs v))) (h .against) ∙ e)))
 
-  leaves : (v to end : ℕ) → Tests m p v to → target (m .bytecode) (p + 8) ≡ some end → ltZ (number to) (number (vs v)) ≡ true → step m (standing p st vs) ≡ goes (standing end st vs)
+  leaves : (v to end : ℕ) → Tests m p v to → target (m .bytecode) (p + 8) ≡ some end → ltZ (signedOf (m .width) to) (signedOf (m .width) (vs v)) ≡ true → step m (standing p st vs) ≡ goes (standing end st vs)
   unfolding branchIf leadsTo at
   leaves v to end h q e = tests-end true v to h e ∙ ap (λ o. leadsTo o st vs) q
 
-  stays : (v to : ℕ) → Tests m p v to → ltZ (number to) (number (vs v)) ≡ false → step m (standing p st vs) ≡ goes (standing (p + 8) st vs)
+  stays : (v to : ℕ) → Tests m p v to → ltZ (signedOf (m .width) to) (signedOf (m .width) (vs v)) ≡ false → step m (standing p st vs) ≡ goes (standing (p + 8) st vs)
   unfolding branchIf at
   stays v to h e = tests-end false v to h e
 
 -- ---- the loop
 
-module _ (m : Image) (f : Places) (v from to by : ℕ) (l : Laid m f v from to by) (x₀ : State) where
+module _ (m : Image) (f : Places) (v from to by : ℕ) (l : Laid m f v from to by) (width : IsWidth (m .width)) (x₀ : State) where
   -- the place in the increment is none of the end test, and lies inside
   plain-step : (p : ℕ) (st : List ℕ) (vs : ℕ → ℕ) (y : State) (c : ℕ) → f .increment ≤ p → p < f .increment + 13 → step m (standing p st vs) ≡ goes y → Finish m f y c → Finish m f (standing p st vs) c
   plain-step p st vs y c lo hi g r =
@@ -269,12 +270,12 @@ module _ (m : Image) (f : Places) (v from to by : ℕ) (l : Laid m f v from to b
 
   -- counting up, from the place after the body to the end test
   counting-up : (c : ℕ) (vs : ℕ → ℕ) → Reaches m x₀ (standing (f .increment) [] vs)
-      → ((ws : ℕ → ℕ) → ws v ≡ wrapped (number (vs v) +ℤ number by) → Reaches m x₀ (standing (f .endTest) [] ws) → Finish m f (standing (f .endTest) [] ws) c)
+      → ((ws : ℕ → ℕ) → ws v ≡ wrapped (m .width) (signedOf (m .width) (vs v) +ℤ signedOf (m .width) by) → Reaches m x₀ (standing (f .endTest) [] ws) → Finish m f (standing (f .endTest) [] ws) c)
       → Finish m f (standing (f .increment) [] vs) c
   counting-up c vs r more =
       let g = f .increment in
       let k = l .counts in
-      let sum = wrapped (number (vs v) +ℤ number by) in
+      let sum = wrapped (m .width) (signedOf (m .width) (vs v) +ℤ signedOf (m .width) by) in
       let s₁ = loads-variable m g [] vs v (k .load) (k .loads) in
       let s₂ = loads-constant m (g + 3) (vs v ∷ []) vs by (k .step) (k .steps) in
       let s₃ = adds m (g + 3 + 3) [] vs (vs v) by (k .add) in
@@ -289,8 +290,8 @@ module _ (m : Image) (f : Places) (v from to by : ℕ) (l : Laid m f v from to b
 
   module _ (always : AlwaysEnds m f v x₀) where
     -- one pass: the end test stays, the body ends, the control is counted up
-    pass : (c : ℕ) (vs : ℕ → ℕ) → ltZ (number to) (number (vs v)) ≡ false → Reaches m x₀ (standing (f .endTest) [] vs)
-        → ((ws : ℕ → ℕ) → ws v ≡ wrapped (number (vs v) +ℤ number by) → Reaches m x₀ (standing (f .endTest) [] ws) → Finish m f (standing (f .endTest) [] ws) c)
+    pass : (c : ℕ) (vs : ℕ → ℕ) → ltZ (signedOf (m .width) to) (signedOf (m .width) (vs v)) ≡ false → Reaches m x₀ (standing (f .endTest) [] vs)
+        → ((ws : ℕ → ℕ) → ws v ≡ wrapped (m .width) (signedOf (m .width) (vs v) +ℤ signedOf (m .width) by) → Reaches m x₀ (standing (f .endTest) [] ws) → Finish m f (standing (f .endTest) [] ws) c)
         → Finish m f (standing (f .endTest) [] vs) (suc c)
     unfolding AlwaysEnds
     pass c vs n r more =
@@ -310,51 +311,51 @@ module _ (m : Image) (f : Places) (v from to by : ℕ) (l : Laid m f v from to b
         let same = as-standing y (f .increment) [] p e in
         subst (λ z. Finish m f z c) (sym same)
         (counting-up c (y .variables) (subst (λ z. Reaches m x₀ z) same reached)
-        (λ ws u. more ws (u ∙ ap (λ a. wrapped (number a +ℤ number by)) k)))))
+        (λ ws u. more ws (u ∙ ap (λ a. wrapped (m .width) (signedOf (m .width) a +ℤ signedOf (m .width) by)) k)))))
 
-    module _ (k : number by ≡ pos by) (some-step : 1 ≤ by) (value : IsValue (number to)) (room : shifted (number to) + by < 4294967296) where
+    module _ (k : signedOf (m .width) by ≡ pos by) (some-step : 1 ≤ by) (value : IsValue (m .width) (signedOf (m .width) to)) (room : shifted (m .width) (signedOf (m .width) to) + by < 2 ^ (m .width)) where
       -- the control after a pass that began within the end
-      next-control : (a b : ℕ) → IsValue (number a) → shifted (number a) ≤ shifted (number to) → b ≡ wrapped (number a +ℤ number by)
-          → IsValue (number b) × (shifted (number b) ≡ shifted (number a) + by)
+      next-control : (a b : ℕ) → IsValue (m .width) (signedOf (m .width) a) → shifted (m .width) (signedOf (m .width) a) ≤ shifted (m .width) (signedOf (m .width) to) → b ≡ wrapped (m .width) (signedOf (m .width) a +ℤ signedOf (m .width) by)
+          → IsValue (m .width) (signedOf (m .width) b) × (shifted (m .width) (signedOf (m .width) b) ≡ shifted (m .width) (signedOf (m .width) a) + by)
       next-control a b g h e =
-          let s = summed (number a) by g (omega arith) in
-          let n : number b ≡ number a +ℤ pos by =
-          ap number e ∙ (ap (λ z. number (wrapped (number a +ℤ z))) k ∙ number-wrapped (number a +ℤ pos by) (s .isValue)) in
-          (subst (λ z. IsValue z) (sym n) (s .isValue), ap shifted n ∙ s .is)
+          let s = summed (m .width) width (signedOf (m .width) a) by g (omega arith) in
+          let n : signedOf (m .width) b ≡ signedOf (m .width) a +ℤ pos by =
+          ap (λ k. signedOf (m .width) k) e ∙ (ap (λ z. signedOf (m .width) (wrapped (m .width) (signedOf (m .width) a +ℤ z))) k ∙ signed-wrapped (m .width) width (signedOf (m .width) a +ℤ pos by) (s .isValue)) in
+          (subst (λ z. IsValue (m .width) z) (sym n) (s .isValue), ap (λ z. shifted (m .width) z) n ∙ s .is)
 
       -- from the end test on, with q whole steps and r more to the end
-      loop : (q r : ℕ) → r < by → (vs : ℕ → ℕ) → IsValue (number (vs v)) → shifted (number (vs v)) + (q * by + r) ≡ shifted (number to)
+      loop : (q r : ℕ) → r < by → (vs : ℕ → ℕ) → IsValue (m .width) (signedOf (m .width) (vs v)) → shifted (m .width) (signedOf (m .width) (vs v)) + (q * by + r) ≡ shifted (m .width) (signedOf (m .width) to)
           → Reaches m x₀ (standing (f .endTest) [] vs) → Finish m f (standing (f .endTest) [] vs) (suc q)
       loop zero r small vs g e reached =
-          let within : shifted (number (vs v)) ≤ shifted (number to) = omega arith in
-          pass 0 vs (shifted-ge (number to) (number (vs v)) value g within) reached
+          let within : shifted (m .width) (signedOf (m .width) (vs v)) ≤ shifted (m .width) (signedOf (m .width) to) = omega arith in
+          pass 0 vs (shifted-ge (m .width) (signedOf (m .width) to) (signedOf (m .width) (vs v)) value g within) reached
           (λ ws u at-test.
           let n = next-control (vs v) (ws v) g within u in
-          let t = leaves m (f .endTest) [] ws v to (f .end) (l .opening .tests) (l .leaves) (shifted-lt (number to) (number (ws v)) value (n .0) (omega (arith, n .1))) in
+          let t = leaves m (f .endTest) [] ws v to (f .end) (l .opening .tests) (l .leaves) (shifted-lt (m .width) (signedOf (m .width) to) (signedOf (m .width) (ws v)) value (n .0) (omega (arith, n .1))) in
           finish-leave m f (standing (f .endTest) [] ws) (standing (f .end) [] ws) 0
           (λ b. omega (arith, l .opening .bodyNext, l .bodyEnds, l .endNext))
           (omega (arith, l .opening .testNext), omega (arith, l .opening .bodyNext, l .bodyEnds, l .endNext))
           t
           (finish-here m f (standing (f .end) [] ws) refl refl))
       loop (suc q) r small vs g e reached =
-          let within : shifted (number (vs v)) ≤ shifted (number to) = omega arith in
-          pass (suc q) vs (shifted-ge (number to) (number (vs v)) value g within) reached
+          let within : shifted (m .width) (signedOf (m .width) (vs v)) ≤ shifted (m .width) (signedOf (m .width) to) = omega arith in
+          pass (suc q) vs (shifted-ge (m .width) (signedOf (m .width) to) (signedOf (m .width) (vs v)) value g within) reached
           (λ ws u at-test.
           let n = next-control (vs v) (ws v) g within u in
           loop q r small ws (n .0) (omega (arith, n .1)) at-test)
 
 -- ---- the whole FOR
 
--- A FOR that is laid out so and counts up makes (to − from) ÷ step + 1 passes from any state at its first place, if its body always ends.
-pub counted : (m : Image) (f : Places) (v from to by : ℕ) → Laid m f v from to by → CountsUp from to by
-    → (x : State) → x .place ≡ f .first → x .stack ≡ [] → AlwaysEnds m f v x → Makes m f x (passCount from to by)
-unfolding passCount
-counted m f v from to by l h x p e always =
-    let k = counts by (h .up) in
-    let a = number-value from (h .fromBits) in
-    let b = number-value to (h .toBits) in
-    let o = shifted-le (number from) (number to) a b (h .ordered) in
-    let d = shifted (number to) - shifted (number from) in
+-- A FOR that is laid out so and counts (m .width) up makes (to − from) ÷ step + 1 passes from any state at its first place, if its body always ends.
+pub counted : (m : Image) (f : Places) (v from to by : ℕ) → Laid m f v from to by → IsWidth (m .width) → CountsUp (m .width) from to by
+    → (x : State) → x .place ≡ f .first → x .stack ≡ [] → AlwaysEnds m f v x → Makes m f x (upCount (m .width) from to by)
+unfolding upCount
+counted m f v from to by l width h x p e always =
+    let k = counts (m .width) by (h .up) in
+    let a = signed-value (m .width) width from in
+    let b = signed-value (m .width) width to in
+    let o = shifted-le (m .width) (signedOf (m .width) from) (signedOf (m .width) to) a b (h .ordered) in
+    let d = shifted (m .width) (signedOf (m .width) to) - shifted (m .width) (signedOf (m .width) from) in
     let vs = x .variables in
     let ws = stored vs v from in
     let same = as-standing x (f .first) [] p e in
@@ -362,14 +363,14 @@ counted m f v from to by l h x p e always =
     let s₁ = loads-constant m (f .first) [] vs from (l .opening .begins .load) (l .opening .begins .loads) in
     let s₂ = subst (λ t. step m (standing (f .first + 3) (from ∷ []) vs) ≡ goes (standing t [] ws)) (sym (l .opening .testNext))
     (stores-variable m (f .first + 3) [] vs v from (l .opening .begins .store) (l .opening .begins .stores)) in
-    let room : shifted (number to) + by < 4294967296 = sum-value (number to) by b (k .1 .1) (subst (λ z. IsValue (number to +ℤ z)) (k .0) (h .room)) in
+    let room : shifted (m .width) (signedOf (m .width) to) + by < 2 ^ (m .width) = sum-value (m .width) width (signedOf (m .width) to) by b (k .1 .1) (subst (λ z. IsValue (m .width) (signedOf (m .width) to +ℤ z)) (k .0) (h .room)) in
     let control : ws v ≡ from = stored-same vs v from in
     let division = div-add-mod' d by in
-    let z : shifted (number (ws v)) + (d / by * by + d % by) ≡ shifted (number to) = ap (λ c. shifted (number c) + (d / by * by + d % by)) control ∙ omega arith in
-    let count : pos (suc (d / by)) ≡ quotZ (number to -ℤ number from) (number by) +ℤ pos 1 =
-    sym (ap (λ c. quotZ c (number by) +ℤ pos 1) (difference (number from) (number to) d a b (omega arith)) ∙ (ap (λ c. quotZ (pos d) c +ℤ pos 1) (k .0) ∙ ap pos (omega arith))) in
-    let looped = loop m f v from to by l x always (k .0) (k .1 .0) b room (d / by) (d % by) (mod-lt d (k .1 .0)) ws
-    (subst (λ c. IsValue (number c)) (sym control) a) z (reaches-then (reaches-then r₀ s₁) s₂) in
+    let z : shifted (m .width) (signedOf (m .width) (ws v)) + (d / by * by + d % by) ≡ shifted (m .width) (signedOf (m .width) to) = ap (λ c. shifted (m .width) (signedOf (m .width) c) + (d / by * by + d % by)) control ∙ omega arith in
+    let count : pos (suc (d / by)) ≡ quotZ (signedOf (m .width) to -ℤ signedOf (m .width) from) (signedOf (m .width) by) +ℤ pos 1 =
+    sym (ap (λ c. quotZ c (signedOf (m .width) by) +ℤ pos 1) (difference (m .width) (signedOf (m .width) from) (signedOf (m .width) to) d a b (omega arith)) ∙ (ap (λ c. quotZ (pos d) c +ℤ pos 1) (k .0) ∙ ap pos (omega arith))) in
+    let looped = loop m f v from to by l width x always (k .0) (k .1 .0) b room (d / by) (d % by) (mod-lt d (k .1 .0)) ws
+    (subst (λ c. IsValue (m .width) (signedOf (m .width) c)) (sym control) a) z (reaches-then (reaches-then r₀ s₁) s₂) in
     let i₁ = l .opening .testNext in
     let i₂ = l .opening .bodyNext in
     let i₃ = l .bodyEnds in
@@ -386,12 +387,12 @@ pub ends-start : (m : Image) (f : Places) (v : ℕ) (x : State) → Ends m f v x
 ends-start m f v x (ended p s e) = ap (λ q. isStart m q) (sym p) ∙ s
 ends-start m f v x (later {y = y} lo hi n g t) = ends-start m f v y t
 
-pub first-ends : (m : Image) (f : Places) (v from to by : ℕ) → Opening m f v from to → CountsUp from to by → (x : State) → x .place ≡ f .first → x .stack ≡ [] → AlwaysEnds m f v x → isStart m (f .increment) ≡ true
+pub first-ends : (m : Image) (f : Places) (v from to by : ℕ) → Opening m f v from to → IsWidth (m .width) → CountsUp (m .width) from to by → (x : State) → x .place ≡ f .first → x .stack ≡ [] → AlwaysEnds m f v x → isStart m (f .increment) ≡ true
 unfolding AlwaysEnds
-first-ends m f v from to by l h x p e always =
-    let a = number-value from (h .fromBits) in
-    let b = number-value to (h .toBits) in
-    let o = shifted-le (number from) (number to) a b (h .ordered) in
+first-ends m f v from to by l width h x p e always =
+    let a = signed-value (m .width) width from in
+    let b = signed-value (m .width) width to in
+    let o = shifted-le (m .width) (signedOf (m .width) from) (signedOf (m .width) to) a b (h .ordered) in
     let vs = x .variables in
     let ws = stored vs v from in
     let same = as-standing x (f .first) [] p e in
@@ -400,7 +401,7 @@ first-ends m f v from to by l h x p e always =
     let s₂ = subst (λ t. step m (standing (f .first + 3) (from ∷ []) vs) ≡ goes (standing t [] ws)) (sym (l .testNext))
     (stores-variable m (f .first + 3) [] vs v from (l .begins .store) (l .begins .stores)) in
     let control : ws v ≡ from = stored-same vs v from in
-    let within : ltZ (number to) (number (ws v)) ≡ false = ap (λ c. ltZ (number to) (number c)) control ∙ shifted-ge (number to) (number from) b a o in
+    let within : ltZ (signedOf (m .width) to) (signedOf (m .width) (ws v)) ≡ false = ap (λ c. ltZ (signedOf (m .width) to) (signedOf (m .width) c)) control ∙ shifted-ge (m .width) (signedOf (m .width) to) (signedOf (m .width) from) b a o in
     let s₃ = stays m (f .endTest) [] ws v to (l .tests) within in
     let r = reaches-then (reaches-then (reaches-then r₀ s₁) s₂) s₃ in
     ends-start m f v (standing (f .endTest + 8) [] ws) (always (r .steps) (standing (f .endTest + 8) [] ws) (r .runs) (sym (l .bodyNext)) refl)
