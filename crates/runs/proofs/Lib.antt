@@ -1,6 +1,9 @@
 pub mod Results
 pub mod Heights
 pub mod Emission
+pub mod Refusals
+pub mod Faultless
+pub mod Answers
 pub mod Roles
 pub mod Rows
 pub mod Emitted
