@@ -21,6 +21,11 @@ def stop(text):
     sys.exit(2)
 
 
+def needs(tool):
+    if not shutil.which(tool):
+        stop(f"{tool} is not on the PATH")
+
+
 @cache
 def made(script):
     """Runs oracle/assemble or oracle/build; the folder or the program that it prints. Where it fails it has said why."""
@@ -32,8 +37,7 @@ def made(script):
 
 def proved(*words):
     """Runs rt on our crates, as `rt check passes`."""
-    if not shutil.which("rt"):
-        stop("rt is not on the PATH")
+    needs("rt")
     run = subprocess.run(["rt", *words], cwd=ROOT, stdout=subprocess.PIPE, stderr=subprocess.STDOUT, text=True)
     if run.returncode:
         print("\n".join(run.stdout.splitlines()[-12:]), file=sys.stderr)
