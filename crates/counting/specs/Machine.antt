@@ -10,7 +10,7 @@ use lib.IntN.{ℤ, pos, negsuc, negℤ, _+ℤ_, _-ℤ_, _*ℤ_}
 use lib.Signed.{quotZ, remZ}
 use Rattle.definition.specs.Limits.{width}
 use Rattle.definition.specs.Field.{has}
-use Rattle.definition.specs.Opcode.{Role, dup, pop, loadVar, storeVar, loadConst, loadTrue, loadFalse, binary, unary, compare, jmp, jmpIfNot, cmpBr, ret, BinaryOp, Add, Sub, Mul, Div, Mod, BoolAnd, BoolOr, BoolXor, UnaryOp, Neg, BoolNot, Sheet, roleOf, size}
+use Rattle.definition.specs.Opcode.{Role, dup, pop, loadVar, storeVar, loadConst, loadTrue, loadFalse, arithmetic, logic, neg, boolNot, compare, jmp, jmpIfNot, cmpBr, ret, ArithmeticOp, Add, Sub, Mul, Div, Mod, BoolOp, BoolAnd, BoolOr, BoolXor, Sheet, roleOf, size}
 use Rattle.definition.specs.Iec.{signedOf, iec, taken}
 use Rattle.definition.specs.Rewrite.{decode, startsFrom}
 use Rattle.definition.specs.Runs.{Break, offCode, emptyStack, target}
@@ -60,19 +60,17 @@ differ false b = b
 unfoldable pub dividedBy : (ℤ → ℤ → ℤ) → ℕ → ℕ → Option ℕ
 dividedBy f a b = elim (eqb b 0) [ true ↦ none | false ↦ some (wrapped (f (number a) (number b))) ]
 
-unfoldable pub calculate : BinaryOp → ℕ → ℕ → Option ℕ
+unfoldable pub calculate : ArithmeticOp → ℕ → ℕ → Option ℕ
 calculate Add a b = some (wrapped (number a +ℤ number b))
 calculate Sub a b = some (wrapped (number a -ℤ number b))
 calculate Mul a b = some (wrapped (number a *ℤ number b))
 calculate Div a b = dividedBy quotZ a b
 calculate Mod a b = dividedBy remZ a b
-calculate BoolAnd a b = some (bit (truth a && truth b))
-calculate BoolOr a b = some (bit (truth a || truth b))
-calculate BoolXor a b = some (bit (differ (truth a) (truth b)))
 
-unfoldable pub unaryResult : UnaryOp → ℕ → ℕ
-unaryResult Neg a = wrapped (negℤ (number a))
-unaryResult BoolNot a = bit (not (truth a))
+unfoldable pub decide : BoolOp → Bool → Bool → Bool
+decide BoolAnd a b = a && b
+decide BoolOr a b = a || b
+decide BoolXor a b = differ a b
 
 -- ---- instructions
 
@@ -117,8 +115,10 @@ execute storeVar m p st vs = popOne st λ a rest. at (p + size storeVar) rest (s
 execute loadConst m p st vs = at (p + size loadConst) (getD (m .constants) (operandAt (m .bytecode) (p + 1)) 0 ∷ st) vs
 execute loadTrue m p st vs = at (p + size loadTrue) (bit true ∷ st) vs
 execute loadFalse m p st vs = at (p + size loadFalse) (bit false ∷ st) vs
-execute (binary o) m p st vs = popTwo st λ a b rest. calculated (calculate o a b) (p + size (binary o)) rest vs
-execute (unary o) m p st vs = popOne st λ a rest. at (p + size (unary o)) (unaryResult o a ∷ rest) vs
+execute (arithmetic o) m p st vs = popTwo st λ a b rest. calculated (calculate o a b) (p + size (arithmetic o)) rest vs
+execute (logic o) m p st vs = popTwo st λ a b rest. at (p + size (logic o)) (bit (decide o (truth a) (truth b)) ∷ rest) vs
+execute neg m p st vs = popOne st λ a rest. at (p + size neg) (wrapped (negℤ (number a)) ∷ rest) vs
+execute boolNot m p st vs = popOne st λ a rest. at (p + size boolNot) (bit (not (truth a)) ∷ rest) vs
 execute (compare c) m p st vs = popTwo st λ a b rest. at (p + size (compare c)) (bit (iec c (number a) (number b)) ∷ rest) vs
 execute jmp m p st vs = leadsTo (target (m .bytecode) (p + size jmp)) st vs
 execute jmpIfNot m p st vs = popOne st λ a rest. branchIf (not (truth a)) (m .bytecode) (p + size jmpIfNot) rest vs
@@ -162,5 +162,5 @@ afterSteps m (suc n) x = onward (step m x) none (λ y. afterSteps m n y)
 
 -- `unfolding open-Machine` names all of this module's definitions at once
 unfoldable pub open-Machine : Unit {0}
-unfolding wrapped number truth bit differ dividedBy calculate unaryResult operandAt at stored popOne popTwo leadsTo calculated branchIf execute executeIf isStart roleAt step onward afterSteps
+unfolding wrapped number truth bit differ dividedBy calculate decide operandAt at stored popOne popTwo leadsTo calculated branchIf execute executeIf isStart roleAt step onward afterSteps
 open-Machine = tt
