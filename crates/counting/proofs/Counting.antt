@@ -11,7 +11,7 @@ use lib.ListN.{length}
 use lib.IntN.{pos, _+ℤ_, _-ℤ_}
 use lib.Signed.{ltZ, quotZ}
 use borrow.Author.Tests.{ne-eqb, eq-eqb, eqb-false}
-use Rattle.definition.specs.Opcode.{Role, dup, pop, loadVar, storeVar, loadConst, loadTrue, loadFalse, binary, unary, compare, jmp, jmpIfNot, cmpBr, ret, Add, size, traits, row, number as roleNumber}
+use Rattle.definition.specs.Opcode.{Role, dup, pop, loadVar, storeVar, loadConst, loadTrue, loadFalse, arithmetic, logic, neg, boolNot, compare, jmp, jmpIfNot, cmpBr, ret, Add, size, traits, row, number as roleNumber}
 use Rattle.definition.specs.Iec.{signedOf, iec, decides, taken}
 use Rattle.definition.specs.Rules.{hasRole}
 use Rattle.definition.specs.Runs.{Break, offCode, target}
@@ -94,8 +94,10 @@ execute-keeps storeVar m p st vs y v n e = one-keeps st _ vs y v (λ a rest q. a
 execute-keeps loadConst m p st vs y v n e = at-keeps _ _ vs y v e
 execute-keeps loadTrue m p st vs y v n e = at-keeps _ _ vs y v e
 execute-keeps loadFalse m p st vs y v n e = at-keeps _ _ vs y v e
-execute-keeps (binary o) m p st vs y v n e = two-keeps st _ vs y v (λ a b rest q. calculated-keeps (calculate (m .width) o a b) _ _ vs y v q) e
-execute-keeps (unary o) m p st vs y v n e = one-keeps st _ vs y v (λ a rest q. at-keeps _ _ vs y v q) e
+execute-keeps (arithmetic o) m p st vs y v n e = two-keeps st _ vs y v (λ a b rest q. calculated-keeps (calculate (m .width) o a b) _ _ vs y v q) e
+execute-keeps (logic o) m p st vs y v n e = two-keeps st _ vs y v (λ a b rest q. at-keeps _ _ vs y v q) e
+execute-keeps neg m p st vs y v n e = one-keeps st _ vs y v (λ a rest q. at-keeps _ _ vs y v q) e
+execute-keeps boolNot m p st vs y v n e = one-keeps st _ vs y v (λ a rest q. at-keeps _ _ vs y v q) e
 execute-keeps (compare c) m p st vs y v n e = two-keeps st _ vs y v (λ a b rest q. at-keeps _ _ vs y v q) e
 execute-keeps jmp m p st vs y v n e = lead-keeps (target (m .bytecode) (p + size jmp)) st vs y v e
 execute-keeps jmpIfNot m p st vs y v n e = one-keeps st _ vs y v (λ a rest q. branch-keeps (not (truth a)) _ _ _ vs y v q) e
@@ -231,9 +233,9 @@ module _ (m : Image) (p : ℕ) (st : List ℕ) (vs : ℕ → ℕ) where
   unfolding execute at size traits row popOne
   stores-variable w a h e = step-at m (standing p (a ∷ st) vs) storeVar h ∙ ap (λ k. goes (standing (p + 3) st (stored vs k a))) e
 
-  adds : (a b : ℕ) → Stands m p (binary Add) → step m (standing p (b ∷ a ∷ st) vs) ≡ goes (standing (p + 1) (wrapped (m .width) (signedOf (m .width) a +ℤ signedOf (m .width) b) ∷ st) vs)
+  adds : (a b : ℕ) → Stands m p (arithmetic Add) → step m (standing p (b ∷ a ∷ st) vs) ≡ goes (standing (p + 1) (wrapped (m .width) (signedOf (m .width) a +ℤ signedOf (m .width) b) ∷ st) vs)
   unfolding execute at size traits row popTwo calculated calculate onNumbers
-  adds a b h = step-at m (standing p (b ∷ a ∷ st) vs) (binary Add) h
+  adds a b h = step-at m (standing p (b ∷ a ∷ st) vs) (arithmetic Add) h
 
   jumps-to : (t : ℕ) → Stands m p jmp → target (m .bytecode) (p + 3) ≡ some t → step m (standing p st vs) ≡ goes (standing t st vs)
   unfolding execute at size traits row leadsTo

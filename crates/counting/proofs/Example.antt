@@ -5,7 +5,7 @@ use mathlib.Core.List.{List, [], _∷_}
 use mathlib.Core.Option.{Option, some, none}
 use Rattle.definition.specs.Res.{Res, ok, refuse, open-Res}
 use Rattle.definition.specs.Field.{open-Field}
-use Rattle.definition.specs.Opcode.{Sheet, Add, open-Opcode}
+use Rattle.definition.specs.Opcode.{Sheet, Add, Arithmetic, open-Opcode}
 use Rattle.definition.specs.Iec.{open-Iec}
 use Rattle.definition.specs.Rules.{open-Rules}
 use Rattle.definition.specs.Tree.{Source, binary, read, assign, done, _then_, Program}
@@ -32,7 +32,7 @@ unfoldable somewhere : Source
 somewhere = record { pos = record { line = 1; column = 1 }; row = 2 }
 
 unfoldable loop : For
-loop = record { source = somewhere; loop = 0; control = 0; from = 2 ^ 32 - 5; to = 7; step = 3; body = assign somewhere 1 (binary Add (read 1) (read 0)) then done }
+loop = record { source = somewhere; loop = 0; control = 0; from = 2 ^ 32 - 5; to = 7; step = 3; body = assign somewhere 1 (binary (Arithmetic Add) (read 1) (read 0)) then done }
 
 unfoldable program : Program
 program = record { pos = record { line = 1; column = 1 }; body = forStmt loop then done }

@@ -4,7 +4,7 @@ use mathlib.Core.Path.{_≡_, refl, _∙_, ap}
 use mathlib.Core.List.{[], _∷_, _++_}
 use mathlib.Core.Bool.{Bool, true, false}
 use mathlib.Core.Option.{some}
-use Rattle.definition.specs.Opcode.{negate, binary, Add}
+use Rattle.definition.specs.Opcode.{negate, arithmetic, Add}
 use Rattle.definition.specs.Tree.{const}
 use Rattle.definition.specs.Emit.{bindLabel, loadVariable, storeVariable, loadConstant, emitOpcode, emitJmp}
 use Rattle.definition.specs.Walk.{next, after, Calls, _>>=_, _>>_, say, nothing, newLabel, when}
@@ -26,7 +26,7 @@ forBy f loops down = do
   loopBody (f .loop) end (continues (f .loop) (f .body)) (λ o. emitBlock (f .body) o) loops
   say (loadVariable (f .control))
   say (loadConstant (f .step))
-  say (emitOpcode (binary Add))
+  say (emitOpcode (arithmetic Add))
   say (storeVariable (f .control))
   say (emitJmp head)
   say (bindLabel end)

@@ -4,7 +4,7 @@ use mathlib.Core.Path.{_≡_}
 use mathlib.Core.Bool.{true}
 use mathlib.Core.Option.{some}
 use lib.ListN.{length, getD}
-use Rattle.definition.specs.Opcode.{Role, loadVar, storeVar, loadConst, binary, jmp, cmpBr, Add, Gt, comparisonOf}
+use Rattle.definition.specs.Opcode.{Role, loadVar, storeVar, loadConst, arithmetic, jmp, cmpBr, Add, Gt, comparisonOf}
 use Rattle.definition.specs.Runs.{target}
 use Rattle.definition.specs.Machine.{Image, operandAt, constantAt, isStart, roleAt}
 use Rattle.definition.specs.For.{Places}
@@ -35,7 +35,7 @@ pub record Counts (m : Image) (p v by head : ℕ) : Type 0 where
   pub loads : operandAt (m .bytecode) (p + 1) ≡ v
   pub step : Stands m (p + 3) loadConst
   pub steps : constantAt m (p + 3 + 1) ≡ by
-  pub add : Stands m (p + 3 + 3) (binary Add)
+  pub add : Stands m (p + 3 + 3) (arithmetic Add)
   pub store : Stands m (p + 3 + 3 + 1) storeVar
   pub stores : operandAt (m .bytecode) (p + 3 + 3 + 1 + 1) ≡ v
   pub jump : Stands m (p + 3 + 3 + 1 + 3) jmp

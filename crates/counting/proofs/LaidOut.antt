@@ -13,7 +13,7 @@ use borrow.Author.Tests.{ltb-true, eq-eqb}
 use Rattle.definition.specs.Limits.{maxCode}
 use Rattle.definition.specs.Field.{has}
 use Rattle.definition.specs.Res.{ok, _>>=_}
-use Rattle.definition.specs.Opcode.{Role, Sheet, opcode, roleOf, comparisonByte, comparisonOf, Gt, loadVar, storeVar, loadConst, dup, binary, Add, jmp, cmpBr, size, traits, row}
+use Rattle.definition.specs.Opcode.{Role, Sheet, opcode, roleOf, comparisonByte, comparisonOf, Gt, loadVar, storeVar, loadConst, dup, arithmetic, Add, jmp, cmpBr, size, traits, row}
 use Rattle.definition.specs.Tree.{Program}
 use Rattle.definition.specs.Emit.{le16, Call, createLabel, bindLabel, loadVariable, storeVariable, loadConstant, emitOpcode, emitJmp, emitCmpBr, Last, other, loaded, stored, Emitter, emitterAt, indexOf, loadAfter, foldStore, folded, add, act, acts}
 use Rattle.definition.specs.Walk as walk
@@ -112,7 +112,7 @@ unfoldable testRow : Sheet → ℕ → ℕ → ℕ → List ℕ → Row
 testRow s v k l ks = rowOf cmpBr (comparisonByte s Gt ∷ le16 v ++ le16 (indexOf k ks)) (some l)
 
 unfoldable addRow : Row
-addRow = rowOf (binary Add) [] none
+addRow = rowOf (arithmetic Add) [] none
 
 unfoldable jumpRow : ℕ → Row
 jumpRow l = rowOf jmp [] (some l)
@@ -180,7 +180,7 @@ module _ (s : Sheet) (f : For) (n : ℕ) (R : List Row) (l : Last) (u₀ u₁ u�
 -- ---- behind the body, where the control is loaded
 
 module _ (s : Sheet) (f : For) (n : ℕ) (G : List Row) (l : Last) (u₇ v₁ v₂ v₃ v₄ v₅ v₆ : Emitter) (here : At s G l u₇) (unfolded : foldsInto l (f .control) ≡ false) (long : suc n < length (u₇ .labels))
-    (q₁ : act s (loadVariable (f .control)) u₇ ≡ ok v₁) (q₂ : act s (loadConstant (f .step)) v₁ ≡ ok v₂) (q₃ : act s (emitOpcode (binary Add)) v₂ ≡ ok v₃)
+    (q₁ : act s (loadVariable (f .control)) u₇ ≡ ok v₁) (q₂ : act s (loadConstant (f .step)) v₁ ≡ ok v₂) (q₃ : act s (emitOpcode (arithmetic Add)) v₂ ≡ ok v₃)
     (q₄ : act s (storeVariable (f .control)) v₃ ≡ ok v₄) (q₅ : act s (emitJmp n) v₄ ≡ ok v₅) (q₆ : act s (bindLabel (suc n)) v₅ ≡ ok v₆) where
   abbrev controlRow : Row
   controlRow = loadRow (f .control)
@@ -204,7 +204,7 @@ module _ (s : Sheet) (f : For) (n : ℕ) (G : List Row) (l : Last) (u₇ v₁ v�
   counted-up =
       let a₁ = next-at (loadVariable (f .control)) v₁ here tt unfolded q₁ in
       let a₂ = next-at (loadConstant (f .step)) v₂ (a₁ .at) tt refl q₂ in
-      let a₃ = next-at (emitOpcode (binary Add)) v₃ (a₂ .at) refl refl q₃ in
+      let a₃ = next-at (emitOpcode (arithmetic Add)) v₃ (a₂ .at) refl refl q₃ in
       let a₄ = next-at (storeVariable (f .control)) v₄ (a₃ .at) tt refl q₄ in
       let a₅ = next-at (emitJmp n) v₅ (a₄ .at) tt refl q₅ in
       let a₆ = next-at (bindLabel (suc n)) v₆ (a₅ .at) tt refl q₆ in
@@ -315,7 +315,7 @@ module _ (m : Image) (s : Sheet) (goal : ℕ → ℕ) (p : ℕ) where
 
 -- the calls behind some of a FOR's
 unfoldable pub rest₂ : For → ℕ → List Call → List Call
-rest₂ f n behind = emitOpcode (binary Add) ∷ storeVariable (f .control) ∷ emitJmp n ∷ bindLabel (suc n) ∷ behind
+rest₂ f n behind = emitOpcode (arithmetic Add) ∷ storeVariable (f .control) ∷ emitJmp n ∷ bindLabel (suc n) ∷ behind
 
 unfoldable pub rest₀ : For → ℕ → List Call → List Call
 rest₀ f n behind = loadVariable (f .control) ∷ loadConstant (f .step) ∷ rest₂ f n behind
@@ -352,7 +352,7 @@ pub record Emission (s : Sheet) (p : Program) (f : For) (n : ℕ) (before body b
   pub p₇ : acts s body u₆ ≡ ok u₇
   pub q₁ : act s (loadVariable (f .control)) u₇ ≡ ok v₁
   pub q₂ : act s (loadConstant (f .step)) v₁ ≡ ok v₂
-  pub q₃ : act s (emitOpcode (binary Add)) v₂ ≡ ok v₃
+  pub q₃ : act s (emitOpcode (arithmetic Add)) v₂ ≡ ok v₃
   pub q₄ : act s (storeVariable (f .control)) v₃ ≡ ok v₄
   pub q₅ : act s (emitJmp n) v₄ ≡ ok v₅
   pub q₆ : act s (bindLabel (suc n)) v₅ ≡ ok v₆

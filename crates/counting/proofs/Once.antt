@@ -8,7 +8,7 @@ use mathlib.Core.Option.{Option, some, none}
 use native.Mathlib.Omega.{arith}
 use lib.Dec.{eqb, ltb}
 use borrow.Author.Tests.{ltb-true, ltb-false, eqb-true, eqb-false}
-use Rattle.definition.specs.Opcode.{CompareOp, AndThen, OrElse, dup, pop, ret, loadTrue, loadFalse, size, traits, row}
+use Rattle.definition.specs.Opcode.{CompareOp, AndThen, OrElse, dup, pop, ret, loadTrue, loadFalse, binaryRole, unaryRole, size, traits, row}
 use Rattle.definition.specs.Opcode as role
 use Rattle.definition.specs.Tree.{Source, Expr, const, bool, read, binary, unary, compare, shortCircuit, bad, CaseLabel, value, range, badLabel, Stmt, assign, if, case, for, loop, exit, continue, return, badStmt, Block, done, _then_, Arms, noArms, arm, badArm}
 use Rattle.definition.specs.Emit.{Call, createLabel, bindLabel, loadVariable, storeVariable, loadConstant, addConstant, emitOpcode, emitJmp, emitJmpIfNot, emitCmpBr, resetStackDepth, setPosition, refused}
@@ -173,13 +173,15 @@ binding k = record { once = λ n l. omega arith; bytes = λ n. (tt, tt) }
 -- ---- expressions
 
 expr-once : (e : Expr) (h : ℕ) → Once nil (emitExpr e h)
-unfolding emitExpr isBind OneByte size traits row
+unfolding emitExpr binaryRole unaryRole isBind OneByte size traits row
 expr-once (const k) h = says (loadConstant k) (λ l. refl) tt
 expr-once (bool true) h = says (emitOpcode loadTrue) (λ l. refl) refl
 expr-once (bool false) h = says (emitOpcode loadFalse) (λ l. refl) refl
 expr-once (read v) h = says (loadVariable v) (λ l. refl) tt
-expr-once (binary o a b) h = fits (seq (expr-once a h) (seq (expr-once b (suc h)) (says (emitOpcode (role.binary o)) (λ l. refl) refl))) (λ l. omega arith)
-expr-once (unary o a) h = fits (seq (expr-once a h) (says (emitOpcode (role.unary o)) (λ l. refl) refl)) (λ l. omega arith)
+expr-once (binary (role.Arithmetic o) a b) h = fits (seq (expr-once a h) (seq (expr-once b (suc h)) (says (emitOpcode (role.arithmetic o)) (λ l. refl) refl))) (λ l. omega arith)
+expr-once (binary (role.Logic o) a b) h = fits (seq (expr-once a h) (seq (expr-once b (suc h)) (says (emitOpcode (role.logic o)) (λ l. refl) refl))) (λ l. omega arith)
+expr-once (unary role.Neg a) h = fits (seq (expr-once a h) (says (emitOpcode role.neg) (λ l. refl) refl)) (λ l. omega arith)
+expr-once (unary role.BoolNot a) h = fits (seq (expr-once a h) (says (emitOpcode role.boolNot) (λ l. refl) refl)) (λ l. omega arith)
 expr-once (compare c a b) h = fits (seq (expr-once a h) (seq (expr-once b (suc h)) (says (emitOpcode (role.compare c)) (λ l. refl) refl))) (λ l. omega arith)
 expr-once (shortCircuit AndThen a b) h = opens h λ alternative. opens (suc h) λ end.
     fits
@@ -290,7 +292,7 @@ module _ (body : Loops → Calls) (x : (o : Loops) → Once nil (body o)) where
       (seq (body-once i end used loops)
       (seq (says (loadVariable v) (λ l. refl) tt)
       (seq (says (loadConstant step) (λ l. refl) tt)
-      (seq (says (emitOpcode (role.binary role.Add)) (λ l. refl) refl)
+      (seq (says (emitOpcode (role.arithmetic role.Add)) (λ l. refl) refl)
       (seq (says (storeVariable v) (λ l. refl) tt) (seq (says (emitJmp head) (λ l. refl) tt) (binding end)))))))))
       (λ l. omega arith))))
       (λ l. omega arith)

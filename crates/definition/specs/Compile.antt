@@ -12,7 +12,7 @@ use Rattle.definition.specs.Res.{Res, ok, refuse, _>>=_, _>>_, demand, g
 use Rattle.definition.specs.Opcode.{Sheet}
 use Rattle.definition.specs.Sheet.{readSheet, sheetFault}
 use Rattle.definition.specs.Rules.{Rule, readRules}
-use Rattle.definition.specs.Tree.{Program}
+use Rattle.definition.specs.Tree.{Constant, Program}
 use Rattle.definition.specs.Program.{readProgram}
 use Rattle.definition.specs.Emit.{Emitter, emitterAt, PendingPatch, LineEntry, le16, acts}
 use Rattle.definition.specs.Stmt.{emitStmts}
@@ -53,7 +53,7 @@ patchJumps labels m (p ∷ ps) code = patchJumps labels m ps (patchJump labels m
 pub record FinalizedFunction : Type 0 where
   pub bytecode : List ℕ
   pub depth : ℕ
-  pub constants : List ℕ
+  pub constants : List Constant
   pub lineMap : List LineEntry
 
 -- the labels that some branch uses are protected

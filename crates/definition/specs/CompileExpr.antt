@@ -3,7 +3,7 @@ use Prim.Native.Nat.{ℕ}
 use mathlib.Core.Bool.{Bool, true, false}
 use mathlib.Core.Option.{Option, some, none}
 use Rattle.definition.specs.Opcode.{CompareOp, negate, commute}
-use Rattle.definition.specs.Tree.{Expr, const, bool, read, binary, unary, compare, shortCircuit, bad}
+use Rattle.definition.specs.Tree.{Constant, Expr, const, bool, read, binary, unary, compare, shortCircuit, bad}
 use Rattle.definition.specs.Emit.{emitCmpBr}
 use Rattle.definition.specs.Walk.{Calls, say}
 
@@ -11,7 +11,7 @@ use Rattle.definition.specs.Walk.{Calls, say}
 pub record ClassifiedCmp : Type 0 where
   pub op : CompareOp
   pub variable : ℕ
-  pub constant : ℕ
+  pub constant : Constant
 
 unfoldable pub readOf : Expr → Option ℕ
 readOf (const k) = none
@@ -23,7 +23,7 @@ readOf (compare c a b) = none
 readOf (shortCircuit o a b) = none
 readOf (bad f) = none
 
-unfoldable pub constantOf : Expr → Option ℕ
+unfoldable pub constantOf : Expr → Option Constant
 constantOf (const k) = some k
 constantOf (bool b) = none
 constantOf (read v) = none
@@ -33,7 +33,7 @@ constantOf (compare c a b) = none
 constantOf (shortCircuit o a b) = none
 constantOf (bad f) = none
 
-unfoldable pub zip : CompareOp → Option ℕ → Option ℕ → Option ClassifiedCmp
+unfoldable pub zip : CompareOp → Option ℕ → Option Constant → Option ClassifiedCmp
 zip c (some v) (some k) = some (record { op = c; variable = v; constant = k })
 zip c (some v) none = none
 zip c none k = none

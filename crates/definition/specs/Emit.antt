@@ -9,7 +9,7 @@ use lib.ListN.{length, take, drop, set}
 use Rattle.definition.specs.Limits.{maxCode, maxLabels, maxLines, maxConstants, codeFull, labelsFull, linesFull, constantsFull}
 use Rattle.definition.specs.Res.{Res, ok, refuse, _>>=_, _>>_, demand}
 use Rattle.definition.specs.Opcode.{Role, dup, loadVar, storeVar, loadConst, jmp, jmpIfNot, cmpBr, CompareOp, Sheet, opcode, comparisonByte, effect, shift}
-use Rattle.definition.specs.Tree.{Pos, Fault}
+use Rattle.definition.specs.Tree.{Constant, sameConstant, Pos, Fault}
 
 -- ---- state
 
@@ -41,7 +41,7 @@ pub record Emitter : Type 0 where
   pub labels : List (Option ℕ)
   pub patches : List PendingPatch
   pub lineMap : List LineEntry
-  pub constants : List ℕ
+  pub constants : List Constant
   pub last : Last
   pub depth : ℕ
   pub maxDepth : ℕ
@@ -123,11 +123,11 @@ loadAfter (stored w) s v e = elim (eqb w v) [ true ↦ foldStore s e | false ↦
 -- ---- the pool: equal constants share an index, new ones are appended (`intern_i32_constant`)
 
 -- where k stands first; the length where it stands nowhere
-unfoldable pub indexOf : ℕ → List ℕ → ℕ
+unfoldable pub indexOf : Constant → List Constant → ℕ
 indexOf k [] = 0
-indexOf k (x ∷ xs) = elim (eqb x k) [ true ↦ 0 | false ↦ suc (indexOf k xs) ]
+indexOf k (x ∷ xs) = elim (sameConstant x k) [ true ↦ 0 | false ↦ suc (indexOf k xs) ]
 
-unfoldable pub withConstant : ℕ → Emitter → Emitter
+unfoldable pub withConstant : Constant → Emitter → Emitter
 withConstant k e = record {
   bytecode = e .bytecode;
   labels = e .labels;
@@ -140,11 +140,11 @@ withConstant k e = record {
   position = e .position;
 }
 
-unfoldable pub pooledIf : Bool → ℕ → Emitter → Res Emitter
+unfoldable pub pooledIf : Bool → Constant → Emitter → Res Emitter
 pooledIf true k e = ok e
 pooledIf false k e = demand (ltb (length (e .constants)) maxConstants) constantsFull 0 >> ok (withConstant k e)
 
-unfoldable pub pooled : ℕ → Emitter → Res Emitter
+unfoldable pub pooled : Constant → Emitter → Res Emitter
 pooled k e = pooledIf (ltb (indexOf k (e .constants)) (length (e .constants))) k e
 
 -- ---- labels, patches and the rest of the state
@@ -201,15 +201,15 @@ pub data Call : Type 0 where
   bindLabel : ℕ → Call
   loadVariable : ℕ → Call
   storeVariable : ℕ → Call
-  loadConstant : ℕ → Call
+  loadConstant : Constant → Call
   -- a constant that enters the pool before the instruction that names it
-  addConstant : ℕ → Call
+  addConstant : Constant → Call
   -- an instruction of one byte
   emitOpcode : Role → Call
   emitJmp : ℕ → Call
   emitJmpIfNot : ℕ → Call
   -- comparison, variable, constant, label
-  emitCmpBr : CompareOp → ℕ → ℕ → ℕ → Call
+  emitCmpBr : CompareOp → ℕ → Constant → ℕ → Call
   resetStackDepth : ℕ → Call
   setPosition : Pos → Call
   -- emission meets a refusal

@@ -17,10 +17,10 @@ emitExpr (read v) h = say (loadVariable v)
 emitExpr (binary o a b) h = do
   emitExpr a h
   emitExpr b (suc h)
-  say (emitOpcode (role.binary o))
+  say (emitOpcode (role.binaryRole o))
 emitExpr (unary o a) h = do
   emitExpr a h
-  say (emitOpcode (role.unary o))
+  say (emitOpcode (role.unaryRole o))
 emitExpr (compare c a b) h = do
   emitExpr a h
   emitExpr b (suc h)

@@ -4,7 +4,7 @@ use mathlib.Core.Path.{_≡_}
 use mathlib.Core.List.{List, [], _∷_, _++_}
 use lib.ListN.{length}
 use Rattle.definition.specs.Res.{Res, ok, refuse}
-use Rattle.definition.specs.Opcode.{Sheet, Gt, Add, binary}
+use Rattle.definition.specs.Opcode.{Sheet, Gt, Add, arithmetic}
 use Rattle.definition.specs.Tree.{CaseLabel, Source, Expr, const, Stmt, if, case, for, loop, Block, _then_, Arms, arm, Program}
 use Rattle.definition.specs.Emit.{Call, createLabel, bindLabel, loadVariable, storeVariable, loadConstant, emitOpcode, emitJmp, emitCmpBr, Emitter, emitterAt, acts}
 use Rattle.definition.specs.Walk.{after}
@@ -64,7 +64,7 @@ unfoldable pub bodyOf : For → Loops → ℕ → List Call
 bodyOf f loops n = loopBody (f .loop) (suc n) (continues (f .loop) (f .body)) (λ o. emitBlock (f .body) o) loops (suc (suc n)) .1
 
 unfoldable pub countingOf : For → ℕ → List Call
-countingOf f n = loadVariable (f .control) ∷ loadConstant (f .step) ∷ emitOpcode (binary Add) ∷ storeVariable (f .control) ∷ emitJmp n ∷ bindLabel (suc n) ∷ []
+countingOf f n = loadVariable (f .control) ∷ loadConstant (f .step) ∷ emitOpcode (arithmetic Add) ∷ storeVariable (f .control) ∷ emitJmp n ∷ bindLabel (suc n) ∷ []
 
 -- ---- places
 

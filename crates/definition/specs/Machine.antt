@@ -11,7 +11,7 @@ use lib.IntN.{ℤ, pos, negsuc, negℤ, _+ℤ_, _-ℤ_, _*ℤ_}
 use lib.Signed.{quotZ, remZ}
 use Rattle.definition.specs.Limits.{width}
 use Rattle.definition.specs.Field.{has}
-use Rattle.definition.specs.Opcode.{Role, dup, pop, loadVar, storeVar, loadConst, loadTrue, loadFalse, binary, unary, compare, jmp, jmpIfNot, cmpBr, ret, BinaryOp, Add, Sub, Mul, Div, Mod, BoolAnd, BoolOr, BoolXor, UnaryOp, Neg, BoolNot, Sheet, roleOf, size, effect, shift, Flow, onward, away, either, stop, flow}
+use Rattle.definition.specs.Opcode.{Role, dup, pop, loadVar, storeVar, loadConst, loadTrue, loadFalse, arithmetic, logic, neg, boolNot, compare, jmp, jmpIfNot, cmpBr, ret, ArithmeticOp, Add, Sub, Mul, Div, Mod, BoolOp, BoolAnd, BoolOr, BoolXor, Sheet, roleOf, size, effect, shift, Flow, onward, away, either, stop, flow}
 use Rattle.definition.specs.Rules.{hasRole}
 use Rattle.definition.specs.Iec.{signedOf, iec, taken}
 use Rattle.definition.specs.Rewrite.{decode, startsFrom}
@@ -70,19 +70,17 @@ differ false b = b
 unfoldable pub dividedBy : ℕ → (ℤ → ℤ → ℤ) → ℕ → ℕ → Option ℕ
 dividedBy w f a b = elim (eqb b 0) [ true ↦ none | false ↦ some (onNumbers w f a b) ]
 
-unfoldable pub calculate : ℕ → BinaryOp → ℕ → ℕ → Option ℕ
+unfoldable pub calculate : ℕ → ArithmeticOp → ℕ → ℕ → Option ℕ
 calculate w Add a b = some (onNumbers w _+ℤ_ a b)
 calculate w Sub a b = some (onNumbers w _-ℤ_ a b)
 calculate w Mul a b = some (onNumbers w _*ℤ_ a b)
 calculate w Div a b = dividedBy w quotZ a b
 calculate w Mod a b = dividedBy w remZ a b
-calculate w BoolAnd a b = some (bit (truth a && truth b))
-calculate w BoolOr a b = some (bit (truth a || truth b))
-calculate w BoolXor a b = some (bit (differ (truth a) (truth b)))
 
-unfoldable pub unaryResult : ℕ → UnaryOp → ℕ → ℕ
-unaryResult w Neg a = wrapped w (negℤ (signedOf w a))
-unaryResult w BoolNot a = bit (not (truth a))
+unfoldable pub decide : BoolOp → Bool → Bool → Bool
+decide BoolAnd a b = a && b
+decide BoolOr a b = a || b
+decide BoolXor a b = differ a b
 
 -- ---- instructions
 
@@ -135,8 +133,10 @@ execute storeVar m p st vs = popOne st λ a rest. at (p + size storeVar) rest (s
 execute loadConst m p st vs = at (p + size loadConst) (constantAt m (p + 1) ∷ st) vs
 execute loadTrue m p st vs = at (p + size loadTrue) (bit true ∷ st) vs
 execute loadFalse m p st vs = at (p + size loadFalse) (bit false ∷ st) vs
-execute (binary o) m p st vs = popTwo st λ a b rest. calculated (calculate (m .width) o a b) (p + size (binary o)) rest vs
-execute (unary o) m p st vs = popOne st λ a rest. at (p + size (unary o)) (unaryResult (m .width) o a ∷ rest) vs
+execute (arithmetic o) m p st vs = popTwo st λ a b rest. calculated (calculate (m .width) o a b) (p + size (arithmetic o)) rest vs
+execute (logic o) m p st vs = popTwo st λ a b rest. at (p + size (logic o)) (bit (decide o (truth a) (truth b)) ∷ rest) vs
+execute neg m p st vs = popOne st λ a rest. at (p + size neg) (wrapped (m .width) (negℤ (signedOf (m .width) a)) ∷ rest) vs
+execute boolNot m p st vs = popOne st λ a rest. at (p + size boolNot) (bit (not (truth a)) ∷ rest) vs
 execute (compare c) m p st vs = popTwo st λ a b rest. at (p + size (compare c)) (bit (iec c (signedOf (m .width) a) (signedOf (m .width) b)) ∷ rest) vs
 execute jmp m p st vs = leadsTo (target (m .bytecode) (p + size jmp)) st vs
 execute jmpIfNot m p st vs = popOne st λ a rest. branchIf (not (truth a)) (m .bytecode) (p + size jmpIfNot) rest vs
@@ -201,10 +201,10 @@ decided m x = outcomeOf (roleAt m (x .place)) m x
 unfoldable pub stepInRuns : State → List Bool → Step → runs.Step
 stepInRuns x os (goes y) = runs.goes (inRuns y os)
 stepInRuns x os finishes = runs.finishes
-stepInRuns x os stops = runs.goes (record { place = x .place + size (binary Div); height = shift (effect (binary Div)) (length (x .stack)); outcomes = os })
+stepInRuns x os stops = runs.goes (record { place = x .place + size (arithmetic Div); height = shift (effect (arithmetic Div)) (length (x .stack)); outcomes = os })
 stepInRuns x os (breaks b) = runs.breaks b
 
 -- `unfolding open-Machine` names all of this module's definitions at once
 unfoldable pub open-Machine : Unit {0}
-unfolding imageOf wrapped onNumbers truth bit differ dividedBy calculate unaryResult operandAt constantAt compares at stored popOne popTwo leadsTo calculated branchIf execute executeIf isStart roleAt step andThen afterSteps inRuns outcomeIf outcomeOf decided stepInRuns
+unfolding imageOf wrapped onNumbers truth bit differ dividedBy calculate decide operandAt constantAt compares at stored popOne popTwo leadsTo calculated branchIf execute executeIf isStart roleAt step andThen afterSteps inRuns outcomeIf outcomeOf decided stepInRuns
 open-Machine = tt

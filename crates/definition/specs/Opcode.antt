@@ -6,9 +6,22 @@ use mathlib.Core.Option.{Option, some, none}
 use lib.Dec.{eqb}
 use lib.ListN.{getD}
 
+-- operators of two numbers
+pub data ArithmeticOp : Type 0 where
+  Add Sub Mul Div Mod : ArithmeticOp
+
+-- operators of two truth values
+pub data BoolOp : Type 0 where
+  BoolAnd BoolOr BoolXor : BoolOp
+
 -- `O`: the operators of two values
 pub data BinaryOp : Type 0 where
-  Add Sub Mul Div Mod BoolAnd BoolOr BoolXor : BinaryOp
+  Arithmetic : ArithmeticOp → BinaryOp
+  Logic : BoolOp → BinaryOp
+
+-- every operator of two values at its number
+abbrev pub binaryOps : List BinaryOp
+binaryOps = Arithmetic Add ∷ Arithmetic Sub ∷ Arithmetic Mul ∷ Arithmetic Div ∷ Arithmetic Mod ∷ Logic BoolAnd ∷ Logic BoolOr ∷ Logic BoolXor ∷ []
 
 -- `U`
 pub data UnaryOp : Type 0 where
@@ -25,15 +38,25 @@ pub data ShortCircuitOp : Type 0 where
 -- the 27 roles, by class
 pub data Role : Type 0 where
   dup pop loadVar storeVar loadConst loadTrue loadFalse : Role
-  binary : BinaryOp → Role
-  unary : UnaryOp → Role
+  arithmetic : ArithmeticOp → Role
+  logic : BoolOp → Role
+  neg boolNot : Role
   compare : CompareOp → Role
   jmp jmpIfNot cmpBr ret : Role
+
+-- the role of an operator
+unfoldable pub binaryRole : BinaryOp → Role
+binaryRole (Arithmetic o) = arithmetic o
+binaryRole (Logic o) = logic o
+
+unfoldable pub unaryRole : UnaryOp → Role
+unaryRole Neg = neg
+unaryRole BoolNot = boolNot
 
 -- every role at its number
 unfoldable pub roles : List Role
 roles = dup ∷ pop ∷ loadVar ∷ storeVar ∷ loadConst ∷ loadTrue ∷ loadFalse
-    ∷ binary Add ∷ binary Sub ∷ binary Mul ∷ binary Div ∷ binary Mod ∷ unary Neg ∷ binary BoolAnd ∷ binary BoolOr ∷ binary BoolXor ∷ unary BoolNot
+    ∷ arithmetic Add ∷ arithmetic Sub ∷ arithmetic Mul ∷ arithmetic Div ∷ arithmetic Mod ∷ neg ∷ logic BoolAnd ∷ logic BoolOr ∷ logic BoolXor ∷ boolNot
     ∷ compare Eq ∷ compare Ne ∷ compare Lt ∷ compare Le ∷ compare Gt ∷ compare Ge
     ∷ jmp ∷ jmpIfNot ∷ cmpBr ∷ ret ∷ []
 
@@ -53,16 +76,16 @@ number storeVar = 3
 number loadConst = 4
 number loadTrue = 5
 number loadFalse = 6
-number (binary Add) = 7
-number (binary Sub) = 8
-number (binary Mul) = 9
-number (binary Div) = 10
-number (binary Mod) = 11
-number (unary Neg) = 12
-number (binary BoolAnd) = 13
-number (binary BoolOr) = 14
-number (binary BoolXor) = 15
-number (unary BoolNot) = 16
+number (arithmetic Add) = 7
+number (arithmetic Sub) = 8
+number (arithmetic Mul) = 9
+number (arithmetic Div) = 10
+number (arithmetic Mod) = 11
+number neg = 12
+number (logic BoolAnd) = 13
+number (logic BoolOr) = 14
+number (logic BoolXor) = 15
+number boolNot = 16
 number (compare Eq) = 17
 number (compare Ne) = 18
 number (compare Lt) = 19
@@ -106,8 +129,10 @@ traits storeVar = row 3 1 down onward
 traits loadConst = row 3 0 up onward
 traits loadTrue = row 1 0 up onward
 traits loadFalse = row 1 0 up onward
-traits (binary o) = row 1 2 down onward
-traits (unary o) = row 1 1 same onward
+traits (arithmetic o) = row 1 2 down onward
+traits (logic o) = row 1 2 down onward
+traits neg = row 1 1 same onward
+traits boolNot = row 1 1 same onward
 traits (compare c) = row 1 2 down onward
 traits jmp = row 3 0 same away
 traits jmpIfNot = row 3 1 down either
@@ -170,5 +195,5 @@ comparisonOf s b = beside b (s .comparisons) (Eq ∷ Ne ∷ Lt ∷ Le ∷ Gt ∷
 
 -- `unfolding open-Opcode` names all of this module's definitions at once
 unfoldable pub open-Opcode : Unit {0}
-unfolding roles compareIndex number shift row traits size needs effect flow negate commute opcode comparisonByte beside roleOf comparisonOf
+unfolding binaryRole unaryRole roles compareIndex number shift row traits size needs effect flow negate commute opcode comparisonByte beside roleOf comparisonOf
 open-Opcode = tt

@@ -11,8 +11,8 @@ use Rattle.definition.specs.Limits.{maxProgram, maxNesting, maxVariables
 use Rattle.definition.specs.Res.{Res, ok, refuse, _>>=_, _>>_, demand}
 use Rattle.definition.specs.Field.{lf, comma, split, firstLine, Field, upTo, below, Numbers, wrong, far, are, numbers}
 use Rattle.definition.specs.Field as fields
-use Rattle.definition.specs.Opcode.{BinaryOp, Add, Sub, Mul, Div, Mod, BoolAnd, BoolOr, BoolXor, UnaryOp, Neg, BoolNot, CompareOp, Eq, Ne, Lt, Le, Gt, Ge, ShortCircuitOp, AndThen, OrElse}
-use Rattle.definition.specs.Tree.{Pos, Source, Fault, Expr, const, bool, read, binary, unary, compare, shortCircuit, bad, CaseLabel, value, range, badLabel, Stmt, assign, if, case, for, loop, exit, continue, return, badStmt, Block, done, _then_, Arms, noArms, arm, badArm, Program}
+use Rattle.definition.specs.Opcode.{Add, BinaryOp, Arithmetic, binaryOps, UnaryOp, Neg, BoolNot, CompareOp, Eq, Ne, Lt, Le, Gt, Ge, ShortCircuitOp, AndThen, OrElse}
+use Rattle.definition.specs.Tree.{Constant, Pos, Source, Fault, Expr, const, bool, read, binary, unary, compare, shortCircuit, bad, CaseLabel, value, range, badLabel, Stmt, assign, if, case, for, loop, exit, continue, return, badStmt, Block, done, _then_, Arms, noArms, arm, badArm, Program}
 
 -- ---- one line
 
@@ -103,7 +103,7 @@ pub data StmtLine : Type 0 where
   -- arms, else
   S : Pos → ℕ → ℕ → StmtLine
   -- loop, variable, step, body
-  F : Pos → ℕ → ℕ → ℕ → ℕ → StmtLine
+  F : Pos → ℕ → ℕ → Constant → ℕ → StmtLine
   -- loop, body, continuing
   L : Pos → ℕ → ℕ → ℕ → StmtLine
   -- loop
@@ -124,7 +124,7 @@ stmtForms v = form (code "A") (any ∷ any ∷ below v ∷ []) (λ ns. A (posOf 
     ∷ []
 
 pub data ExprLine : Type 0 where
-  K : ℕ → ExprLine
+  K : Constant → ExprLine
   B : Bool → ExprLine
   D : ℕ → ExprLine
   O : BinaryOp → ExprLine
@@ -136,7 +136,7 @@ unfoldable pub exprForms : ℕ → List (Form ExprLine)
 exprForms v = form (code "K") (signed ∷ []) (λ ns. K (num ns 0))
     ∷ form (code "B") (upTo 1 ∷ []) (λ ns. B (eqb (num ns 0) 1))
     ∷ form (code "D") (below v ∷ []) (λ ns. D (num ns 0))
-    ∷ form (code "O") (upTo 7 ∷ []) (λ ns. O (getD (Add ∷ Sub ∷ Mul ∷ Div ∷ Mod ∷ BoolAnd ∷ BoolOr ∷ BoolXor ∷ []) (num ns 0) Add))
+    ∷ form (code "O") (upTo 7 ∷ []) (λ ns. O (getD binaryOps (num ns 0) (Arithmetic Add)))
     ∷ form (code "U") (upTo 1 ∷ []) (λ ns. U (getD (Neg ∷ BoolNot ∷ []) (num ns 0) Neg))
     ∷ form (code "C") (upTo 5 ∷ []) (λ ns. C (getD (Eq ∷ Ne ∷ Lt ∷ Le ∷ Gt ∷ Ge ∷ []) (num ns 0) Eq))
     ∷ form (code "H") (upTo 1 ∷ []) (λ ns. H (getD (AndThen ∷ OrElse ∷ []) (num ns 0) AndThen))

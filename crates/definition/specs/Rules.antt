@@ -8,7 +8,7 @@ use lib.ListN.{getD}
 use Rattle.definition.specs.Limits.{maxField, maxRules, maxVariables, passCount, badRule}
 use Rattle.definition.specs.Res.{Res, ok, _>>=_, _>>_, demand, given}
 use Rattle.definition.specs.Field.{lf, comma, split, Field, upTo, below, Numbers, wrong, far, are, numbers}
-use Rattle.definition.specs.Opcode.{Role, dup, pop, loadVar, storeVar, loadConst, loadTrue, loadFalse, binary, unary, compare, jmp, jmpIfNot, cmpBr, ret, roles, number, size, Effect, up, down, same, effect}
+use Rattle.definition.specs.Opcode.{Role, dup, pop, loadVar, storeVar, loadConst, loadTrue, loadFalse, arithmetic, logic, neg, boolNot, compare, jmp, jmpIfNot, cmpBr, ret, roles, number, size, Effect, up, down, same, effect}
 
 -- what is done with one instruction of a matched pair (the source's `Action`)
 pub data Action : Type 0 where
@@ -76,8 +76,10 @@ isVariable storeVar = true
 isVariable loadConst = false
 isVariable loadTrue = false
 isVariable loadFalse = false
-isVariable (binary o) = false
-isVariable (unary o) = false
+isVariable (arithmetic o) = false
+isVariable (logic o) = false
+isVariable neg = false
+isVariable boolNot = false
 isVariable (compare c) = false
 isVariable jmp = false
 isVariable jmpIfNot = false

@@ -7,7 +7,7 @@ use lib.Dec.{eqb, leb}
 use Rattle.definition.specs.Limits.{width, noLoop}
 use Rattle.definition.specs.Opcode.{Eq, Le, Ge, CompareOp, Add, dup, pop, ret}
 use Rattle.definition.specs.Opcode as role
-use Rattle.definition.specs.Tree.{Source, Expr, CaseLabel, value, range, badLabel, Stmt, assign, if, case, for, loop, exit, continue, return, badStmt, Block, done, _then_, Arms, noArms, arm, badArm}
+use Rattle.definition.specs.Tree.{Constant, Source, Expr, CaseLabel, value, range, badLabel, Stmt, assign, if, case, for, loop, exit, continue, return, badStmt, Block, done, _then_, Arms, noArms, arm, badArm}
 use Rattle.definition.specs.Emit.{bindLabel, loadVariable, storeVariable, loadConstant, addConstant, emitOpcode, emitJmp, emitJmpIfNot, resetStackDepth, setPosition, refused}
 use Rattle.definition.specs.Walk.{Calls, _>>=_, _>>_, say, nothing, newLabel, when}
 use Rattle.definition.specs.CompileExpr.{ClassifiedCmp, constantOf, classify, emitClassifiedCmpBr}
@@ -160,7 +160,7 @@ elsePart false next otherwise = do
 -- ---- CASE: the selector stays on the stack while labels are tested
 
 -- one test of a copy of the selector
-unfoldable pub testAgainst : CompareOp → ℕ → ℕ → Calls
+unfoldable pub testAgainst : CompareOp → Constant → ℕ → Calls
 testAgainst c k fail = do
   say (emitOpcode dup)
   say (loadConstant k)
@@ -216,7 +216,7 @@ loopBody i end nextUsed body loops = do
   when nextUsed (say (bindLabel next))
 
 -- is a value negative? Such a step counts down (a stand-in)
-unfoldable pub countsDown : ℕ → Bool
+unfoldable pub countsDown : Constant → Bool
 countsDown step = leb (2 ^ (width - 1)) step
 
 unfoldable pub bound : Bool → CompareOp
@@ -224,7 +224,7 @@ bound true = Ge
 bound false = Le
 
 -- a FOR's end test: leaves the loop unless the control is within the end
-unfoldable pub endTestBy : Option ℕ → CompareOp → ℕ → Expr → ℕ → Calls
+unfoldable pub endTestBy : Option Constant → CompareOp → ℕ → Expr → ℕ → Calls
 endTestBy (some k) within v to end = emitClassifiedCmpBr (record { op = within; variable = v; constant = k }) false end
 endTestBy none within v to end = do
   say (loadVariable v)
@@ -232,7 +232,7 @@ endTestBy none within v to end = do
   say (emitOpcode (role.compare within))
   say (emitJmpIfNot end)
 
-unfoldable pub emitFor : ℕ → ℕ → ℕ → Expr → Expr → Bool → (Loops → Calls) → Loops → Calls
+unfoldable pub emitFor : ℕ → ℕ → Constant → Expr → Expr → Bool → (Loops → Calls) → Loops → Calls
 emitFor i v step from to nextUsed body loops = do
   emitExpr from 0
   say (storeVariable v)
@@ -243,7 +243,7 @@ emitFor i v step from to nextUsed body loops = do
   loopBody i end nextUsed body loops
   say (loadVariable v)
   say (loadConstant step)
-  say (emitOpcode (role.binary Add))
+  say (emitOpcode (role.arithmetic Add))
   say (storeVariable v)
   say (emitJmp head)
   say (bindLabel end)

@@ -3,6 +3,7 @@
 use Prim.Native.Nat.{ℕ}
 use mathlib.Core.List.{List, []}
 use mathlib.Core.Bool.{Bool}
+use lib.Dec.{eqb}
 use Rattle.definition.specs.Opcode.{BinaryOp, UnaryOp, CompareOp, ShortCircuitOp}
 
 -- a source position
@@ -20,9 +21,16 @@ pub record Fault : Type 0 where
   pub number : ℕ
   pub place : ℕ
 
--- values are two's complement bits
+-- a constant as its two's complement bits: of an expression, a CASE label, a FOR's step, a fused comparison, the pool
+abbrev pub Constant : Type 0
+Constant = ℕ
+
+-- its one equality
+abbrev pub sameConstant : Constant → Constant → Bool
+sameConstant = eqb
+
 pub data Expr : Type 0 where
-  const : ℕ → Expr
+  const : Constant → Expr
   bool : Bool → Expr
   read : ℕ → Expr
   binary : BinaryOp → Expr → Expr → Expr
@@ -32,8 +40,8 @@ pub data Expr : Type 0 where
   bad : Fault → Expr
 
 pub data CaseLabel : Type 0 where
-  value : ℕ → CaseLabel
-  range : ℕ → ℕ → CaseLabel
+  value : Constant → CaseLabel
+  range : Constant → Constant → CaseLabel
   badLabel : Fault → CaseLabel
 
 mutual
@@ -42,7 +50,7 @@ mutual
     if : Source → Expr → Block → Block → Stmt
     case : Source → Expr → Arms → Block → Stmt
     -- loop number, control variable, step, from, to, body
-    for : Source → ℕ → ℕ → ℕ → Expr → Expr → Block → Stmt
+    for : Source → ℕ → ℕ → Constant → Expr → Expr → Block → Stmt
     -- loop number, body, `continuing`
     loop : Source → ℕ → Block → Block → Stmt
     exit : Source → ℕ → Stmt

@@ -9,14 +9,14 @@ use lib.ListN.{length, getD, List·getD-eq-default}
 use Rattle.definition.specs.Opcode as def
 use Rattle.definition.specs.Opcode.{traits, compare, number, compareIndex, up, down, shift, roles, ret}
 use Rattle.definition.specs.Rules.{roleNumbered}
-use Rattle.opcode.specs.declared.BinaryOp.the-variants.{Add, Sub, Mul, Div, Mod, BoolAnd, BoolOr, BoolXor}
-use Rattle.opcode.specs.declared.UnaryOp.the-variants.{Neg, BoolNot}
+use Rattle.opcode.specs.declared.ArithmeticOp.the-variants.{Add, Sub, Mul, Div, Mod}
+use Rattle.opcode.specs.declared.BoolOp.the-variants.{BoolAnd, BoolOr, BoolXor}
 use Rattle.opcode.specs.declared.CompareOp.the-variants.{Eq, Ne, Lt, Le, Gt, Ge}
 use Rattle.opcode.specs.declared.Role.{Role}
 use Rattle.opcode.specs.declared.Effect.{Effect}
 use Rattle.opcode.specs.declared.Traits.{Traits}
 use Rattle.opcode.specs.View.{roleView, effectView, IsRow}
-use Rattle.opcode.specs.declared.Role.the-variants.{Dup, Pop, LoadVar, StoreVar, LoadConst, LoadTrue, LoadFalse, Binary, Unary, Compare, Jmp, JmpIfNot, CmpBr, Ret}
+use Rattle.opcode.specs.declared.Role.the-variants.{Dup, Pop, LoadVar, StoreVar, LoadConst, LoadTrue, LoadFalse, Arithmetic, Logic, Neg, BoolNot, Compare, Jmp, JmpIfNot, CmpBr, Ret}
 
 pub compare-number : (c : def.CompareOp) → number (compare c) ≡ 17 + compareIndex c
 unfolding number compareIndex
@@ -45,7 +45,7 @@ seen-at f (x ∷ l) d e (suc n) h = seen-at f l d e n (omega arith)
 -- the code's table
 abbrev pub table : List Role
 table = Dup ∷ Pop ∷ LoadVar ∷ StoreVar ∷ LoadConst ∷ LoadTrue ∷ LoadFalse
-    ∷ Binary Add ∷ Binary Sub ∷ Binary Mul ∷ Binary Div ∷ Binary Mod ∷ Unary Neg ∷ Binary BoolAnd ∷ Binary BoolOr ∷ Binary BoolXor ∷ Unary BoolNot
+    ∷ Arithmetic Add ∷ Arithmetic Sub ∷ Arithmetic Mul ∷ Arithmetic Div ∷ Arithmetic Mod ∷ Neg ∷ Logic BoolAnd ∷ Logic BoolOr ∷ Logic BoolXor ∷ BoolNot
     ∷ Compare Eq ∷ Compare Ne ∷ Compare Lt ∷ Compare Le ∷ Compare Gt ∷ Compare Ge
     ∷ Jmp ∷ JmpIfNot ∷ CmpBr ∷ Ret ∷ []
 

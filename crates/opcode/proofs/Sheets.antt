@@ -10,7 +10,7 @@ use native.Mathlib.Decide.{decLt}
 use lib.Dec.{eqb}
 use lib.ListN.{length, getD}
 use Rattle.definition.specs.Field.{has}
-use Rattle.definition.specs.Opcode.{CompareOp, Eq, Ne, Lt, Le, Gt, Ge, Add, Sub, Mul, Div, Mod, BoolAnd, BoolOr, BoolXor, Neg, BoolNot, Role, dup, pop, loadVar, storeVar, loadConst, loadTrue, loadFalse, binary, unary, compare, jmp, jmpIfNot, cmpBr, ret, roles, number, compareIndex, Sheet, opcode, comparisonByte, beside, roleOf, comparisonOf}
+use Rattle.definition.specs.Opcode.{CompareOp, Eq, Ne, Lt, Le, Gt, Ge, Add, Sub, Mul, Div, Mod, BoolAnd, BoolOr, BoolXor, Role, dup, pop, loadVar, storeVar, loadConst, loadTrue, loadFalse, arithmetic, logic, neg, boolNot, compare, jmp, jmpIfNot, cmpBr, ret, roles, number, compareIndex, Sheet, opcode, comparisonByte, beside, roleOf, comparisonOf}
 use Rattle.definition.specs.Rules.{roleNumbered}
 use Rattle.definition.specs.Sheet.{distinct}
 use Rattle.field.proofs.Tests.{and-left, and-right}
@@ -76,16 +76,16 @@ role-number storeVar = refl
 role-number loadConst = refl
 role-number loadTrue = refl
 role-number loadFalse = refl
-role-number (binary Add) = refl
-role-number (binary Sub) = refl
-role-number (binary Mul) = refl
-role-number (binary Div) = refl
-role-number (binary Mod) = refl
-role-number (binary BoolAnd) = refl
-role-number (binary BoolOr) = refl
-role-number (binary BoolXor) = refl
-role-number (unary Neg) = refl
-role-number (unary BoolNot) = refl
+role-number (arithmetic Add) = refl
+role-number (arithmetic Sub) = refl
+role-number (arithmetic Mul) = refl
+role-number (arithmetic Div) = refl
+role-number (arithmetic Mod) = refl
+role-number (logic BoolAnd) = refl
+role-number (logic BoolOr) = refl
+role-number (logic BoolXor) = refl
+role-number neg = refl
+role-number boolNot = refl
 role-number (compare Eq) = refl
 role-number (compare Ne) = refl
 role-number (compare Lt) = refl

@@ -2,30 +2,40 @@
 use mathlib.Core.Path.{_≡_}
 use Rattle.definition.specs.Opcode as def
 use Rattle.opcode.specs.declared.BinaryOp.{BinaryOp}
-use Rattle.opcode.specs.declared.BinaryOp.the-variants.{Add, Sub, Mul, Div, Mod, BoolAnd, BoolOr, BoolXor}
+use Rattle.opcode.specs.declared.BinaryOp.the-variants as binary
+use Rattle.opcode.specs.declared.ArithmeticOp.{ArithmeticOp}
+use Rattle.opcode.specs.declared.ArithmeticOp.the-variants.{Add, Sub, Mul, Div, Mod}
+use Rattle.opcode.specs.declared.BoolOp.{BoolOp}
+use Rattle.opcode.specs.declared.BoolOp.the-variants.{BoolAnd, BoolOr, BoolXor}
 use Rattle.opcode.specs.declared.UnaryOp.{UnaryOp}
-use Rattle.opcode.specs.declared.UnaryOp.the-variants.{Neg, BoolNot}
+use Rattle.opcode.specs.declared.UnaryOp.the-variants as unary
 use Rattle.opcode.specs.declared.CompareOp.{CompareOp}
 use Rattle.opcode.specs.declared.CompareOp.the-variants.{Eq, Ne, Lt, Le, Gt, Ge}
 use Rattle.opcode.specs.declared.Role.{Role}
-use Rattle.opcode.specs.declared.Role.the-variants.{Dup, Pop, LoadVar, StoreVar, LoadConst, LoadTrue, LoadFalse, Binary, Unary, Compare, Jmp, JmpIfNot, CmpBr, Ret}
+use Rattle.opcode.specs.declared.Role.the-variants.{Dup, Pop, LoadVar, StoreVar, LoadConst, LoadTrue, LoadFalse, Arithmetic, Logic, Neg, BoolNot, Compare, Jmp, JmpIfNot, CmpBr, Ret}
 use Rattle.opcode.specs.declared.Effect.{Effect}
 use Rattle.opcode.specs.declared.Effect.the-variants.{Up, Down, Same}
 use Rattle.opcode.specs.declared.Traits.{Traits}
 
+abbrev pub arithmeticView : ArithmeticOp → def.ArithmeticOp
+arithmeticView Add = def.Add
+arithmeticView Sub = def.Sub
+arithmeticView Mul = def.Mul
+arithmeticView Div = def.Div
+arithmeticView Mod = def.Mod
+
+abbrev pub boolView : BoolOp → def.BoolOp
+boolView BoolAnd = def.BoolAnd
+boolView BoolOr = def.BoolOr
+boolView BoolXor = def.BoolXor
+
 abbrev pub binaryView : BinaryOp → def.BinaryOp
-binaryView Add = def.Add
-binaryView Sub = def.Sub
-binaryView Mul = def.Mul
-binaryView Div = def.Div
-binaryView Mod = def.Mod
-binaryView BoolAnd = def.BoolAnd
-binaryView BoolOr = def.BoolOr
-binaryView BoolXor = def.BoolXor
+binaryView (binary.Arithmetic o) = def.Arithmetic (arithmeticView o)
+binaryView (binary.Logic o) = def.Logic (boolView o)
 
 abbrev pub unaryView : UnaryOp → def.UnaryOp
-unaryView Neg = def.Neg
-unaryView BoolNot = def.BoolNot
+unaryView unary.Neg = def.Neg
+unaryView unary.BoolNot = def.BoolNot
 
 abbrev pub compareView : CompareOp → def.CompareOp
 compareView Eq = def.Eq
@@ -43,8 +53,10 @@ roleView StoreVar = def.storeVar
 roleView LoadConst = def.loadConst
 roleView LoadTrue = def.loadTrue
 roleView LoadFalse = def.loadFalse
-roleView (Binary o) = def.binary (binaryView o)
-roleView (Unary o) = def.unary (unaryView o)
+roleView (Arithmetic o) = def.arithmetic (arithmeticView o)
+roleView (Logic o) = def.logic (boolView o)
+roleView Neg = def.neg
+roleView BoolNot = def.boolNot
 roleView (Compare c) = def.compare (compareView c)
 roleView Jmp = def.jmp
 roleView JmpIfNot = def.jmpIfNot

@@ -1,20 +1,28 @@
 // Roles and comparisons: the stand-in for the source's `opcode` and `cmp_op` (document 01, 'Sheet').
 ghost use mathlib.Core.Path.{_≡_};
-ghost use Rattle.definition.specs.Opcode.{binary, unary, size, number, traits, shift, negate, commute, compareIndex};
+ghost use Rattle.definition.specs.Opcode.{arithmetic, logic, binaryRole, unaryRole, size, number, traits, shift, negate, commute, compareIndex};
 ghost use Rattle.definition.specs.Rules.{roleNumbered};
-ghost use Rattle.opcode.specs.View.{binaryView, unaryView, compareView, roleView, effectView, IsRow};
+ghost use Rattle.opcode.specs.View.{arithmeticView, boolView, binaryView, unaryView, compareView, roleView, effectView, IsRow};
 
 pub mod sheet; // sheet.rt: reading a sheet, and what a sheet gives
 
-pub enum BinaryOp {
+pub enum ArithmeticOp {
     Add,
     Sub,
     Mul,
     Div,
     Mod,
+}
+
+pub enum BoolOp {
     BoolAnd,
     BoolOr,
     BoolXor,
+}
+
+pub enum BinaryOp {
+    Arithmetic(ArithmeticOp),
+    Logic(BoolOp),
 }
 
 pub enum UnaryOp {
@@ -40,8 +48,10 @@ pub enum Role {
     LoadConst,
     LoadTrue,
     LoadFalse,
-    Binary(BinaryOp),
-    Unary(UnaryOp),
+    Arithmetic(ArithmeticOp),
+    Logic(BoolOp),
+    Neg,
+    BoolNot,
     Compare(CompareOp),
     Jmp,
     JmpIfNot,
@@ -58,16 +68,16 @@ const ROLES: [Role; 27] = [
     Role::LoadConst,
     Role::LoadTrue,
     Role::LoadFalse,
-    Role::Binary(BinaryOp::Add),
-    Role::Binary(BinaryOp::Sub),
-    Role::Binary(BinaryOp::Mul),
-    Role::Binary(BinaryOp::Div),
-    Role::Binary(BinaryOp::Mod),
-    Role::Unary(UnaryOp::Neg),
-    Role::Binary(BinaryOp::BoolAnd),
-    Role::Binary(BinaryOp::BoolOr),
-    Role::Binary(BinaryOp::BoolXor),
-    Role::Unary(UnaryOp::BoolNot),
+    Role::Arithmetic(ArithmeticOp::Add),
+    Role::Arithmetic(ArithmeticOp::Sub),
+    Role::Arithmetic(ArithmeticOp::Mul),
+    Role::Arithmetic(ArithmeticOp::Div),
+    Role::Arithmetic(ArithmeticOp::Mod),
+    Role::Neg,
+    Role::Logic(BoolOp::BoolAnd),
+    Role::Logic(BoolOp::BoolOr),
+    Role::Logic(BoolOp::BoolXor),
+    Role::BoolNot,
     Role::Compare(CompareOp::Eq),
     Role::Compare(CompareOp::Ne),
     Role::Compare(CompareOp::Lt),
@@ -152,30 +162,50 @@ impl CompareOp {
     }
 }
 
-impl BinaryOp {
+impl ArithmeticOp {
     fn number(self) -> u8
-        ensures { λ r. ⌜ r ≡ number (binary (binaryView self)) ⌝ }
+        ensures { λ r. ⌜ r ≡ number (arithmetic (arithmeticView self)) ⌝ }
     {
         match self {
-            BinaryOp::Add => 7,
-            BinaryOp::Sub => 8,
-            BinaryOp::Mul => 9,
-            BinaryOp::Div => 10,
-            BinaryOp::Mod => 11,
-            BinaryOp::BoolAnd => 13,
-            BinaryOp::BoolOr => 14,
-            BinaryOp::BoolXor => 15,
+            ArithmeticOp::Add => 7,
+            ArithmeticOp::Sub => 8,
+            ArithmeticOp::Mul => 9,
+            ArithmeticOp::Div => 10,
+            ArithmeticOp::Mod => 11,
+        }
+    }
+}
+
+impl BoolOp {
+    fn number(self) -> u8
+        ensures { λ r. ⌜ r ≡ number (logic (boolView self)) ⌝ }
+    {
+        match self {
+            BoolOp::BoolAnd => 13,
+            BoolOp::BoolOr => 14,
+            BoolOp::BoolXor => 15,
+        }
+    }
+}
+
+impl BinaryOp {
+    pub fn role(self) -> Role
+        ensures { λ r. ⌜ roleView r ≡ binaryRole (binaryView self) ⌝ }
+    {
+        match self {
+            BinaryOp::Arithmetic(o) => Role::Arithmetic(o),
+            BinaryOp::Logic(o) => Role::Logic(o),
         }
     }
 }
 
 impl UnaryOp {
-    fn number(self) -> u8
-        ensures { λ r. ⌜ r ≡ number (unary (unaryView self)) ⌝ }
+    pub fn role(self) -> Role
+        ensures { λ r. ⌜ roleView r ≡ unaryRole (unaryView self) ⌝ }
     {
         match self {
-            UnaryOp::Neg => 12,
-            UnaryOp::BoolNot => 16,
+            UnaryOp::Neg => Role::Neg,
+            UnaryOp::BoolNot => Role::BoolNot,
         }
     }
 }
@@ -193,8 +223,10 @@ impl Role {
             Role::LoadConst => 4,
             Role::LoadTrue => 5,
             Role::LoadFalse => 6,
-            Role::Binary(o) => o.number(),
-            Role::Unary(o) => o.number(),
+            Role::Arithmetic(o) => o.number(),
+            Role::Neg => 12,
+            Role::Logic(o) => o.number(),
+            Role::BoolNot => 16,
             Role::Compare(c) => 17 + c.index(),
             Role::Jmp => 23,
             Role::JmpIfNot => 24,
@@ -222,8 +254,10 @@ impl Role {
             Role::LoadConst => row(3, 0, Effect::Up),
             Role::LoadTrue => row(1, 0, Effect::Up),
             Role::LoadFalse => row(1, 0, Effect::Up),
-            Role::Binary(_) => row(1, 2, Effect::Down),
-            Role::Unary(_) => row(1, 1, Effect::Same),
+            Role::Arithmetic(_) => row(1, 2, Effect::Down),
+            Role::Logic(_) => row(1, 2, Effect::Down),
+            Role::Neg => row(1, 1, Effect::Same),
+            Role::BoolNot => row(1, 1, Effect::Same),
             Role::Compare(_) => row(1, 2, Effect::Down),
             Role::Jmp => row(3, 0, Effect::Same),
             Role::JmpIfNot => row(3, 1, Effect::Down),

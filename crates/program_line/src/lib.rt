@@ -5,7 +5,7 @@ ghost use mathlib.Core.List.{[], _∷_};
 ghost use lib.ListN.{length, getD};
 ghost use Rattle.definition.specs.Limits.{maxField};
 ghost use Rattle.definition.specs.Field.{comma, split, upTo, below, field};
-ghost use Rattle.definition.specs.Opcode.{Add, Sub, Mul, Div, Mod, BoolAnd, BoolOr, BoolXor, Neg, BoolNot, Eq, Ne, Lt, Le, Gt, Ge, AndThen, OrElse};
+ghost use Rattle.definition.specs.Opcode.{Add, Arithmetic, binaryOps, Neg, BoolNot, Eq, Ne, Lt, Le, Gt, Ge, AndThen, OrElse};
 ghost use Rattle.definition.specs.Program.{lineAt, lineOf, byLetter, headerForms, stmtForms, exprForms, armForms, labelForms};
 ghost use Rattle.field.specs.View.{readOf};
 ghost use Rattle.opcode.specs.View.{binaryView, unaryView, compareView};
@@ -18,7 +18,9 @@ use definition::MAX_VARIABLES;
 use definition::TOO_DEEP;
 use definition::WRONG_LINES;
 use field::Read;
+use opcode::ArithmeticOp;
 use opcode::BinaryOp;
+use opcode::BoolOp;
 use opcode::CompareOp;
 use opcode::UnaryOp;
 
@@ -536,18 +538,18 @@ fn range_line(line: &[u8], s: Scan) -> LabelLine
 // ---- operators by their numbers
 
 fn binary_op(n: u16) -> BinaryOp
-    ensures { λ r. ⌜ binaryView r ≡ getD (Add ∷ Sub ∷ Mul ∷ Div ∷ Mod ∷ BoolAnd ∷ BoolOr ∷ BoolXor ∷ []) n Add ⌝ }
+    ensures { λ r. ⌜ binaryView r ≡ getD binaryOps n (Arithmetic Add) ⌝ }
 {
     match n {
-        0 => BinaryOp::Add,
-        1 => BinaryOp::Sub,
-        2 => BinaryOp::Mul,
-        3 => BinaryOp::Div,
-        4 => BinaryOp::Mod,
-        5 => BinaryOp::BoolAnd,
-        6 => BinaryOp::BoolOr,
-        7 => BinaryOp::BoolXor,
-        _ => BinaryOp::Add,
+        0 => BinaryOp::Arithmetic(ArithmeticOp::Add),
+        1 => BinaryOp::Arithmetic(ArithmeticOp::Sub),
+        2 => BinaryOp::Arithmetic(ArithmeticOp::Mul),
+        3 => BinaryOp::Arithmetic(ArithmeticOp::Div),
+        4 => BinaryOp::Arithmetic(ArithmeticOp::Mod),
+        5 => BinaryOp::Logic(BoolOp::BoolAnd),
+        6 => BinaryOp::Logic(BoolOp::BoolOr),
+        7 => BinaryOp::Logic(BoolOp::BoolXor),
+        _ => BinaryOp::Arithmetic(ArithmeticOp::Add),
     }
 }
 

@@ -11,7 +11,7 @@ use lib.ListN.{length, take, drop, getD, length-drop, drop-of-length-le}
 use lib.Dec.{leb}
 use lib.Seq.{drop-cons, drop-drop, length-take-le, getD-take, getD-drop}
 use Rattle.definition.specs.Field.{onto}
-use Rattle.definition.specs.Opcode.{Role, Sheet, roleOf, size, traits, row, dup, pop, loadVar, storeVar, loadConst, loadTrue, loadFalse, binary, unary, compare, jmp, jmpIfNot, cmpBr, ret}
+use Rattle.definition.specs.Opcode.{Role, Sheet, roleOf, size, traits, row, dup, pop, loadVar, storeVar, loadConst, loadTrue, loadFalse, arithmetic, logic, neg, boolNot, compare, jmp, jmpIfNot, cmpBr, ret}
 use Rattle.definition.specs.Rewrite.{Bytes, opcodeOf, ends, sizeOr1, cut, decode}
 use Rattle.rewrite.specs.View.{firstOf}
 
@@ -25,8 +25,10 @@ size-positive storeVar = omega arith
 size-positive loadConst = omega arith
 size-positive loadTrue = omega arith
 size-positive loadFalse = omega arith
-size-positive (binary o) = omega arith
-size-positive (unary o) = omega arith
+size-positive (arithmetic o) = omega arith
+size-positive (logic o) = omega arith
+size-positive neg = omega arith
+size-positive boolNot = omega arith
 size-positive (compare c) = omega arith
 size-positive jmp = omega arith
 size-positive jmpIfNot = omega arith

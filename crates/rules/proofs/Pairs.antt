@@ -11,7 +11,7 @@ use lib.ListN.{length, getD}
 use Rattle.definition.specs.Limits.{maxRules, maxVariables, badRule}
 use Rattle.definition.specs.Res.{Res, ok, refuse, _>>=_, _>>_, demand, given}
 use Rattle.definition.specs.Field.{lf, comma, split, Numbers, wrong, far, are, numbers}
-use Rattle.definition.specs.Opcode.{Role, dup, pop, loadVar, storeVar, loadConst, loadTrue, loadFalse, binary, unary, compare, jmp, jmpIfNot, cmpBr, ret, number, Effect, up, down, same, shift, onward, row, traits, size, needs, effect, flow}
+use Rattle.definition.specs.Opcode.{Role, dup, pop, loadVar, storeVar, loadConst, loadTrue, loadFalse, arithmetic, logic, neg, boolNot, compare, jmp, jmpIfNot, cmpBr, ret, number, Effect, up, down, same, shift, onward, row, traits, size, needs, effect, flow}
 use Rattle.definition.specs.Rules.{Action, keep, remove, rewriteOperand, Rule, Instruction, nameable, ruleFields, ruleOf, isVariable, allowed, removed, cancel, testable, goodRule, goodOnly, ruleFrom, readRule, isEmpty, rulesFrom, readRules, roleNumbered, hasRole, fits, matches}
 use Rattle.rules.specs.View.{Accepted, Each, Bounded, tableOf, IsRules}
 use Rattle.rules.proofs.Lines.{bounded}
@@ -123,8 +123,10 @@ nameable-onward storeVar h = refl
 nameable-onward loadConst h = refl
 nameable-onward loadTrue h = refl
 nameable-onward loadFalse h = refl
-nameable-onward (binary o) h = refl
-nameable-onward (unary o) h = refl
+nameable-onward (arithmetic o) h = refl
+nameable-onward (logic o) h = refl
+nameable-onward neg h = refl
+nameable-onward boolNot h = refl
 nameable-onward (compare c) h = refl
 nameable-onward jmp h = absurd (omega arith)
 nameable-onward jmpIfNot h = absurd (omega arith)
@@ -199,8 +201,10 @@ down-needs storeVar e = omega arith
 down-needs loadConst e = absurd (let z : _≡_ {A = ℕ} 0 1 = cc in omega arith)
 down-needs loadTrue e = absurd (let z : _≡_ {A = ℕ} 0 1 = cc in omega arith)
 down-needs loadFalse e = absurd (let z : _≡_ {A = ℕ} 0 1 = cc in omega arith)
-down-needs (binary o) e = omega arith
-down-needs (unary o) e = omega arith
+down-needs (arithmetic o) e = omega arith
+down-needs (logic o) e = omega arith
+down-needs neg e = omega arith
+down-needs boolNot e = omega arith
 down-needs (compare c) e = omega arith
 down-needs jmp e = absurd (let z : _≡_ {A = ℕ} 0 1 = cc in omega arith)
 down-needs jmpIfNot e = omega arith
@@ -260,8 +264,10 @@ variable-size storeVar e = refl
 variable-size loadConst e = never e
 variable-size loadTrue e = never e
 variable-size loadFalse e = never e
-variable-size (binary o) e = never e
-variable-size (unary o) e = never e
+variable-size (arithmetic o) e = never e
+variable-size (logic o) e = never e
+variable-size neg e = never e
+variable-size boolNot e = never e
 variable-size (compare c) e = never e
 variable-size jmp e = never e
 variable-size jmpIfNot e = never e

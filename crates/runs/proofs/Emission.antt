@@ -7,7 +7,7 @@ use mathlib.Core.Option.{Option, some, none}
 use lib.Dec.{eqb}
 use borrow.Author.Tests.{eqb-true, eqb-false, ne-eqb, eq-eqb}
 use native.Mathlib.Omega.{arith}
-use Rattle.definition.specs.Opcode.{CompareOp, AndThen, OrElse, dup, pop, loadTrue, loadFalse, ret, Eq, Le, Ge, Add, negate, size, needs, effect, flow, traits, row, shift}
+use Rattle.definition.specs.Opcode.{CompareOp, AndThen, OrElse, dup, pop, loadTrue, loadFalse, ret, Eq, Le, Ge, Add, binaryRole, unaryRole, negate, size, needs, effect, flow, traits, row, shift}
 use Rattle.definition.specs.Opcode as role
 use Rattle.definition.specs.Tree.{Source, Expr, const, bool, read, binary, unary, compare, shortCircuit, bad, CaseLabel, value, range, badLabel, Stmt, assign, if, case, for, loop, exit, continue, return, badStmt, Block, done, _then_, Arms, noArms, arm, badArm}
 use Rattle.definition.specs.Walk.{Calls, when}
@@ -21,13 +21,15 @@ use Rattle.runs.proofs.Heights.{Binds, sooner, further, binds, inside, 
 -- ---- expressions
 
 expr-sound : {Λ : ℕ → ℕ} {E : ℕ → Type 0} (e : Expr) (h : ℕ) → Sound Λ E (emitExpr e h) h h (suc h) (suc h)
-unfolding emitExpr size needs effect flow traits row shift
+unfolding emitExpr binaryRole unaryRole size needs effect flow traits row shift
 expr-sound (const k) h = pushes k
 expr-sound (bool true) h = emits loadTrue refl refl zero-le
 expr-sound (bool false) h = emits loadFalse refl refl zero-le
 expr-sound (read v) h = loads v
-expr-sound (binary o a b) h = expr-sound a h ⨾ expr-sound b (suc h) ⨾ emits (role.binary o) refl refl (omega arith)
-expr-sound (unary o a) h = expr-sound a h ⨾ emits (role.unary o) refl refl (omega arith)
+expr-sound (binary (role.Arithmetic o) a b) h = expr-sound a h ⨾ expr-sound b (suc h) ⨾ emits (role.arithmetic o) refl refl (omega arith)
+expr-sound (binary (role.Logic o) a b) h = expr-sound a h ⨾ expr-sound b (suc h) ⨾ emits (role.logic o) refl refl (omega arith)
+expr-sound (unary role.Neg a) h = expr-sound a h ⨾ emits role.neg refl refl (omega arith)
+expr-sound (unary role.BoolNot a) h = expr-sound a h ⨾ emits role.boolNot refl refl (omega arith)
 expr-sound (compare c a b) h = expr-sound a h ⨾ expr-sound b (suc h) ⨾ emits (role.compare c) refl refl (omega arith)
 expr-sound (shortCircuit AndThen a b) h = opens (λ alternative. inside _ λ end. further _ (further _ (further _ (further _ (sooner _ (binds alternative)))))) λ alternative pa.
     opens (λ end. further _ (further _ (further _ (further _ (further _ (further _ (further _ (binds end)))))))) λ end pe.
@@ -189,7 +191,7 @@ module _ {Λ : ℕ → ℕ} where
         opens (λ end. further _ (further _ (further _ (further _ (further _ (further _ (further _ (further _ (binds end))))))))) λ end pe.
         binding head ph ⨾ endTest-sound (constantOf to) (bound (countsDown step)) v to end pe (left refl)
         ⨾ loopBody-sound i end b body loops pe (left refl) bs (open-wider (λ l x. right (right x)) (λ j q. q) o)
-        ⨾ loads v ⨾ pushes step ⨾ emits (role.binary Add) refl refl (omega arith) ⨾ stores v ⨾ jumps head ph (right (left refl)) ⨾ binding end pe
+        ⨾ loads v ⨾ pushes step ⨾ emits (role.arithmetic Add) refl refl (omega arith) ⨾ stores v ⨾ jumps head ph (right (left refl)) ⨾ binding end pe
 
     plain-sound : {E : ℕ → Type 0} (continuing : Loops → Calls) → Sound Λ E (continuing loops) 0 0 0 0 → Around Λ E i b loops → Sound Λ E (emitPlain i (b i) body continuing loops) 0 0 0 0
     unfolding emitPlain

@@ -3,7 +3,7 @@ use Prim.Native.Nat.{_≤_}
 use mathlib.Core.Path.{_≡_}
 use mathlib.Core.Bool.{true}
 use native.Mathlib.Omega.{arith}
-use Rattle.definition.specs.Opcode.{Role, dup, pop, loadVar, storeVar, loadConst, loadTrue, loadFalse, binary, unary, compare, jmp, jmpIfNot, cmpBr, ret, row, traits, size, flow}
+use Rattle.definition.specs.Opcode.{Role, dup, pop, loadVar, storeVar, loadConst, loadTrue, loadFalse, arithmetic, logic, neg, boolNot, compare, jmp, jmpIfNot, cmpBr, ret, row, traits, size, flow}
 use Rattle.definition.specs.Claims.{branches}
 use Rattle.runs.proofs.Results.{never}
 
@@ -17,8 +17,10 @@ branch-size storeVar e = never (cc)
 branch-size loadConst e = never (cc)
 branch-size loadTrue e = never (cc)
 branch-size loadFalse e = never (cc)
-branch-size (binary o) e = never (cc)
-branch-size (unary o) e = never (cc)
+branch-size (arithmetic o) e = never (cc)
+branch-size (logic o) e = never (cc)
+branch-size neg e = never (cc)
+branch-size boolNot e = never (cc)
 branch-size (compare c) e = never (cc)
 branch-size jmp e = omega arith
 branch-size jmpIfNot e = omega arith

@@ -9,7 +9,7 @@ use lib.Dec.{eqb, ltb}
 use lib.ListN.{length, getD}
 use borrow.Author.Tests.{le-ltb}
 use Rattle.definition.specs.Field.{has}
-use Rattle.definition.specs.Opcode.{Role, dup, pop, loadVar, storeVar, loadConst, loadTrue, loadFalse, binary, unary, compare, jmp, jmpIfNot, cmpBr, ret, BinaryOp, Add, Sub, Mul, Div, Mod, BoolAnd, BoolOr, BoolXor, Sheet, roleOf, size, needs, effect, shift, flow, open-Opcode}
+use Rattle.definition.specs.Opcode.{Role, dup, pop, loadVar, storeVar, loadConst, loadTrue, loadFalse, arithmetic, logic, neg, boolNot, compare, jmp, jmpIfNot, cmpBr, ret, Div, Sheet, roleOf, size, needs, effect, shift, flow, open-Opcode}
 use Rattle.definition.specs.Rules.{hasRole}
 use Rattle.definition.specs.Rewrite.{decode, startsFrom}
 use Rattle.definition.specs.Runs.{target, offCode, open-Runs}
@@ -39,7 +39,7 @@ branches false code next x st os = refl
 calculates : (o : Option ℕ) (x : State) (a b : ℕ) (st : List ℕ) (os : List Bool) → x .stack ≡ b ∷ a ∷ st
     → runs.goes (record { place = x .place + 1; height = suc (length st); outcomes = os }) ≡ stepInRuns x os (calculated o (x .place + 1) st (x .variables))
 unfolding open-Machine open-Opcode
-calculates none x a b st os e = ap (λ (s : List ℕ). runs.goes (record { place = x .place + 1; height = shift (effect (binary Div)) (length s); outcomes = os })) (sym e)
+calculates none x a b st os e = ap (λ (s : List ℕ). runs.goes (record { place = x .place + 1; height = shift (effect (arithmetic Div)) (length s); outcomes = os })) (sym e)
 calculates (some c) x a b st os e = refl
 
 -- an instruction
@@ -57,11 +57,16 @@ executes storeVar m p (a ∷ st) vs os = enough storeVar (m .bytecode) p (suc (l
 executes loadConst m p st vs os = enough loadConst (m .bytecode) p (length st) os (omega arith) refl
 executes loadTrue m p st vs os = enough loadTrue (m .bytecode) p (length st) os (omega arith) refl
 executes loadFalse m p st vs os = enough loadFalse (m .bytecode) p (length st) os (omega arith) refl
-executes (binary o) m p [] vs os = refl
-executes (binary o) m p (b ∷ []) vs os = refl
-executes (binary o) m p (b ∷ a ∷ st) vs os = enough (binary o) (m .bytecode) p (suc (suc (length st))) os (omega arith) refl ∙ calculates (calculate (m .width) o a b) _ a b st os refl
-executes (unary o) m p [] vs os = refl
-executes (unary o) m p (a ∷ st) vs os = enough (unary o) (m .bytecode) p (suc (length st)) os (omega arith) refl
+executes (arithmetic o) m p [] vs os = refl
+executes (arithmetic o) m p (b ∷ []) vs os = refl
+executes (arithmetic o) m p (b ∷ a ∷ st) vs os = enough (arithmetic o) (m .bytecode) p (suc (suc (length st))) os (omega arith) refl ∙ calculates (calculate (m .width) o a b) _ a b st os refl
+executes (logic o) m p [] vs os = refl
+executes (logic o) m p (b ∷ []) vs os = refl
+executes (logic o) m p (b ∷ a ∷ st) vs os = enough (logic o) (m .bytecode) p (suc (suc (length st))) os (omega arith) refl
+executes neg m p [] vs os = refl
+executes neg m p (a ∷ st) vs os = enough neg (m .bytecode) p (suc (length st)) os (omega arith) refl
+executes boolNot m p [] vs os = refl
+executes boolNot m p (a ∷ st) vs os = enough boolNot (m .bytecode) p (suc (length st)) os (omega arith) refl
 executes (compare c) m p [] vs os = refl
 executes (compare c) m p (b ∷ []) vs os = refl
 executes (compare c) m p (b ∷ a ∷ st) vs os = enough (compare c) (m .bytecode) p (suc (suc (length st))) os (omega arith) refl

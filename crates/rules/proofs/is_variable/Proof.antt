@@ -60,6 +60,14 @@ returns-14 : tie.Need-returns-14
 unfolding isVariable
 returns-14 c = cc
 
+returns-15 : tie.Need-returns-15
+unfolding isVariable
+returns-15 c = cc
+
+returns-16 : tie.Need-returns-16
+unfolding isVariable
+returns-16 c = cc
+
 pub is-variable-spec : {M : Type 1} → statement M
 is-variable-spec =
     tie.close
@@ -78,6 +86,8 @@ is-variable-spec =
     (λ c. search needs)  -- enum-told-12
     (λ c. search needs)  -- enum-told-13
     (λ c. search needs)  -- enum-told-14
+    (λ c. search needs)  -- enum-told-15
+    (λ c. search needs)  -- enum-told-16
     returns
     returns-2
     returns-3
@@ -91,4 +101,6 @@ is-variable-spec =
     returns-11
     returns-12
     returns-13
-    returns-14)
+    returns-14
+    returns-15
+    returns-16)

@@ -36,10 +36,6 @@ returns-7 : tie.Need-returns-7
 unfolding number
 returns-7 c = cc
 
-returns-8 : tie.Need-returns-8
-unfolding number
-returns-8 c = cc
-
 returns-9 : tie.Need-returns-9
 unfolding number
 returns-9 c = cc
@@ -48,10 +44,6 @@ returns-11 : tie.Need-returns-11
 unfolding number
 returns-11 c = cc
 
-returns-12 : tie.Need-returns-12
-unfolding number
-returns-12 c = cc
-
 returns-13 : tie.Need-returns-13
 unfolding number
 returns-13 c = cc
@@ -59,6 +51,14 @@ returns-13 c = cc
 returns-14 : tie.Need-returns-14
 unfolding number
 returns-14 c = cc
+
+returns-15 : tie.Need-returns-15
+unfolding number
+returns-15 c = cc
+
+returns-16 : tie.Need-returns-16
+unfolding number
+returns-16 c = cc
 
 pub number-spec : {M : Type 1} → statement M
 number-spec =
@@ -73,15 +73,17 @@ number-spec =
     (λ c. search needs)  -- enum-told-7
     (λ c. search needs)  -- enum-known-self
     (λ c κs. search needs)  -- number-requires
+    (λ c. search needs)  -- enum-told-8
     (λ c. search needs)  -- enum-known-self-2
     (λ c κs. search needs)  -- number-requires-2
+    (λ c. search needs)  -- enum-told-9
     (λ c. search needs)  -- enum-known-self-3
     (λ c κs. search needs)  -- index-requires
     (λ c. record { fits = omega (arith, compare-index (compareView (c .before .before .self3 .given .0 .0)), c .index .ensures) })  -- add-result
-    (λ c. search needs)  -- enum-told-8
-    (λ c. search needs)  -- enum-told-9
     (λ c. search needs)  -- enum-told-10
     (λ c. search needs)  -- enum-told-11
+    (λ c. search needs)  -- enum-told-12
+    (λ c. search needs)  -- enum-told-13
     returns
     returns-2
     returns-3
@@ -89,10 +91,12 @@ number-spec =
     returns-5
     returns-6
     returns-7
-    returns-8
+    (λ c. rw (c .before .before .self .given .1) (c .number .ensures))  -- returns-8
     returns-9
-    (λ c. rw (c .before .before .self3 .given .1, c .index .ensures) (sym (compare-number _)))  -- returns-10
+    (λ c. rw (c .before .before .self2 .given .1) (c .number2 .ensures))  -- returns-10
     returns-11
-    returns-12
+    (λ c. rw (c .before .before .self3 .given .1, c .index .ensures) (sym (compare-number _)))  -- returns-12
     returns-13
-    returns-14)
+    returns-14
+    returns-15
+    returns-16)

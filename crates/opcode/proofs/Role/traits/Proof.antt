@@ -62,6 +62,14 @@ returns-14 : tie.Need-returns-14
 unfolding traits row
 returns-14 c = is-row (c .before .enum-told14 .given .1) (c .row14 .ensures) refl
 
+returns-15 : tie.Need-returns-15
+unfolding traits row
+returns-15 c = is-row (c .before .enum-told15 .given .1) (c .row15 .ensures) refl
+
+returns-16 : tie.Need-returns-16
+unfolding traits row
+returns-16 c = is-row (c .before .enum-told16 .given .1) (c .row16 .ensures) refl
+
 pub traits-spec : {M : Type 1} → statement M
 traits-spec =
     tie.close
@@ -94,6 +102,10 @@ traits-spec =
     (λ c κs. search needs)  -- row-requires-13
     (λ c. search needs)  -- enum-told-14
     (λ c κs. search needs)  -- row-requires-14
+    (λ c. search needs)  -- enum-told-15
+    (λ c κs. search needs)  -- row-requires-15
+    (λ c. search needs)  -- enum-told-16
+    (λ c κs. search needs)  -- row-requires-16
     returns
     returns-2
     returns-3
@@ -107,4 +119,6 @@ traits-spec =
     returns-11
     returns-12
     returns-13
-    returns-14)
+    returns-14
+    returns-15
+    returns-16)

@@ -1,8 +1,8 @@
--- Made by `answers` from crates/opcode/answers/BinaryOp/number.txt: edit that file, not this one.
+-- Made by `answers` from crates/opcode/answers/ArithmeticOp/number.txt: edit that file, not this one.
 use Rattle.definition.specs.Opcode.{number}
 use borrow.Author.Needs.{needs}
-use Rattle.opcode.proofs.BinaryOp.number.Statement.{statement}
-use Rattle.opcode.proofs.BinaryOp.number.Tie as tie
+use Rattle.opcode.proofs.ArithmeticOp.number.Statement.{statement}
+use Rattle.opcode.proofs.ArithmeticOp.number.Tie as tie
 
 returns : tie.Need-returns
 unfolding number
@@ -24,18 +24,6 @@ returns-5 : tie.Need-returns-5
 unfolding number
 returns-5 c = cc
 
-returns-6 : tie.Need-returns-6
-unfolding number
-returns-6 c = cc
-
-returns-7 : tie.Need-returns-7
-unfolding number
-returns-7 c = cc
-
-returns-8 : tie.Need-returns-8
-unfolding number
-returns-8 c = cc
-
 pub number-spec : {M : Type 1} → statement M
 number-spec =
     tie.close
@@ -45,14 +33,8 @@ number-spec =
     (λ c. search needs)  -- enum-told-3
     (λ c. search needs)  -- enum-told-4
     (λ c. search needs)  -- enum-told-5
-    (λ c. search needs)  -- enum-told-6
-    (λ c. search needs)  -- enum-told-7
-    (λ c. search needs)  -- enum-told-8
     returns
     returns-2
     returns-3
     returns-4
-    returns-5
-    returns-6
-    returns-7
-    returns-8)
+    returns-5)
