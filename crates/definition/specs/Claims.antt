@@ -1,5 +1,5 @@
 -- What demand 3 claims of finished code, in document 01's words: how a run may stand, and where the branches are and lead.
-use Prim.Native.Nat.{ℕ, _+_, _≤_}
+use Prim.Native.Nat.{ℕ, _+_, _≤_, _<_}
 use mathlib.Core.Path.{_≡_}
 use mathlib.Core.List.{List, [], _∷_, map}
 use mathlib.Core.Bool.{Bool, true, false}
@@ -71,8 +71,9 @@ inTurn s rules code protected x =
     let p₂ = run s rules 2 p₁ in
     movedTo (passMap s rules 3 p₂) (movedTo (passMap s rules 2 p₁) (movedTo (passMap s rules 1 p₀) x))
 
--- the instruction at a place is a branch, and leads to another place
+-- the instruction that starts at a place is a branch, and leads to another place
 pub record LeadsTo (s : Sheet) (code : List ℕ) (place goal : ℕ) : Type 0 where
+  pub start : has (startsFrom 0 (decode s code)) place ≡ true
   pub role : Role
   pub here : roleOf s (getD code place 0) ≡ some role
   pub branch : branches (flow role) ≡ true
@@ -85,11 +86,12 @@ pub data Each {A : Type 0} (P : A → Type 0) : List A → Type 0 where
   _also_ : {x : A} {xs : List A} → P x → Each P xs → Each P (x ∷ xs)
 
 -- a branch of emitted code, known by its patch: its label is bound at a place, and in finished code it leads, from where the three maps
--- move it, to where they move that place
+-- move it, to where they move that place; and of its bytes all but the two of its offset are as they were emitted
 pub record BranchLeads (s : Sheet) (rules : List Rule) (e : Emitter) (code : List ℕ) (p : PendingPatch) : Type 0 where
   pub bound : ℕ
   pub binds : getD (e .labels) (p .label) none ≡ some bound
   pub leads : LeadsTo s code (inTurn s rules (e .bytecode) (jumpTargets e) (p .instructionOffset)) (inTurn s rules (e .bytecode) (jumpTargets e) bound)
+  pub kept : (k : ℕ) → k < p .operandDelta → getD code (inTurn s rules (e .bytecode) (jumpTargets e) (p .instructionOffset) + k) 0 ≡ getD (e .bytecode) (p .instructionOffset + k) 0
 
 -- the branches of emitted code by place are those that have patches, in their order; those of finished code are the same ones, in the
 -- same order, where the three maps move them

@@ -1,18 +1,18 @@
 -- Finished code: every run of it over any outcomes is fine, and every branch of it, reached or not, leads where the three maps move its
 -- label's place. The two theorems are `runs` and `branches`, at the end.
-use Prim.Native.Nat.{ℕ, _+_, _-_, suc, zero, _≤_, zero-le}
+use Prim.Native.Nat.{ℕ, _+_, _-_, suc, zero, _≤_, _<_, zero-le}
 use mathlib.Core.Path.{_≡_, refl, sym, _∙_, ap, subst}
 use mathlib.Core.List.{List, [], _∷_, _++_, map, map-map, map-append}
 use mathlib.Core.Bool.{Bool, true}
 use mathlib.Core.Option.{Option, some, none}
-use lib.ListN.{length, take}
+use lib.ListN.{length, getD, take}
 use lib.Seq.{take-append-seam}
 use native.Mathlib.Omega.{arith}
 use native.Mathlib.Nat.{le-trans}
 use Rattle.definition.specs.Limits.{maxCode}
 use Rattle.definition.specs.Res.{ok}
 use Rattle.definition.specs.Field.{has}
-use Rattle.definition.specs.Opcode.{Sheet}
+use Rattle.definition.specs.Opcode.{Sheet, opcode}
 use Rattle.definition.specs.Sheet.{readSheet}
 use Rattle.definition.specs.Rules.{Rule, readRules, matches}
 use Rattle.definition.specs.Tree.{Program}
@@ -29,11 +29,11 @@ use Rattle.opcode.proofs.Sheets.{role-of-opcode}
 use Rattle.runs.proofs.Results.{never, ok-demand, ok-bind, ok-is, ok-given, some-is}
 use Rattle.runs.proofs.Heights.{Bound}
 use Rattle.definition.specs.Claims.{Fine, branchPlaces, inTurn, LeadsTo, Each, empty, _also_, BranchLeads, Branches}
-use Rattle.runs.proofs.Rows.{Row, bytes-of, place-at, height-first, place-first, place-end, place-within, patchHere, patchesBy, patches-same, Linked}
+use Rattle.runs.proofs.Rows.{Row, bytes-of, place-at, aim-at, row-of, row-inside, row-aim, row-bytes, height-first, place-first, place-end, place-within, patchHere, patchesBy, patches-same, each-patch, Linked}
 use Rattle.runs.proofs.Emitted.{Stands, Placed, Acted, created, emitted}
 use Rattle.runs.proofs.Passes.{Reads, Fine as FineMatcher, rules-fine, looked-moved, Piped, optimize-piped, moved-in-turn}
-use Rattle.runs.proofs.Patched.{aimedRows, aimed-first, aimed-heights, aimed-count, aimed-linked, aimed-places, aimed-patches, aim-at, aimed-aims, patchWith, movedPatch, patchJumps-with, patched-rows, row-target}
-use Rattle.runs.proofs.Running.{has-first, has-later, run-fine, row-leads, branch-places, each-patch}
+use Rattle.runs.proofs.Patched.{aimedRows, aimed-first, aimed-heights, aimed-count, aimed-linked, aimed-places, aimed-patches, aimedRow, aimed-aims, aimed-row, aimed-byte, aimed-long, patchWith, movedPatch, patchJumps-with, patched-rows, row-target}
+use Rattle.runs.proofs.Running.{has-first, has-later, run-fine, row-fine, row-leads, branch-places}
 
 -- ---- patches and what holds of each
 
@@ -46,10 +46,6 @@ map-patches m f (r ∷ rs) = map-append (movedPatch m) (patchHere (r .aim) (f 0)
     here : (a : Option ℕ) → map (movedPatch m) (patchHere a (f 0) (r .operand)) ≡ patchHere a (movedTo m (f 0)) (r .operand)
     here none = refl
     here (some l) = refl
-
-each-map : {A B : Type 0} {P : B → Type 0} (f : A → B) (xs : List A) → Each P (map f xs) → Each (λ x. P (f x)) xs
-each-map f [] e = empty
-each-map f (x ∷ xs) (p also ps) = p also each-map f xs ps
 
 map-same : {A : Type 0} (f g : A → ℕ) {xs : List A} → Each (λ x. f x ≡ g x) xs → map f xs ≡ map g xs
 map-same f g empty = refl
@@ -206,7 +202,7 @@ module _ (s : Sheet) (back : Reads s) (rules : List Rule) (fine : (pass : ℕ) �
 
   program-runs : (os : List Bool) (n : ℕ) → Fine s (finalizeFunction s rules e .bytecode) (finalizeFunction s rules e .depth) (run s (finalizeFunction s rules e .bytecode) n (start os))
   unfolding finalizeFunction start
-  program-runs os n = subst (λ c. Fine s c (e .maxDepth) (run s c n (start os))) (sym code-rows) (run-fine s rows linked T leads back n (start os) (begins os) zero-le)
+  program-runs os n = subst (λ c. Fine s c (e .maxDepth) (run s c n (start os))) (sym code-rows) (row-fine s rows linked T leads back (run-fine s rows linked T leads back n (start os) (begins os) zero-le))
 
   program-short : length (finalizeFunction s rules e .bytecode) ≤ maxCode
   program-short = subst (λ c. length c ≤ maxCode) (sym code-rows) short
@@ -219,7 +215,8 @@ module _ (s : Sheet) (back : Reads s) (rules : List Rule) (fine : (pass : ℕ) �
   offsets-in-turn : Each (λ (x : PendingPatch). movedTo moves (x .instructionOffset) ≡ inTurn s rules code₀ protected (x .instructionOffset)) (e .patches)
   unfolding rows₀
   offsets-in-turn = subst (λ xs. Each (λ (x : PendingPatch). movedTo moves (x .instructionOffset) ≡ inTurn s rules code₀ protected (x .instructionOffset)) xs) (sym (acted .inv .patches))
-      (each-patch (λ y l. movedTo moves y ≡ inTurn s rules code₀ protected y) (λ i. place-at rows₀ i) rows₀ (λ i l lt a. place-in-turn i (omega arith)))
+      (each-patch (λ (x : PendingPatch). movedTo moves (x .instructionOffset) ≡ inTurn s rules code₀ protected (x .instructionOffset)) (λ i. place-at rows₀ i) rows₀
+      (λ i l r p a. place-in-turn i (let n = row-inside rows₀ i r p in omega arith)))
 
   target-in-turn : (l : ℕ) → Used l → T l ≡ inTurn s rules code₀ protected (boundLabel (e .labels) l)
   target-in-turn l u =
@@ -242,22 +239,48 @@ module _ (s : Sheet) (back : Reads s) (rules : List Rule) (fine : (pass : ℕ) �
       ∙ (map-same (λ (x : PendingPatch). movedTo moves (x .instructionOffset)) (λ (x : PendingPatch). inTurn s rules code₀ protected (x .instructionOffset)) offsets-in-turn
       ∙ (sym (map-map (λ y. inTurn s rules code₀ protected y) (λ (x : PendingPatch). x .instructionOffset) (e .patches)) ∙ ap (λ xs. map (λ y. inTurn s rules code₀ protected y) xs) (sym emitted-places))))))
 
+  -- a branch of emitted code is row i, and in finished code it is that row with its offset
+  module _ (i l : ℕ) (r : Row) (x : row-of rows₀ i ≡ some r) (a : r .aim ≡ some l) where
+    g : ℕ
+    g = piped .go i
+
+    abbrev own : ℕ
+    own = inTurn s rules code₀ protected (place-at rows₀ i)
+
+    own-place : own ≡ place-at rows g
+    unfolding rows g
+    own-place =
+        let le : i ≤ length rows₀ = let n = row-inside rows₀ i r x in omega arith in
+        sym (place-in-turn i le) ∙ (looked-moved moves _ _ (piped .maps i le) ∙ sym (aimed-places T 0 (piped .linked) (piped .go i)))
+
+    moved-row : (next : ℕ) × (row-of rows g ≡ some (aimedRow T next r))
+    unfolding rows g
+    moved-row = aimed-row T 0 (piped .rows) (piped .go i) r (piped .keeps i l r x a)
+
+    moved-aim : aim-at rows g ≡ some l
+    unfolding aimedRow
+    moved-aim = row-aim rows g (aimedRow T (moved-row .0) r) (moved-row .1) ∙ a
+
+    moved-leads : (u : Used l) → LeadsTo s (finalizeFunction s rules e .bytecode) own (inTurn s rules code₀ protected (u .placed .place))
+    moved-leads u = subst (λ c. LeadsTo s c own (inTurn s rules code₀ protected (u .placed .place))) (sym code-rows)
+        (subst (λ y. LeadsTo s (bytes-of s rows) y (inTurn s rules code₀ protected (u .placed .place))) (sym own-place)
+        (subst (λ y. LeadsTo s (bytes-of s rows) (place-at rows g) y) (target-in-turn l u ∙ ap (λ y. inTurn s rules code₀ protected y) (bound-is u))
+        (row-leads s rows linked T leads back g l (row-inside rows g _ (moved-row .1)) moved-aim)))
+
+    moved-bytes : (k : ℕ) → k < length (r .operand) - 1 → getD (finalizeFunction s rules e .bytecode) (own + k) 0 ≡ getD code₀ (place-at rows₀ i + k) 0
+    unfolding rows₀ aimedRow
+    moved-bytes k lt = ap (λ c. getD c (own + k) 0) code-rows ∙ (ap (λ y. getD (bytes-of s rows) (y + k) 0) own-place
+        ∙ (row-bytes s rows g (aimedRow T (moved-row .0) r) (moved-row .1) k (aimed-long T (moved-row .0) (r .aim) (r .operand) k lt)
+        ∙ (aimed-byte T (moved-row .0) (opcode s (r .role)) (r .aim) (r .operand) k lt
+        ∙ sym (ap (λ c. getD c (place-at rows₀ i + k) 0) (acted .inv .bytes) ∙ row-bytes s rows₀ i r x k (omega arith)))))
+
+    branch-leads : BranchLeads s rules e (finalizeFunction s rules e .bytecode) (record { instructionOffset = place-at rows₀ i; operandDelta = length (r .operand) - 1; label = l })
+    branch-leads = let u = aim-used g l moved-aim in record { bound = u .placed .place; binds = u .placed .is; leads = moved-leads u; kept = moved-bytes }
+
   each-leads : Each (λ (x : PendingPatch). BranchLeads s rules e (finalizeFunction s rules e .bytecode) x) (e .patches)
-  unfolding movedPatch
-  each-leads = together (e .patches) (each-map (movedPatch moves) (e .patches) (subst (λ xs. Each (λ (x : PendingPatch). LeadsTo s (bytes-of s rows) (x .instructionOffset) (T (x .label))) xs) finished-patches
-      (each-patch (λ y l. LeadsTo s (bytes-of s rows) y (T l)) (λ i. place-at rows i) rows (λ i l lt a. row-leads s rows linked T leads back i l lt a)))) offsets-in-turn each-used
-    where
-      together : (xs : List PendingPatch) → Each (λ (x : PendingPatch). LeadsTo s (bytes-of s rows) (movedTo moves (x .instructionOffset)) (T (x .label))) xs
-          → Each (λ (x : PendingPatch). movedTo moves (x .instructionOffset) ≡ inTurn s rules code₀ protected (x .instructionOffset)) xs → Each (λ (x : PendingPatch). Used (x .label)) xs
-          → Each (λ (x : PendingPatch). BranchLeads s rules e (finalizeFunction s rules e .bytecode) x) xs
-      together [] empty empty empty = empty
-      together (x ∷ xs) (a also as′) (b also bs) (u also us) = record {
-        bound = u .placed .place;
-        binds = u .placed .is;
-        leads = subst (λ c. LeadsTo s c (inTurn s rules code₀ protected (x .instructionOffset)) (inTurn s rules code₀ protected (u .placed .place))) (sym code-rows)
-            (subst (λ y. LeadsTo s (bytes-of s rows) (inTurn s rules code₀ protected (x .instructionOffset)) y) (target-in-turn (x .label) u ∙ ap (λ y. inTurn s rules code₀ protected y) (bound-is u))
-            (subst (λ y. LeadsTo s (bytes-of s rows) y (T (x .label))) b a));
-      } also together xs as′ bs us
+  unfolding rows₀
+  each-leads = subst (λ xs. Each (λ (x : PendingPatch). BranchLeads s rules e (finalizeFunction s rules e .bytecode) x) xs) (sym (acted .inv .patches))
+      (each-patch (λ x. BranchLeads s rules e (finalizeFunction s rules e .bytecode) x) (λ i. place-at rows₀ i) rows₀ branch-leads)
 
 -- ---- the two theorems
 

@@ -6,7 +6,9 @@ pub mod Faultless
 pub mod Answers
 pub mod Roles
 pub mod Rows
+pub mod Decoding
 pub mod Emitted
+pub mod Later
 pub mod Rewritten
 pub mod Passes
 pub mod Patched

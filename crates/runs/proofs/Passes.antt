@@ -5,23 +5,24 @@ use mathlib.Core.Path.{_≡_, refl, sym, _∙_, ap, subst}
 use mathlib.Core.List.{List, [], _∷_, _++_, map}
 use mathlib.Core.Bool.{Bool, true, false, _||_}
 use mathlib.Core.Option.{Option, some, none}
-use lib.ListN.{length, drop, length-append}
-use lib.Dec.{eqb, leb}
-use borrow.Author.Tests.{le-leb, eq-eqb, ne-eqb, eqb-true}
+use lib.ListN.{length, length-append}
+use lib.Dec.{eqb}
+use borrow.Author.Tests.{eq-eqb, ne-eqb, eqb-true}
 use native.Mathlib.Omega.{arith}
 use native.Mathlib.Nat.{add-assoc, le-trans, le-of-suc-le-suc}
-use Rattle.definition.specs.Field.{onto, has}
+use Rattle.definition.specs.Field.{has}
 use Rattle.definition.specs.Opcode.{Role, Sheet, opcode, roleOf, size}
 use Rattle.definition.specs.Rules.{Action, keep, remove, rewriteOperand, Rule, readRules, matches, allowed}
 use Rattle.definition.specs.Res.{ok}
 use Rattle.definition.specs.Emit.{le16}
-use Rattle.definition.specs.Rewrite.{Bytes, opcodeOf, ends, sizeOr1, cut, decode, boundariesFrom, instruction, Matcher, actions, applied, output, OffsetMap, offsets, movedTo, applyPeephole}
+use Rattle.definition.specs.Rewrite.{Bytes, opcodeOf, decode, boundariesFrom, instruction, Matcher, actions, applied, output, OffsetMap, offsets, movedTo, applyPeephole}
 use Rattle.definition.specs.Optimize.{Pipeline, mapThrough, run, identity, optimize}
 use Rattle.rules.proofs.Pairs.{Pair, rewritten, read-accepted, matched, variable-size}
 use Rattle.runs.proofs.Results.{never, some-is}
 use Rattle.definition.specs.Claims.{unmoved, passMap, inTurn}
-use Rattle.runs.proofs.Rows.{Row, bytes-of, place-at, place-first, height-at, first-height, patchesBy, Linked, finished, follows}
-use Rattle.runs.proofs.Rewritten.{kept, apply, past, move, Fits, over, alone, pair, Outer, rewrite-linked, height-moved, move-within, patches-moved}
+use Rattle.runs.proofs.Decoding.{joined, Wholes, decode-joined}
+use Rattle.runs.proofs.Rows.{Row, bytes-of, place-at, place-first, row-of, height-at, first-height, patchesBy, Linked, finished, follows}
+use Rattle.runs.proofs.Rewritten.{kept, apply, past, move, Fits, over, alone, pair, Outer, rewrite-linked, height-moved, move-within, patches-moved, branch-kept}
 
 unfoldable pub insOf : Sheet → Row → Bytes
 insOf s r = opcode s (r .role) ∷ r .operand
@@ -32,38 +33,20 @@ Reads s = (r : Role) → roleOf s (opcode s r) ≡ some r
 
 -- ---- decoding
 
-joined : List ℕ → List Bytes → List Bytes
-joined [] y = y
-joined (b ∷ bs) y = onto b (joined bs y)
+-- the bytes of rows are those of their instructions, each of which is whole
+bytes-joined : (s : Sheet) (rs : List Row) → bytes-of s rs ≡ joined (map (insOf s) rs)
+unfolding bytes-of joined insOf
+bytes-joined s [] = refl
+bytes-joined s (r ∷ rs) = ap (λ x. (opcode s (r .role) ∷ r .operand) ++ x) (bytes-joined s rs)
 
-joined-nil : (o : List ℕ) (ys : List Bytes) → joined o ([] ∷ ys) ≡ o ∷ ys
-unfolding joined onto
-joined-nil [] ys = refl
-joined-nil (b ∷ bs) ys = ap (λ x. onto b x) (joined-nil bs ys)
-
-cut-operand : (s : Sheet) (o rest : List ℕ) → cut s (o ++ rest) (length o) ≡ joined o (cut s rest 0)
-unfolding cut joined
-cut-operand s [] rest = refl
-cut-operand s (b ∷ bs) rest = ap (λ x. onto b x) (cut-operand s bs rest)
-
-cut-one : (s : Sheet) → Reads s → (r : Role) (o rest : List ℕ) → suc (length o) ≡ size r → cut s ((opcode s r ∷ o) ++ rest) 0 ≡ [] ∷ onto (opcode s r) (joined o (cut s rest 0))
-unfolding cut ends sizeOr1
-cut-one s back r o rest z =
-    let fits : leb (size r) (suc (length (o ++ rest))) ≡ true = le-leb (size r) (suc (length (o ++ rest))) (omega (arith, length-append o rest)) in
-    let n : size r - 1 ≡ length o = omega arith in
-    let by : Option Role → List Bytes = λ x. elim (ends x (length (o ++ rest))) [ true ↦ [] ∷ onto (opcode s r) (cut s (o ++ rest) (sizeOr1 x - 1)) | false ↦ [] ∷ [] ] in
-    let if : Bool → List Bytes = λ b. elim b [ true ↦ [] ∷ onto (opcode s r) (cut s (o ++ rest) (size r - 1)) | false ↦ [] ∷ [] ] in
-    ap by (back r) ∙ (ap if fits ∙ ap (λ x. [] ∷ onto (opcode s r) x) (ap (λ x. cut s (o ++ rest) x) n ∙ cut-operand s o rest))
-
-cut-rows : {Λ : ℕ → ℕ} {D e : ℕ} {rs : List Row} (s : Sheet) → Reads s → Linked Λ D rs e → cut s (bytes-of s rs) 0 ≡ [] ∷ map (insOf s) rs
-unfolding cut bytes-of insOf onto
-cut-rows s back finished = refl
-cut-rows s back (follows {r = r} {rs = rs} k f l) = cut-one s back (r .role) (r .operand) (bytes-of s rs) (k .sized)
-    ∙ ap (λ x. [] ∷ onto (opcode s (r .role)) x) (ap (λ x. joined (r .operand) x) (cut-rows s back l) ∙ joined-nil (r .operand) (map (insOf s) rs))
+rows-whole : {Λ : ℕ → ℕ} {D e : ℕ} {rs : List Row} (s : Sheet) → Reads s → Linked Λ D rs e → Wholes s (map (insOf s) rs)
+unfolding Wholes insOf
+rows-whole s back finished = tt
+rows-whole s back (follows {r = r} k f l) =
+    (record { role = r .role; first = opcode s (r .role); rest = r .operand; is = refl; known = back (r .role); sized = k .sized }, rows-whole s back l)
 
 pub decode-rows : {Λ : ℕ → ℕ} {D e : ℕ} {rs : List Row} (s : Sheet) → Reads s → Linked Λ D rs e → decode s (bytes-of s rs) ≡ map (insOf s) rs
-unfolding decode
-decode-rows s back l = ap (λ x. drop 1 x) (cut-rows s back l)
+decode-rows {rs = rs} s back l = ap (λ c. decode s c) (bytes-joined s rs) ∙ decode-joined s (map (insOf s) rs) (rows-whole s back l)
 
 -- ---- the actions of a pass
 
@@ -271,6 +254,7 @@ pub record Piped (Λ : ℕ → ℕ) (D : ℕ) (s : Sheet) (rows₀ : List Row) (
   pub protects : (i : ℕ) → i ≤ length rows₀ → has protected₀ (place-at rows₀ i) ≡ true → has (p .protected) (place-at rows (go i)) ≡ true
   pub heights : (i : ℕ) → i ≤ length rows₀ → has protected₀ (place-at rows₀ i) ≡ true → height-at rows 0 (go i) ≡ height-at rows₀ 0 i
   pub branches : (f : ℕ → ℕ) → patchesBy f rows ≡ patchesBy (λ i. f (go i)) rows₀
+  pub keeps : (i l : ℕ) (r : Row) → row-of rows₀ i ≡ some r → r .aim ≡ some l → row-of rows (go i) ≡ some r
 
 abbrev result : Sheet → Matcher → List ℕ → List Bytes → List ℕ × OffsetMap
 result s m protected is = (output (actions s m protected 0 is) is, offsets (actions s m protected 0 is) is 0 0)
@@ -295,6 +279,7 @@ module _ {Λ : ℕ → ℕ} {D : ℕ} (s : Sheet) (back : Reads s) {rows₀ : Li
         protects = λ i le h. subst (λ y. has (map (movedTo m′) (p .protected)) y ≡ true) (moved (x .go i) (x .within i le)) (has-map (movedTo m′) (p .protected) _ (x .protects i le h));
         heights = λ i le h. height-moved 0 (f .fits) (x .go i) (f .outer (x .go i) (at-0 _ (x .protects i le h))) (x .linked) ∙ x .heights i le h;
         branches = λ g. patches-moved g (f .fits) (x .linked) ∙ x .branches (λ i. g (move acts i));
+        keeps = λ i l r p a. branch-kept (f .fits) (x .linked) (x .go i) l r (x .keeps i l r p a) a;
       })
     where
       is : List Bytes
@@ -331,6 +316,7 @@ module _ {Λ : ℕ → ℕ} {D : ℕ} (s : Sheet) (back : Reads s) {rows₀ : Li
     protects = λ i le h. h;
     heights = λ i le h. refl;
     branches = λ f. refl;
+    keeps = λ i l r p a. p;
   }
 
   -- a pass's own map moves a place further

@@ -1,10 +1,10 @@
 -- Patching writes each branch's offset bytes and nothing else, and a run reads its label's place back from them.
-use Prim.Native.Nat.{ℕ, _+_, _-_, _*_, _/_, _%_, suc, zero, _≤_}
+use Prim.Native.Nat.{ℕ, _+_, _-_, _*_, _/_, _%_, suc, zero, _≤_, _<_}
 use mathlib.Core.Path.{_≡_, refl, sym, _∙_, ap, subst}
 use mathlib.Core.List.{List, [], _∷_, _++_, map, append-assoc}
 use mathlib.Core.Bool.{Bool, true, false}
 use mathlib.Core.Option.{Option, some, none}
-use lib.ListN.{length, getD, take, drop, length-append}
+use lib.ListN.{length, getD, take, drop, length-append, List·getD-append, take-append-drop}
 use lib.Seq.{take-append-le, take-append-add, drop-append-add, drop-append-seam, length-take-le, getD-append-add}
 use lib.Dec.{leb, ltb}
 use borrow.Author.Tests.{ltb-true, ltb-false, leb-false}
@@ -16,9 +16,9 @@ use Rattle.definition.specs.Rewrite.{OffsetMap, movedTo}
 use Rattle.definition.specs.Compile.{boundLabel, displacement, overwrite, patchJump, patchJumps}
 use Rattle.definition.specs.Runs.{target}
 use Rattle.definition.specs.Claims.{branches}
-use Rattle.runs.proofs.Results.{never}
+use Rattle.runs.proofs.Results.{never, some-is}
 use Rattle.runs.proofs.Roles.{branch-size}
-use Rattle.runs.proofs.Rows.{Row, next-height, bytes-of, place-at, place-first, height-at, first-height, patchHere, patchesBy, patches-same, Leads, nowhere, to, RowOk, Linked, finished, follows}
+use Rattle.runs.proofs.Rows.{Row, next-height, bytes-of, place-at, place-first, aim-at, row-of, height-at, first-height, patchHere, patchesBy, patches-same, Leads, nowhere, to, RowOk, Linked, finished, follows}
 
 -- ---- the displacement, written and read
 
@@ -197,17 +197,34 @@ patched-rows s T front (follows {r = r} {rs = rs} k f l) =
 
 -- ---- reading the branches back
 
--- the label of row i
-unfoldable pub aim-at : List Row → ℕ → Option ℕ
-aim-at [] i = none
-aim-at (r ∷ rs) zero = r .aim
-aim-at (r ∷ rs) (suc i) = aim-at rs i
-
 pub aimed-aims : (T : ℕ → ℕ) (at : ℕ) (rs : List Row) (i : ℕ) → aim-at (aimedRows T at rs) i ≡ aim-at rs i
 unfolding aimedRows aimedRow aim-at
 aimed-aims T at [] i = refl
 aimed-aims T at (r ∷ rs) zero = refl
 aimed-aims T at (r ∷ rs) (suc i) = aimed-aims T (at + suc (length (r .operand))) rs i
+
+-- row i with its branch's offset: whatever stood before the two offset bytes stands
+pub aimed-row : (T : ℕ → ℕ) (at : ℕ) (rs : List Row) (i : ℕ) (r : Row) → row-of rs i ≡ some r → (next : ℕ) × (row-of (aimedRows T at rs) i ≡ some (aimedRow T next r))
+unfolding aimedRows row-of
+aimed-row T at [] i r e = never (cc)
+aimed-row T at (q ∷ rs) zero r e = (at + suc (length (q .operand)), ap (λ x. some (aimedRow T (at + suc (length (q .operand))) x)) (some-is e))
+aimed-row T at (q ∷ rs) (suc i) r e = aimed-row T (at + suc (length (q .operand))) rs i r e
+
+pub aimed-byte : (T : ℕ → ℕ) (next op : ℕ) (a : Option ℕ) (o : List ℕ) (k : ℕ) → k < length o - 1 → getD (op ∷ aimedOperand T next a o) k 0 ≡ getD (op ∷ o) k 0
+unfolding aimedOperand
+aimed-byte T next op none o k lt = refl
+aimed-byte T next op (some l) o zero lt = refl
+aimed-byte T next op (some l) o (suc k) lt =
+    let n : ℕ = length o - 2 in
+    let w : length (take n o) ≡ n = length-take-le n o (omega arith) in
+    List·getD-append (take n o) (le16 (displacement (T l) next)) 0 k (subst (λ x. k < x) (sym w) (omega arith))
+    ∙ (sym (List·getD-append (take n o) (drop n o) 0 k (subst (λ x. k < x) (sym w) (omega arith))) ∙ ap (λ x. getD x k 0) (take-append-drop n o))
+
+pub aimed-long : (T : ℕ → ℕ) (next : ℕ) (a : Option ℕ) (o : List ℕ) (k : ℕ) → k < length o - 1 → k < suc (length (aimedOperand T next a o))
+unfolding aimedOperand le16
+aimed-long T next none o k lt = omega arith
+aimed-long T next (some l) o k lt =
+    omega (arith, length-append (take (length o - 2) o) (le16 (displacement (T l) next)), length-take-le (length o - 2) o (let c : length o - 2 ≤ length o = omega arith in c))
 
 one-target : {Λ : ℕ → ℕ} {g : ℕ} {b : Bool} {a : Option ℕ} (T : ℕ → ℕ) (front : List ℕ) (op : ℕ) (o rest : List ℕ) (l : ℕ) → Leads Λ g b a → (b ≡ true → 2 ≤ length o) → a ≡ some l → T l ≤ maxCode
     → length front + suc (length o) ≤ maxCode → target (front ++ ((op ∷ aimedOperand T (length front + suc (length o)) a o) ++ rest)) (length front + suc (length o)) ≡ some (T l)

@@ -3,7 +3,7 @@ use Prim.Native.Nat.{ℕ, _+_, suc, zero, _≤_, zero-le, suc-le-suc}
 use mathlib.Core.Path.{_≡_, refl, sym, _∙_, ap}
 use mathlib.Core.List.{List, [], _∷_, _++_}
 use mathlib.Core.Bool.{true}
-use mathlib.Core.Option.{none}
+use mathlib.Core.Option.{some, none}
 use lib.ListN.{length}
 use native.Mathlib.Omega.{arith}
 use Rattle.definition.specs.Opcode.{shift, onward, effect, flow}
@@ -11,8 +11,9 @@ use Rattle.definition.specs.Rules.{Action, keep, remove, rewriteOperand, allowe
 use Rattle.definition.specs.Emit.{le16}
 use Rattle.definition.specs.Claims.{branches}
 use Rattle.rules.proofs.Pairs.{Pair, Keeps, neither, former, latter, both, keeps, rewritten, variable-size}
+use Rattle.runs.proofs.Results.{never, some-is}
 use Rattle.runs.proofs.Heights.{falls}
-use Rattle.runs.proofs.Rows.{Row, next-height, height-at, first-height, height-first, patchHere, patchesBy, leads-nowhere, RowOk, Linked, follows}
+use Rattle.runs.proofs.Rows.{Row, next-height, row-of, height-at, first-height, height-first, patchHere, patchesBy, leads-nowhere, RowOk, Linked, follows}
 
 -- what an action leaves of a row
 unfoldable pub kept : Action → Row → List Row
@@ -138,3 +139,23 @@ patches-moved f (pair {a = a} {b = b} {xs = xs} {r = r} {q = q} {rs = rs} ok t) 
     no-patch a r (kept b q ++ apply xs rs) f m ∙ (no-patch b q (apply xs rs) (λ i. f (past a i)) n ∙ (patches-moved (λ i. f (past a (past b i))) t l
     ∙ sym (ap (λ x. patchHere x (f 0) (r .operand) ++ (patchHere (q .aim) (f (past a 0)) (q .operand) ++ patchesBy (λ i. f (past a (past b (move xs i)))) rs)) m
     ∙ ap (λ x. patchHere x (f (past a 0)) (q .operand) ++ patchesBy (λ i. f (past a (past b (move xs i)))) rs) n)))
+
+-- a branch's row stays as it is
+past-row : (a : Action) (r : Row) (ys : List Row) (i : ℕ) → row-of (kept a r ++ ys) (past a i) ≡ row-of ys i
+unfolding kept past row-of
+past-row keep r ys i = refl
+past-row remove r ys i = refl
+past-row (rewriteOperand n) r ys i = refl
+
+unaimed : {A : Type 0} {q r : Row} {l : ℕ} → q .aim ≡ none → some q ≡ some r → r .aim ≡ some l → A
+unaimed {r = r} n e a = never (let w : r .aim ≡ none = ap (λ (x : Row). x .aim) (sym (some-is e)) ∙ n in cc)
+
+pub branch-kept : {Λ : ℕ → ℕ} {D e : ℕ} {xs : List Action} {rs : List Row} → Fits xs rs → Linked Λ D rs e → (i l : ℕ) (r : Row) → row-of rs i ≡ some r → r .aim ≡ some l → row-of (apply xs rs) (move xs i) ≡ some r
+unfolding apply move row-of kept
+branch-kept over k i l r p a = p
+branch-kept (alone t) k zero l r p a = p
+branch-kept (alone {xs = xs} {r = q} {rs = rs} t) (follows k g k′) (suc i) l r p a = past-row keep q (apply xs rs) (move xs i) ∙ branch-kept t k′ i l r p a
+branch-kept (pair ok t) (follows k g k′) zero l r p a = unaimed (onward-aim k (ok .first)) p a
+branch-kept (pair ok t) (follows k g (follows j h k′)) (suc zero) l r p a = unaimed (onward-aim j (ok .second)) p a
+branch-kept (pair {a = b} {b = c} {xs = xs} {r = q} {q = q′} {rs = rs} ok t) (follows k g (follows j h k′)) (suc (suc i)) l r p a =
+    past-row b q (kept c q′ ++ apply xs rs) (past c (move xs i)) ∙ (past-row c q′ (apply xs rs) (move xs i) ∙ branch-kept t k′ i l r p a)

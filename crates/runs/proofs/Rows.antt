@@ -1,16 +1,17 @@
 -- Code as rows: an instruction with the height at which it stands and, for a branch, its label.
 use Prim.Native.Nat.{ℕ, _+_, _-_, suc, zero, _≤_, _<_, zero-le, suc-le-suc}
-use mathlib.Core.Path.{_≡_, refl, sym, _∙_, ap}
+use mathlib.Core.Path.{_≡_, refl, sym, _∙_, ap, subst}
 use mathlib.Core.List.{List, [], _∷_, _++_, append-assoc, append-nil}
 use mathlib.Core.Bool.{Bool, true, false}
 use mathlib.Core.Option.{Option, some, none}
-use lib.ListN.{length, length-append}
+use lib.ListN.{length, getD, length-append, List·getD-append}
+use lib.Seq.{getD-append-add}
 use native.Mathlib.Omega.{arith}
 use native.Mathlib.Nat.{le-trans, le-of-suc-le-suc, not-suc-le-zero}
 use Rattle.definition.specs.Opcode.{Role, Sheet, opcode, size, needs, effect, flow, shift}
 use Rattle.definition.specs.Emit.{PendingPatch}
-use Rattle.definition.specs.Claims.{branches}
-use Rattle.runs.proofs.Results.{never}
+use Rattle.definition.specs.Claims.{branches, Each, empty, _also_}
+use Rattle.runs.proofs.Results.{never, some-is}
 use Rattle.runs.proofs.Heights.{falls, Stops}
 
 pub record Row : Type 0 where
@@ -38,6 +39,18 @@ height-at [] e i = e
 height-at (r ∷ rs) e zero = r .height
 height-at (r ∷ rs) e (suc i) = height-at rs e i
 
+-- the label of row i
+unfoldable pub aim-at : List Row → ℕ → Option ℕ
+aim-at [] i = none
+aim-at (r ∷ rs) zero = r .aim
+aim-at (r ∷ rs) (suc i) = aim-at rs i
+
+-- row i
+unfoldable pub row-of : List Row → ℕ → Option Row
+row-of [] i = none
+row-of (r ∷ rs) zero = some r
+row-of (r ∷ rs) (suc i) = row-of rs i
+
 unfoldable pub first-height : List Row → ℕ → ℕ
 first-height [] e = e
 first-height (r ∷ rs) e = r .height
@@ -50,6 +63,45 @@ patchHere (some l) at o = record { instructionOffset = at; operandDelta = length
 unfoldable pub patchesBy : (ℕ → ℕ) → List Row → List PendingPatch
 patchesBy f [] = []
 patchesBy f (r ∷ rs) = patchHere (r .aim) (f 0) (r .operand) ++ patchesBy (λ i. f (suc i)) rs
+
+-- what holds of every row that has a label holds of each patch
+pub each-patch : (Q : PendingPatch → Type 0) (f : ℕ → ℕ) (rs : List Row)
+    → ((i l : ℕ) (r : Row) → row-of rs i ≡ some r → r .aim ≡ some l → Q (record { instructionOffset = f i; operandDelta = length (r .operand) - 1; label = l })) → Each Q (patchesBy f rs)
+unfolding patchesBy patchHere row-of
+each-patch Q f [] h = empty
+each-patch Q f (r ∷ rs) h = by (r .aim) (λ l e. h 0 l r refl e) (each-patch Q (λ i. f (suc i)) rs (λ i l q p e. h (suc i) l q p e))
+  where
+    by : (a : Option ℕ) → ((l : ℕ) → a ≡ some l → Q (record { instructionOffset = f 0; operandDelta = length (r .operand) - 1; label = l })) → Each Q (patchesBy (λ i. f (suc i)) rs)
+        → Each Q (patchHere a (f 0) (r .operand) ++ patchesBy (λ i. f (suc i)) rs)
+    by none g more = more
+    by (some l) g more = g l refl also more
+
+pub row-inside : (rs : List Row) (i : ℕ) (r : Row) → row-of rs i ≡ some r → i < length rs
+unfolding row-of
+row-inside [] i r e = never (cc)
+row-inside (q ∷ rs) zero r e = suc-le-suc zero-le
+row-inside (q ∷ rs) (suc i) r e = suc-le-suc (row-inside rs i r e)
+
+pub row-aim : (rs : List Row) (i : ℕ) (r : Row) → row-of rs i ≡ some r → aim-at rs i ≡ r .aim
+unfolding row-of aim-at
+row-aim [] i r e = never (cc)
+row-aim (q ∷ rs) zero r e = ap (λ (x : Row). x .aim) (some-is e)
+row-aim (q ∷ rs) (suc i) r e = row-aim rs i r e
+
+-- the bytes at its place are its own
+pub row-bytes : (s : Sheet) (rs : List Row) (i : ℕ) (r : Row) → row-of rs i ≡ some r → (k : ℕ) → k < suc (length (r .operand))
+    → getD (bytes-of s rs) (place-at rs i + k) 0 ≡ getD (opcode s (r .role) ∷ r .operand) k 0
+unfolding row-of bytes-of place-at
+row-bytes s [] i r e k lt = never (cc)
+row-bytes s (q ∷ rs) zero r e k lt =
+    let p : q ≡ r = cc in
+    ap (λ x. getD ((opcode s (q .role) ∷ q .operand) ++ bytes-of s rs) x 0) (let n : 0 + k ≡ k = omega arith in n)
+    ∙ subst (λ x. getD ((opcode s (q .role) ∷ q .operand) ++ bytes-of s rs) k 0 ≡ getD (opcode s (x .role) ∷ x .operand) k 0) p
+    (List·getD-append (opcode s (q .role) ∷ q .operand) (bytes-of s rs) 0 k (subst (λ x. k < suc (length (x .operand))) (sym p) lt))
+row-bytes s (q ∷ rs) (suc i) r e k lt =
+    let n : suc (length (q .operand)) + place-at rs i + k ≡ suc (length (q .operand)) + (place-at rs i + k) = omega arith in
+    ap (λ x. getD ((opcode s (q .role) ∷ q .operand) ++ bytes-of s rs) x 0) n
+    ∙ (getD-append-add (opcode s (q .role) ∷ q .operand) (bytes-of s rs) (place-at rs i + k) 0 ∙ row-bytes s rs i r e k lt)
 
 -- ---- rows that may stand as they do
 

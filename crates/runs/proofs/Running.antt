@@ -1,5 +1,5 @@
 -- A run of code that is linked rows never breaks off, never passes the depth, and finishes at height 0; and its branches by place.
-use Prim.Native.Nat.{ℕ, _+_, suc, zero, _≤_, _<_, zero-le, suc-le-suc}
+use Prim.Native.Nat.{ℕ, _+_, _-_, suc, zero, _≤_, _<_, zero-le, suc-le-suc}
 use mathlib.Core.Path.{_≡_, refl, sym, _∙_, ap, subst}
 use mathlib.Core.List.{List, [], _∷_, _++_, map, map-append}
 use mathlib.Core.Bool.{Bool, true, false}
@@ -7,7 +7,7 @@ use mathlib.Core.Option.{Option, some, none}
 use lib.ListN.{length, getD, length-append}
 use lib.Seq.{getD-append-add}
 use lib.Dec.{eqb, ltb}
-use borrow.Author.Tests.{eq-eqb, ne-eqb, le-ltb}
+use borrow.Author.Tests.{eq-eqb, ne-eqb, eqb-true, le-ltb}
 use native.Mathlib.Decide.{decLt}
 use native.Mathlib.Omega.{arith}
 use native.Mathlib.Nat.{le-of-suc-le-suc, not-suc-le-zero}
@@ -15,14 +15,13 @@ use Rattle.definition.specs.Field.{has}
 use Rattle.definition.specs.Opcode.{Role, Sheet, opcode, roleOf, size, needs, effect, shift, Flow, onward, away, either, stop, flow}
 use Rattle.definition.specs.Emit.{PendingPatch}
 use Rattle.definition.specs.Rewrite.{opcodeOf, decode, startsFrom}
-use Rattle.definition.specs.Runs.{State, offCode, emptyStack, Step, goes, finishes, waits, breaks, target, jump, branch, follow, outOfOutcomes, execute, executeIf, step, Stand, stand, run}
+use Rattle.definition.specs.Runs.{State, Break, offCode, emptyStack, Step, goes, finishes, waits, breaks, target, jump, branch, follow, outOfOutcomes, execute, executeIf, step, Stand, stand, run}
 use Rattle.runs.proofs.Results.{never}
 use Rattle.runs.proofs.Heights.{falls, Stops}
-use Rattle.runs.proofs.Rows.{Row, next-height, bytes-of, place-at, height-at, height-first, height-end, place-first, place-end, patchHere, patchesBy, patches-same, Leads, nowhere, to, leads-to, RowOk, Linked, finished, follows}
+use Rattle.runs.proofs.Rows.{Row, next-height, bytes-of, place-at, aim-at, height-at, height-first, height-end, place-first, place-end, patchHere, patchesBy, patches-same, Leads, nowhere, to, leads-to, RowOk, Linked, finished, follows}
 use Rattle.runs.proofs.Emitted.{Stands}
 use Rattle.runs.proofs.Passes.{insOf, Reads, decode-rows}
-use Rattle.runs.proofs.Patched.{aim-at}
-use Rattle.definition.specs.Claims.{Either, left, right, branches, Fine, isBranch, branchesFrom, branchPlaces, LeadsTo, Each, empty, _also_}
+use Rattle.definition.specs.Claims.{Either, left, right, branches, Fine, isBranch, branchesFrom, branchPlaces, LeadsTo}
 
 -- ---- what the bytes of rows say at row i
 
@@ -191,21 +190,29 @@ module _ {Λ : ℕ → ℕ} {D : ℕ} (s : Sheet) (rs : List Row) (linked : Link
         by (yes lt) = let ra = row-at s 0 linked (st .index) lt in left (subst (λ y. has (startsFrom 0 (decode s (bytes-of s rs))) y ≡ true) (sym (st .place)) (row-start (st .index) (ra .0) (ra .1)))
         by (no ge) = right (st .place ∙ (ap (λ y. place-at rs y) (at-end (st .index) (st .within) ge) ∙ sym (place-end s rs)))
 
+    -- how a run may stand
+    pub record FineRow (y : Stand) : Type 0 where
+      pub stands : Stands rs 0 (y .state .place) (y .state .height)
+      pub whole : (b : Break) → y .how ≡ breaks b → ⊥
+      pub low : y .state .height ≤ D
+      pub empty : y .how ≡ finishes → y .state .height ≡ 0
+
     stand-fine : (x : State) (t : Step) (more : State → Stand) → Stands rs 0 (x .place) (x .height) → x .height ≤ D → Good rs D (x .height) t
-        → ((y : State) → Stands rs 0 (y .place) (y .height) → y .height ≤ D → Fine s (bytes-of s rs) D (more y)) → Fine s (bytes-of s rs) D (stand x t more)
+        → ((y : State) → Stands rs 0 (y .place) (y .height) → y .height ≤ D → FineRow (more y)) → FineRow (stand x t more)
     unfolding stand
     stand-fine x (goes y) more st le (on u v) f = f y u v
-    stand-fine x finishes more st le (over z) f = record { place = stands-place _ _ st; whole = λ b e. never (cc); low = le; empty = λ e. z }
-    stand-fine x waits more st le wait f =
-        record { place = stands-place _ _ st; whole = λ b e. never (cc); low = le; empty = λ e. never (cc) }
+    stand-fine x finishes more st le (over z) f = record { stands = st; whole = λ b e. never (cc); low = le; empty = λ e. z }
+    stand-fine x waits more st le wait f = record { stands = st; whole = λ b e. never (cc); low = le; empty = λ e. never (cc) }
     stand-fine x (breaks b) more st le g f = elim g [ ]
 
     -- after any number of steps, over any outcomes
-    pub run-fine : (n : ℕ) (x : State) → Stands rs 0 (x .place) (x .height) → x .height ≤ D → Fine s (bytes-of s rs) D (run s (bytes-of s rs) n x)
+    pub run-fine : (n : ℕ) (x : State) → Stands rs 0 (x .place) (x .height) → x .height ≤ D → FineRow (run s (bytes-of s rs) n x)
     unfolding run
-    run-fine zero x st le =
-        record { place = stands-place _ _ st; whole = λ b e. never (cc); low = le; empty = λ e. never (cc) }
+    run-fine zero x st le = record { stands = st; whole = λ b e. never (cc); low = le; empty = λ e. never (cc) }
     run-fine (suc n) x st le = stand-fine x (step s (bytes-of s rs) x) (λ y. run s (bytes-of s rs) n y) st le (step-good x st) (λ y t l. run-fine n y t l)
+
+    pub row-fine : {y : Stand} → FineRow y → Fine s (bytes-of s rs) D y
+    row-fine f = record { place = stands-place _ _ (f .stands); whole = f .whole; low = f .low; empty = f .empty }
 
     -- each branch, by its patch
     pub row-leads : (i l : ℕ) → i < length rs → aim-at rs i ≡ some l → LeadsTo s (bytes-of s rs) (place-at rs i) (T l)
@@ -214,6 +221,7 @@ module _ {Λ : ℕ → ℕ} {D : ℕ} (s : Sheet) (rs : List Row) (linked : Link
         let r : Row = ra .0 in
         let a : RowAt Λ D s 0 rs 0 i r = ra .1 in
         record {
+          start = row-start i r a;
           role = r .role;
           here = ap (λ y. roleOf s y) (a .byte) ∙ back (r .role);
           branch = aimed-branch (a .ok .leads) (sym (a .aim) ∙ e);
@@ -245,14 +253,32 @@ unfolding branchPlaces
 branch-places s back {rs = rs} l = ap (λ is. branchesFrom s 0 is) (decode-rows s back l) ∙ (rows-branches s back 0 l
     ∙ ap (λ x. map (λ (p : PendingPatch). p .instructionOffset) x) (patches-same (λ i. 0 + place-at rs i) (λ i. place-at rs i) rs (λ i le. let n : 0 + place-at rs i ≡ place-at rs i = omega arith in n)))
 
-pub each-patch : (P : ℕ → ℕ → Type 0) (f : ℕ → ℕ) (rs : List Row) → ((i l : ℕ) → i < length rs → aim-at rs i ≡ some l → P (f i) l) → Each (λ (p : PendingPatch). P (p .instructionOffset) (p .label)) (patchesBy f rs)
-unfolding patchesBy patchHere aim-at
-each-patch P f [] h = empty
-each-patch P f (r ∷ rs) h = by (r .aim) (λ l e. h 0 l (suc-le-suc zero-le) e) (each-patch P (λ i. f (suc i)) rs (λ i l lt e. h (suc i) l (suc-le-suc lt) e))
-  where
-    Q : PendingPatch → Type 0
-    Q p = P (p .instructionOffset) (p .label)
+-- ---- heights by place
 
-    by : (a : Option ℕ) → ((l : ℕ) → a ≡ some l → P (f 0) l) → Each Q (patchesBy (λ i. f (suc i)) rs) → Each Q (patchHere a (f 0) (r .operand) ++ patchesBy (λ i. f (suc i)) rs)
-    by none g more = more
-    by (some l) g more = g l refl also more
+-- of the row that stands at a place, and of the end
+unfoldable pub height-of : List Row → ℕ → ℕ → ℕ
+height-of [] e p = e
+height-of (r ∷ rs) e p = elim (eqb p 0) [ true ↦ r .height | false ↦ height-of rs e (p - suc (length (r .operand))) ]
+
+pub height-place : (rs : List Row) (e i : ℕ) → height-of rs e (place-at rs i) ≡ height-at rs e i
+unfolding height-of height-at place-at
+height-place [] e i = refl
+height-place (r ∷ rs) e zero = refl
+height-place (r ∷ rs) e (suc i) =
+    let w : ℕ = suc (length (r .operand)) in
+    let n : w + place-at rs i - w ≡ place-at rs i = omega arith in
+    ap (λ b. elim b as (λ c. ℕ) [ true ↦ r .height | false ↦ height-of rs e (w + place-at rs i - w) ]) (ne-eqb (w + place-at rs i) 0 (λ q. omega arith)) ∙ (ap (λ p. height-of rs e p) n ∙ height-place rs e i)
+
+-- a start is some row's place
+pub start-row : (s : Sheet) (rs : List Row) (at p : ℕ) → has (startsFrom at (map (insOf s) rs)) p ≡ true → (i : ℕ) × (i < length rs) × (p ≡ at + place-at rs i)
+unfolding startsFrom has insOf place-at
+start-row s [] at p h = never (cc)
+start-row s (r ∷ rs) at p h = by (eqb p at) refl h (start-row s rs (at + suc (length (r .operand))) p)
+  where
+    w : ℕ
+    w = suc (length (r .operand))
+
+    by : (b : Bool) → eqb p at ≡ b → elim b [ true ↦ true | false ↦ has (startsFrom (at + w) (map (insOf s) rs)) p ] ≡ true
+        → (has (startsFrom (at + w) (map (insOf s) rs)) p ≡ true → (i : ℕ) × (i < length rs) × (p ≡ at + w + place-at rs i)) → (i : ℕ) × (i < length (r ∷ rs)) × (p ≡ at + place-at (r ∷ rs) i)
+    by true q t f = (0, suc-le-suc zero-le, let n = eqb-true p at q in omega arith)
+    by false q t f = let x = f t in (suc (x .0), suc-le-suc (x .1), let n = x .2 in omega arith)
