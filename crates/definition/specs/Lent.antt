@@ -1,7 +1,9 @@
 -- What lent outputs hold: a result from their start and 0 up to their end; 0 all through after a refusal.
-use Prim.Native.Nat.{ℕ, _-_, suc, zero}
+use Prim.Native.Nat.{ℕ, _-_, _/_, suc, zero}
 use mathlib.Core.List.{List, [], _∷_, _++_}
-use lib.ListN.{length}
+use lib.ListN.{length, getD, drop}
+use Rattle.definition.specs.Limits.{entrySize}
+use Rattle.definition.specs.Tree.{Pos}
 use Rattle.definition.specs.Emit.{LineEntry}
 
 unfoldable pub zeros : ℕ → List ℕ
@@ -12,19 +14,34 @@ zeros (suc n) = 0 ∷ zeros n
 unfoldable pub filled : ℕ → List ℕ → List ℕ
 filled room xs = xs ++ zeros (room - length xs)
 
--- a line list as numbers: each entry's offset, line, column
+-- a position's numbers, and the position that stands at the start of some numbers
+unfoldable pub posNumbers : Pos → List ℕ
+posNumbers p = p .line ∷ p .column ∷ []
+
+unfoldable pub posIn : List ℕ → Pos
+posIn ns = record { line = getD ns 0 0; column = getD ns 1 0 }
+
+-- a line entry's, entrySize of them
+unfoldable pub oneEntry : LineEntry → List ℕ
+oneEntry x = x .offset ∷ posNumbers (x .pos)
+
+unfoldable pub entryIn : List ℕ → LineEntry
+entryIn ns = record { offset = getD ns 0 0; pos = posIn (drop 1 ns) }
+
+-- a line list as numbers
 unfoldable pub entryNumbers : List LineEntry → List ℕ
 entryNumbers [] = []
-entryNumbers (x ∷ xs) = x .offset ∷ x .pos .line ∷ x .pos .column ∷ entryNumbers xs
+entryNumbers (x ∷ xs) = oneEntry x ++ entryNumbers xs
 
--- and back; one or two numbers over make no entry
+-- and back; fewer than entrySize numbers over make no entry
+unfoldable pub firstEntries : ℕ → List ℕ → List LineEntry
+firstEntries zero ns = []
+firstEntries (suc n) ns = entryIn ns ∷ firstEntries n (drop entrySize ns)
+
 unfoldable pub entriesOf : List ℕ → List LineEntry
-entriesOf [] = []
-entriesOf (a ∷ []) = []
-entriesOf (a ∷ b ∷ []) = []
-entriesOf (a ∷ b ∷ c ∷ ns) = record { offset = a; pos = record { line = b; column = c } } ∷ entriesOf ns
+entriesOf ns = firstEntries (length ns / entrySize) ns
 
 -- `unfolding open-Lent` names all of this module's definitions at once
 unfoldable pub open-Lent : Unit {0}
-unfolding zeros filled entryNumbers entriesOf
+unfolding zeros filled posNumbers posIn oneEntry entryIn entryNumbers firstEntries entriesOf
 open-Lent = tt

@@ -16,6 +16,7 @@ use Rattle.definition.specs.Opcode.{Sheet}
 use Rattle.definition.specs.Iec.{signedOf}
 use Rattle.definition.specs.Sheet.{readSheet}
 use Rattle.definition.specs.Emit.{LineEntry}
+use Rattle.definition.specs.Lent.{oneEntry}
 use Rattle.definition.specs.Rewrite.{decode}
 use Rattle.definition.specs.Compile.{FinalizedFunction, compileFiles, Free}
 
@@ -92,7 +93,7 @@ constantLines (k ∷ ks) = code "k" ∷ comma ∷ signedDecimal (signedOf width 
 
 unfoldable pub entryLines : List LineEntry → List ℕ
 entryLines [] = []
-entryLines (x ∷ xs) = code "l" ∷ fields (x .offset ∷ x .pos .line ∷ x .pos .column ∷ []) ++ entryLines xs
+entryLines (x ∷ xs) = code "l" ∷ fields (oneEntry x) ++ entryLines xs
 
 unfoldable pub instructionLines : ℕ → List (List ℕ) → List ℕ
 instructionLines at [] = []

@@ -1,24 +1,25 @@
 -- Lists of offsets checked one by one.
 use mathlib.Core.Path.{_≡_, refl, ap, sym, _∙_}
 use mathlib.Core.Bool.{Bool, true, false}
-use mathlib.Core.List.{List, [], _∷_}
-use Prim.Native.Nat.{ℕ, suc, _+_, _≤_, _<_}
-use native.Mathlib.Numerals.{add-one, add-two, add-three}
+use mathlib.Core.List.{List, _∷_}
+use Prim.Native.Nat.{ℕ, suc, _+_, _-_, _≤_, _<_}
+use native.Mathlib.Numerals.{add-one}
 use native.Mathlib.Omega.{arith}
-use lib.ListN.{length, getD, drop, drop-of-length-le, length-drop, List·getD-eq-default}
+use lib.ListN.{length, getD, drop, drop-of-length-le, List·getD-eq-default}
 use lib.Dec.{leb}
 use borrow.Author.Tests.{leb-true, leb-false}
 use lib.Seq.{drop-cons}
-use Rattle.definition.specs.Limits.{maxCode}
-use Rattle.definition.specs.Limits.{badCode}
+use Rattle.definition.specs.Limits.{maxCode, entrySize, badCode}
 use Rattle.definition.specs.Res.{ok, refuse, _>>_, demand}
 use Rattle.definition.specs.Field.{has}
-use Rattle.definition.specs.Emit as def
-use Rattle.definition.specs.Lent.{entriesOf}
+use Rattle.definition.specs.Lent.{entryIn}
 use Rattle.definition.specs.Alone.{boundaries}
 use Rattle.optimize.specs.declared.Offset.the-variants.{Fine, Bad}
 use Rattle.optimize.specs.View.{fixedIn, entryOffsets, Checks}
 use Rattle.optimize.proofs.Tables.{fixed-small}
+use Rattle.line_map.specs.declared.LineEntry.{LineEntry}
+use Rattle.line_map.specs.View.{entryView}
+use Rattle.line_map.proofs.Entries.{entries-at, entries-none}
 use Rattle.rewrite.specs.View.{slotCount}
 
 pub bounds-more : (places : List ℕ) (x : ℕ) (xs : List ℕ) → has places x ≡ true → boundaries places (x ∷ xs) ≡ boundaries places xs
@@ -69,23 +70,7 @@ module _ (table list : List ℕ) where
       byPlace k true e = rw (List·getD-eq-default list 0 (leb-true _ _ e)) (omega arith)
       byPlace k false e = c .small k (omega (arith, leb-false (length list) k e))
 
--- ---- line entries, three numbers each
-
-pub entry-at : (lines : List ℕ) (i : ℕ) → i + 2 < length lines
-    → entriesOf (drop i lines) ≡ record { offset = getD lines i 0; pos = record { line = getD lines (i + 1) 0; column = getD lines (i + 2) 0 } } ∷ entriesOf (drop (i + 3) lines)
-unfolding entriesOf
-entry-at lines i h =
-    rw (drop-cons lines i 0 (omega arith), drop-cons lines (suc i) 0 (omega arith), drop-cons lines (suc (suc i)) 0 (omega arith), add-one i, add-two i, add-three i)
-
-entries-short : (xs : List ℕ) → length xs ≤ 2 → entriesOf xs ≡ []
-unfolding entriesOf
-entries-short [] h = refl
-entries-short (a ∷ []) h = refl
-entries-short (a ∷ b ∷ []) h = refl
-entries-short (a ∷ b ∷ c ∷ xs) h = absurd (omega arith)
-
-pub entries-none : (lines : List ℕ) (i : ℕ) → length lines ≤ i + 2 → entriesOf (drop i lines) ≡ []
-entries-none lines i h = entries-short (drop i lines) (simp length-drop (omega arith))
+-- ---- line entries
 
 pub record CheckingLines (places lines : List ℕ) (i : ℕ) : Type 0 where
   pub left : boundaries places (entryOffsets lines) ≡ boundaries places (entryOffsets (drop i lines))
@@ -95,12 +80,16 @@ module _ (places lines : List ℕ) where
   pub lines-begin : CheckingLines places lines 0
   lines-begin = record { left = refl; within = omega arith }
 
-  pub lines-go-on : (i : ℕ) → CheckingLines places lines i → i + 2 < length lines → true ≡ has places (getD lines i 0) → CheckingLines places lines (i + 3)
-  lines-go-on i c h on = record { left = c .left ∙ rw (entry-at lines i h) (bounds-more places (getD lines i 0) (entryOffsets (drop (i + 3) lines)) (sym on)); within = omega arith }
+  module _ (i : ℕ) (e : LineEntry) (c : CheckingLines places lines i) (h : entrySize ≤ length lines - i) (is : entryView e ≡ entryIn (drop i lines)) where
+    offsets : entryOffsets (drop i lines) ≡ e .offset ∷ entryOffsets (drop (i + entrySize) lines)
+    offsets = rw (entries-at lines i (omega (arith, c .within)), ← is)
 
-  pub lines-bad : (i : ℕ) → CheckingLines places lines i → i + 2 < length lines → false ≡ has places (getD lines i 0) → refuse badCode (getD lines i 0) ≡ boundaries places (entryOffsets lines)
-  lines-bad i c h off = sym (c .left ∙ rw (entry-at lines i h) (bounds-bad places (getD lines i 0) (entryOffsets (drop (i + 3) lines)) (sym off)))
+    pub lines-go-on : true ≡ has places (e .offset) → CheckingLines places lines (i + entrySize)
+    lines-go-on on = record { left = c .left ∙ rw offsets (bounds-more places (e .offset) (entryOffsets (drop (i + entrySize) lines)) (sym on)); within = omega (arith, c .within) }
 
-  pub lines-end : (i : ℕ) → CheckingLines places lines i → length lines ≤ i + 2 → ok tt ≡ boundaries places (entryOffsets lines)
+    pub lines-bad : false ≡ has places (e .offset) → refuse badCode (e .offset) ≡ boundaries places (entryOffsets lines)
+    lines-bad off = sym (c .left ∙ rw offsets (bounds-bad places (e .offset) (entryOffsets (drop (i + entrySize) lines)) (sym off)))
+
+  pub lines-end : (i : ℕ) → CheckingLines places lines i → length lines - i < entrySize → ok tt ≡ boundaries places (entryOffsets lines)
   unfolding boundaries
-  lines-end i c h = sym (c .left ∙ rw (entries-none lines i h))
+  lines-end i c h = sym (c .left ∙ rw (entries-none lines i (omega (arith, c .within))))

@@ -5,25 +5,27 @@ use mathlib.Core.Option.{Option, some, none}
 use mathlib.Core.List.{List, [], _∷_, _++_, append-assoc, append-nil}
 use Prim.Native.Nat.{ℕ, _+_, _-_, _*_, _/_, _%_, _≤_, _<_}
 use native.Mathlib.Omega.{arith}
-use lib.ListN.{length, getD, take, drop, set}
+use lib.ListN.{length, take, drop}
 use lib.Dec.{leb}
 use borrow.Author.Tests.{le-leb, lt-leb, eq-eqb, ne-eqb}
-use lib.Seq.{length-take-le, sets-eq}
-use native.Mathlib.Numerals.{add-one, add-two}
-use Rattle.rewrite.proofs.Copy.{puts-nothing}
+use lib.Seq.{length-take-le}
+use Rattle.definition.specs.Limits.{entrySize}
 use Rattle.definition.specs.Emit as def
 use Rattle.definition.specs.Rewrite.{OffsetMap, movedTo}
-use Rattle.definition.specs.Lent.{filled, zeros, entriesOf, entryNumbers}
+use Rattle.definition.specs.Lent.{filled, oneEntry, entryIn, entriesOf, entryNumbers}
 use Rattle.definition.specs.Optimize.{isLast, remapLineMap}
-use Rattle.rewrite.specs.View.{put, Puts}
-use Rattle.rewrite.proofs.Pass.{take-put, length-put}
-use Rattle.optimize.specs.declared.LineEntry.{LineEntry}
+use Rattle.store.specs.Store as store
+use Rattle.store.specs.Store.{Store, contents, pushAll}
+use Rattle.store.specs.Fill.{zeroedFrom}
+use Rattle.store.proofs.Stores.{contents-room, used-room, length-pushAll}
+use Rattle.line_map.specs.declared.LineEntry.{LineEntry}
+use Rattle.line_map.specs.View.{entryView}
+use Rattle.line_map.proofs.Entries.{entries-at, entries-none, length-numbers, numbers-append}
 use Rattle.optimize.specs.declared.Kept.{Kept}
 use Rattle.optimize.specs.declared.Kept.the-variants.{None, At}
 use Rattle.optimize.specs.declared.Remapped.{Remapped}
 use Rattle.optimize.specs.declared.Remapped.the-variants.{Gone, Moved}
-use Rattle.optimize.specs.View.{entryView, keptView, remappedView, lastAfter, Remaps}
-use Rattle.optimize.proofs.Checks.{entry-at, entries-none}
+use Rattle.optimize.specs.View.{keptView, remappedView, lastAfter, Remaps}
 
 -- ---- one entry
 
@@ -49,12 +51,12 @@ module _ (m : OffsetMap) (end : ℕ) where
     entry-same {k} h l e = sym (remap-test (keptView last) (entryView entry) [] true (rw (← is, lt-leb _ _ h, l, eq-eqb _ _ e)))
 
     pub entry-other : {k : ℕ} → to < end → last ≡ At k → (k ≡ to → ⊥)
-        → remappedView (Moved (record { offset = to; line = entry .line; column = entry .column })) ≡ remapLineMap m end (keptView last) (entryView entry ∷ [])
+        → remappedView (Moved (record { offset = to; pos = entry .pos })) ≡ remapLineMap m end (keptView last) (entryView entry ∷ [])
     unfolding remapLineMap isLast
     entry-other {k} h l e = sym (rw (← is) at (remap-test (keptView last) (entryView entry) [] false (rw (← is, lt-leb _ _ h, l, ne-eqb _ _ e))))
 
     pub entry-first : to < end → last ≡ None
-        → remappedView (Moved (record { offset = to; line = entry .line; column = entry .column })) ≡ remapLineMap m end (keptView last) (entryView entry ∷ [])
+        → remappedView (Moved (record { offset = to; pos = entry .pos })) ≡ remapLineMap m end (keptView last) (entryView entry ∷ [])
     unfolding remapLineMap isLast
     entry-first h l = sym (rw (← is) at (remap-test (keptView last) (entryView entry) [] false (rw (← is, lt-leb _ _ h, l))))
 
@@ -81,76 +83,68 @@ module _ (m : OffsetMap) (end : ℕ) where
 
 -- ---- all of them
 
-numbers-append : (xs ys : List def.LineEntry) → entryNumbers (xs ++ ys) ≡ entryNumbers xs ++ entryNumbers ys
-unfolding entryNumbers
-numbers-append [] ys = refl
-numbers-append (x ∷ xs) ys = ap (λ (l : List ℕ). x .offset ∷ x .pos .line ∷ x .pos .column ∷ l) (numbers-append xs ys)
-
-pub length-numbers : (xs : List def.LineEntry) → length (entryNumbers xs) ≡ 3 * length xs
-unfolding entryNumbers
-length-numbers [] = refl
-length-numbers (x ∷ xs) = let e = length-numbers xs in omega arith
-
-pub one-entry : (r : Remapped) → length (entryNumbers (remappedView r)) ≤ 3
-unfolding entryNumbers
-one-entry Gone = omega arith
-one-entry (Moved e) = omega arith
+one-entry : (r : Remapped) → length (entryNumbers (remappedView r)) ≤ entrySize
+one-entry Gone = omega (arith, length-numbers (remappedView Gone))
+one-entry (Moved e) = omega (arith, length-numbers (remappedView (Moved e)))
 
 -- a kept entry put down
-pub puts-gone : {r : Remapped} (out : List ℕ) (to : ℕ) → r ≡ Gone → to + 3 ≤ length out → Puts (entryNumbers (remappedView r)) out out to to
-unfolding entryNumbers
-puts-gone out to e h = rw e (puts-nothing out to (omega arith))
+pub puts-gone : {r : Remapped} (s : Store) → r ≡ Gone → s ≡ pushAll s (entryNumbers (remappedView r))
+unfolding entryNumbers pushAll
+puts-gone s e = rw e
 
-pub puts-moved : {r : Remapped} {e : LineEntry} (out : List ℕ) (to : ℕ) → r ≡ Moved e → to + 3 ≤ length out
-    → Puts (entryNumbers (remappedView r)) out (set (set (set out to (e .offset)) (to + 1) (e .line)) (to + 2) (e .column)) to (to + 3)
-unfolding entryNumbers put
-puts-moved {e = e} out to q h =
-    rw q
-    (record { is = rw (add-one to, add-two to) (sets-eq (e .offset ∷ e .line ∷ e .column ∷ []) out to (omega arith)); end = refl })
+pub puts-moved : {r : Remapped} {e : LineEntry} {t : Store} (s : Store) → r ≡ Moved e → t ≡ pushAll s (oneEntry (entryView e)) → t ≡ pushAll s (entryNumbers (remappedView r))
+unfolding entryNumbers
+puts-moved {e = e} s q p = rw (q, append-nil (oneEntry (entryView e))) p
 
 pub last-moved : {r : Remapped} {e : LineEntry} (last : Kept) → r ≡ Moved e → At (e .offset) ≡ lastAfter r last
 last-moved last q = rw q
 
-pub record Remapping (m : OffsetMap) (end : ℕ) (lines out₀ out : List ℕ) (at to : ℕ) (last : Kept) : Type 0 where
-  pub left : entryNumbers (remapLineMap m end none (entriesOf lines)) ≡ take to out ++ entryNumbers (remapLineMap m end (keptView last) (entriesOf (drop at lines)))
-  pub behind : to ≤ at
-  pub within : at ≤ length lines
-  pub threes : at % 3 ≡ 0
+pub record Remapping (m : OffsetMap) (end : ℕ) (lines out₀ out : List ℕ) (i to : ℕ) (last : Kept) : Type 0 where
+  pub left : entryNumbers (remapLineMap m end none (entriesOf lines)) ≡ contents (store.at out to) ++ entryNumbers (remapLineMap m end (keptView last) (entriesOf (drop i lines)))
+  pub behind : to ≤ i
+  pub within : i ≤ length lines
+  pub whole : i % entrySize ≡ 0
   pub room : length out ≡ length out₀
 
-module _ (m : OffsetMap) (end : ℕ) (lines out₀ : List ℕ) (enough : 3 * (length lines / 3) ≤ length out₀) where
+module _ (m : OffsetMap) (end : ℕ) (lines out₀ : List ℕ) (enough : length lines / entrySize * entrySize ≤ length out₀) where
   pub remap-begins : Remapping m end lines out₀ out₀ 0 0 None
-  remap-begins = record { left = refl; behind = omega arith; within = omega arith; threes = refl; room = refl }
+  unfolding contents
+  remap-begins = record { left = refl; behind = omega arith; within = omega arith; whole = refl; room = refl }
 
-  pub remap-goes-on : {out out′ : List ℕ} {at to to′ : ℕ} {last : Kept} (r : Remapped) (entry : LineEntry) → Remapping m end lines out₀ out at to last → at + 2 < length lines
-      → entry .offset ≡ getD lines at 0 → entry .line ≡ getD lines (at + 1) 0 → entry .column ≡ getD lines (at + 2) 0
-      → remappedView r ≡ remapLineMap m end (keptView last) (entryView entry ∷ []) → Puts (entryNumbers (remappedView r)) out out′ to to′
-      → Remapping m end lines out₀ out′ (at + 3) to′ (lastAfter r last)
-  remap-goes-on {out} {out′} {at} {to} {to′} {last} r entry g h eo el ec one p =
-      let bytes = entryNumbers (remappedView r) in
+  pub remap-goes-on : {out out′ : List ℕ} {i to to′ : ℕ} {last : Kept} (r : Remapped) (entry : LineEntry) → Remapping m end lines out₀ out i to last → entrySize ≤ length lines - i
+      → entryView entry ≡ entryIn (drop i lines) → remappedView r ≡ remapLineMap m end (keptView last) (entryView entry ∷ [])
+      → store.at out′ to′ ≡ pushAll (store.at out to) (entryNumbers (remappedView r))
+      → Remapping m end lines out₀ out′ (i + entrySize) to′ (lastAfter r last)
+  remap-goes-on {out} {out′} {i} {to} {to′} {last} r entry g h is one p =
+      let s = store.at out to in
+      let numbers = entryNumbers (remappedView r) in
       let short = one-entry r in
-      let fits : to + length bytes ≤ length out = omega (arith, g .behind, g .room, g .threes) in
-      let here : entriesOf (drop at lines) ≡ entryView entry ∷ entriesOf (drop (at + 3) lines) = rw (eo, el, ec) (entry-at lines at h) in
-      rw (p .is, p .end)
-      (record {
-        left = g .left ∙ rw (take-put out to bytes fits, here, remap-more m end r last (entryView entry) (entriesOf (drop (at + 3) lines)) one, numbers-append, append-assoc);
+      let fits : to + length numbers ≤ length out = omega (arith, g .behind, g .within, g .room, g .whole) in
+      let here : entriesOf (drop i lines) ≡ entryView entry ∷ entriesOf (drop (i + entrySize) lines) = rw is (entries-at lines i (omega (arith, g .within))) in
+      let used : to′ ≡ to + length numbers = ap (λ (t : Store). t .used) p ∙ used-room s numbers fits in
+      record {
+        left = g .left ∙ rw (here, remap-more m end r last (entryView entry) (entriesOf (drop (i + entrySize) lines)) one, numbers-append, ap contents p, contents-room s numbers fits, append-assoc);
         behind = omega (arith, g .behind);
-        within = omega arith;
-        threes = omega (arith, g .threes);
-        room = length-put out to bytes fits ∙ g .room;
-      })
+        within = omega (arith, g .within);
+        whole = omega (arith, g .whole);
+        room = ap (λ (t : Store). length (t .cells)) p ∙ length-pushAll s numbers ∙ g .room;
+      }
 
-  pub remap-last : {out : List ℕ} {at to : ℕ} {last last′ : Kept} → last′ ≡ last → Remapping m end lines out₀ out at to last → Remapping m end lines out₀ out at to last′
+  pub remap-last : {out : List ℕ} {i to : ℕ} {last last′ : Kept} → last′ ≡ last → Remapping m end lines out₀ out i to last → Remapping m end lines out₀ out i to last′
   remap-last e g = rw e g
 
-  pub remap-ends : {out out′ : List ℕ} {at to : ℕ} {last : Kept} → Remapping m end lines out₀ out at to last → length lines ≤ at + 2
-      → out′ ≡ take to out ++ zeros (length out - to) → Remaps (remapLineMap m end none (entriesOf lines)) out₀ out′ (to / 3)
-  unfolding remapLineMap entryNumbers filled
-  remap-ends {out} {out′} {at} {to} {last} g h z =
+  none-left : (last : Option ℕ) → entryNumbers (remapLineMap m end last []) ≡ []
+  unfolding remapLineMap entryNumbers
+  none-left last = refl
+
+  pub remap-ends : {out out′ : List ℕ} {i to : ℕ} {last : Kept} → Remapping m end lines out₀ out i to last → length lines - i < entrySize
+      → out′ ≡ zeroedFrom to out → Remaps (remapLineMap m end none (entriesOf lines)) out₀ out′ (to / entrySize)
+  unfolding filled contents zeroedFrom
+  remap-ends {out} {out′} {i} {to} {last} g h z =
       let R = remapLineMap m end none (entriesOf lines) in
-      let whole : entryNumbers R ≡ take to out = rw (entries-none lines at h, append-nil) at (g .left) in
-      let long : length (entryNumbers R) ≡ to = rw whole (length-take-le to out (omega (arith, g .behind, g .within, g .room, g .threes))) in
-      let three = length-numbers R in
+      let whole : entryNumbers R ≡ take to out = g .left ∙ rw (entries-none lines i (omega (arith, g .within)), none-left (keptView last)) (append-nil (take to out)) in
+      let long : length (entryNumbers R) ≡ to = rw whole (length-take-le to out (omega (arith, g .behind, g .within, g .room, g .whole))) in
+      let many = length-numbers R in
       record {
         is = z ∙ rw (whole, ← whole, long, g .room);
         count = omega arith;

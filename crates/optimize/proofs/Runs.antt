@@ -2,22 +2,21 @@
 use mathlib.Core.Path.{_≡_, refl, ap, sym, _∙_}
 use mathlib.Core.Bool.{Bool, true, false, _||_}
 use mathlib.Core.Option.{Option, some, none}
-use mathlib.Core.List.{List, [], _∷_, _++_, map, append-assoc}
+use mathlib.Core.List.{List, [], _∷_, _++_, map}
 use Prim.Native.Nat.{ℕ, zero, suc, _+_, _-_, _≤_}
 use native.Mathlib.Omega.{arith}
-use lib.ListN.{length, take, drop, getD, length-append}
-use lib.Seq.{take-at, drop-at, length-take-le}
+use lib.ListN.{length, take, drop, getD}
+use lib.Seq.{length-take-le}
 use Rattle.definition.specs.Limits.{maxCode}
 use Rattle.definition.specs.Field.{has}
 use Rattle.definition.specs.Opcode.{Sheet}
 use Rattle.definition.specs.Rules.{Action, Rule}
 use Rattle.definition.specs.Emit as def
-use Rattle.definition.specs.Rewrite.{Bytes, Matcher, OffsetMap, decode, instruction, actions, movedTo, offsets, applyPeephole}
+use Rattle.definition.specs.Rewrite.{Bytes, Matcher, OffsetMap, decode, instruction, actions, movedTo, applyPeephole}
 use Rattle.definition.specs.Optimize.{Pipeline, mapThrough, run}
-use Rattle.definition.specs.Lent.{filled, zeros}
 use Rattle.rules.specs.View.{rulesIn}
 use Rattle.rewrite.specs.View.{marked, matcher, Peephole}
-use Rattle.rewrite.proofs.Copy.{length-zeros}
+use Rattle.store.proofs.Fills.{front, refilled, length-filled}
 use Rattle.rewrite.proofs.Pass.{acts-pair, paired}
 use Rattle.optimize.specs.View.{Marks, mapFrom, mapIn, Runnable, Ran, pipeline}
 use Rattle.optimize.proofs.Tables.{moved-in}
@@ -97,23 +96,6 @@ ran s rules count pass {protected} {marks} {code} {code′} {moves} {protected�
 
 -- ---- passes in turn, each over what the one before left
 
-zeros-append : (a b : ℕ) → zeros a ++ zeros b ≡ zeros (a + b)
-unfolding zeros
-zeros-append zero b = let e : 0 + b ≡ b = omega arith in rw e
-zeros-append (suc a) b = let e : suc a + b ≡ suc (a + b) = omega arith in rw e (ap (λ (l : List ℕ). 0 ∷ l) (zeros-append a b))
-
--- the front of a slice that holds some bytes and then 0
-pub front : (room : ℕ) (xs : List ℕ) (n : ℕ) → length xs ≡ n → take n (filled room xs) ≡ xs
-unfolding filled
-front room xs n e = take-at xs (zeros (room - length xs)) n e
-
-pub refilled : (room : ℕ) (xs ys : List ℕ) (n : ℕ) → length xs ≡ n → n ≤ room → length ys ≤ n → filled n ys ++ drop n (filled room xs) ≡ filled room ys
-unfolding filled
-refilled room xs ys n e few short =
-    let d : drop n (xs ++ zeros (room - length xs)) ≡ zeros (room - length xs) = drop-at xs (zeros (room - length xs)) n e in
-    let sum : n - length ys + (room - length xs) ≡ room - length ys = omega arith in
-    rw (d, append-assoc, zeros-append, sum)
-
 pub then-run : (s : Sheet) (rules : List Rule) {q : Pipeline} {code c p t d p′ t′ : List ℕ} {n n′ : ℕ} (pass : ℕ) → Ran q code c p t n
     → Ran (run s rules pass (pipeline (take n c) p t)) (take n c) d p′ t′ n′ → Ran (run s rules pass q) code (d ++ drop n c) p′ t′ n′
 then-run s rules {q} {code} {c} {p} {t} {d} {p′} {t′} {n} {n′} pass a b =
@@ -135,9 +117,8 @@ runnable {code = code} {c = c} {n = n} {q = q} r a =
     let here : take n c ≡ q .bytecode = rw (a .bytes) (front (length code) (q .bytecode) n (sym (a .end))) in
     record { table = r .table; held = r .held; few = rw here (omega (arith, a .end, a .within, r .few)); small = a .small }
 
-pub ran-long : {code c p t : List ℕ} {n : ℕ} {q : Pipeline} → Ran q code c p t n → length c ≡ length code
-unfolding filled
-ran-long {code} {c} {q = q} a = ap length (a .bytes) ∙ simp (length-append, length-zeros) (omega (arith, a .end, a .within))
+ran-long : {code c p t : List ℕ} {n : ℕ} {q : Pipeline} → Ran q code c p t n → length c ≡ length code
+ran-long {code} {c} {q = q} a = ap length (a .bytes) ∙ length-filled (length code) (q .bytecode) (omega (arith, a .end, a .within))
 
 -- the part of a slice that the next pass is lent
 pub part-long : {code c p t : List ℕ} {n : ℕ} {q : Pipeline} → Ran q code c p t n → n ≡ length (take n c)

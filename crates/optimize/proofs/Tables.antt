@@ -21,11 +21,6 @@ use Rattle.optimize.specs.View.{Small, Marks, mapFrom, mapIn, fixedIn}
 
 -- ---- a table as a map
 
-moved-low : (at x : ℕ) (ys : List ℕ) → x < at → movedTo (mapFrom at ys) x ≡ 0
-unfolding mapFrom movedTo
-moved-low at x [] h = refl
-moved-low at x (y ∷ ys) h = moved-past at y x (mapFrom (suc at) ys) (λ e. omega arith) ∙ moved-low (suc at) x ys (omega arith)
-
 moved-from : (at k : ℕ) (ys : List ℕ) → movedTo (mapFrom at ys) (at + k) ≡ getD ys k 0
 unfolding mapFrom movedTo
 moved-from at k [] = refl

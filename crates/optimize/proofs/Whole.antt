@@ -2,12 +2,12 @@
 use mathlib.Core.Path.{_≡_, refl, ap, sym, _∙_}
 use mathlib.Core.Bool.{Bool, true, false, _||_}
 use mathlib.Core.Option.{Option, some, none}
-use mathlib.Core.List.{List, [], _∷_, _++_, map}
-use Prim.Native.Nat.{ℕ, _+_, _-_, _/_, _≤_}
+use mathlib.Core.List.{List, [], _∷_, map}
+use Prim.Native.Nat.{ℕ, _-_, _/_, _≤_}
 use native.Mathlib.Omega.{arith}
 use borrow.Author.Tests.{eqb-true, eqb-false, leb-true}
 use lib.Dec.{eqb, leb}
-use lib.ListN.{length, getD, take}
+use lib.ListN.{length, getD}
 use Rattle.definition.specs.Opcode.{Sheet}
 use Rattle.definition.specs.Rules.{Action, Rule, matches}
 use Rattle.definition.specs.Emit as def
@@ -16,12 +16,15 @@ use Rattle.definition.specs.Optimize.{mapThrough, run, identity, optimize, rema
 use Rattle.rewrite.proofs.Pass.{moved-here, moved-past}
 use Rattle.definition.specs.Limits.{maxCode, maxProtected, maxLines, entrySize, badCode, codeFull, labelsFull, linesFull}
 use Rattle.definition.specs.Res.{Res, ok, refuse, _>>_, demand}
-use Rattle.definition.specs.Lent.{zeros, entriesOf}
+use Rattle.definition.specs.Lent.{entriesOf}
 use Rattle.definition.specs.Alone as def-alone
 use Rattle.definition.specs.Alone.{Given, Room, checked, rewritten, answer}
 use Rattle.optimize.specs.declared.Offset.{Offset}
 use Rattle.optimize.specs.declared.Offset.the-variants.{Fine, Bad}
 use Rattle.optimize.specs.View.{pipeline, passes, mapIn, given, room, answerView, Passed, Rewrote, Remaps, Roomy, Within, overLimit, afterLimits, afterRules}
+use Rattle.store.specs.Fill.{zeroedFrom}
+use Rattle.store.proofs.Fills.{zero-all}
+use Rattle.line_map.proofs.Entries.{count-entries}
 use Rattle.optimize.proofs.Tables.{moved-in}
 use Rattle.optimize.proofs.Lines.{remap-test}
 use Rattle.optimize.proofs.Filling.{as-many}
@@ -80,14 +83,10 @@ same-remap m n end last (x ∷ xs) h =
 
 -- ---- what is answered
 
-pub zeroed : (l : List ℕ) {out : List ℕ} → out ≡ take 0 l ++ zeros (length l - 0) → out ≡ zeros (length l)
-zeroed l e = let z : length l - 0 ≡ length l = omega arith in e ∙ rw z
-
-pub refused : (number place : ℕ) (bytes offsets entries : List ℕ) {b o e : List ℕ} → b ≡ take 0 bytes ++ zeros (length bytes - 0) → o ≡ take 0 offsets ++ zeros (length offsets - 0)
-    → e ≡ take 0 entries ++ zeros (length entries - 0)
+pub refused : (number place : ℕ) (bytes offsets entries : List ℕ) {b o e : List ℕ} → b ≡ zeroedFrom 0 bytes → o ≡ zeroedFrom 0 offsets → e ≡ zeroedFrom 0 entries
     → answerView (record { number = number; place = place; bytes = 0; protected = 0; entries = 0 }) b o e ≡ answer (room bytes offsets entries) (refuse number place)
 unfolding answer
-refused number place bytes offsets entries eb eo ee = rw (zeroed bytes eb, zeroed offsets eo, zeroed entries ee)
+refused number place bytes offsets entries eb eo ee = rw (zero-all bytes eb, zero-all offsets eo, zero-all entries ee)
 
 -- 8
 pub refused-8 : (s : Sheet) (rs : List Rule) (g : Given) {table : List ℕ} {o : Offset} {x p : ℕ} {a : def-alone.Answer} (r : Room) → Passed s g table o → o ≡ Bad x → p ≡ x
@@ -116,13 +115,6 @@ finished s rs code protected lines total bytes offsets entries {t = t} {n = n} {
     rw (← c, w .code, w .protected, lines-held, kept, w .end, ← many)
 
 -- ---- the limits, in their order
-
-count-entries : (xs : List ℕ) → length (entriesOf xs) ≡ length xs / 3
-unfolding entriesOf
-count-entries [] = refl
-count-entries (a ∷ []) = refl
-count-entries (a ∷ b ∷ []) = refl
-count-entries (a ∷ b ∷ c ∷ xs) = let e = count-entries xs in omega arith
 
 limits : (s : Sheet) (rs : List Rule) (g : Given) → afterRules s rs g
     ≡ (demand (leb (length (g .code)) maxCode) codeFull 0 >> (demand (leb (length (g .protected)) maxProtected) labelsFull 0

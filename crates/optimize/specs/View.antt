@@ -20,8 +20,8 @@ use Rattle.rules.specs.View.{IsRules}
 use Rattle.definition.specs.Alone as def-alone
 use Rattle.definition.specs.Alone.{Given, Rewritten, Room, checked, rewritten}
 use Rattle.optimize.specs.declared.alone.Answer.{Answer}
+use Rattle.line_map.specs.View.{entryView}
 use Rattle.rewrite.specs.View.{offsetsWhere, marked, slotCount}
-use Rattle.optimize.specs.declared.LineEntry.{LineEntry}
 use Rattle.optimize.specs.declared.Kept.{Kept}
 use Rattle.optimize.specs.declared.Kept.the-variants.{None, At}
 use Rattle.optimize.specs.declared.Remapped.{Remapped}
@@ -92,9 +92,6 @@ pub record Rewrote (p : Pipeline) (bytes offsets bytes′ offsets′ total′ : 
   pub end : r ≡ length (p .bytecode)
 
 -- ---- the types of this crate
-
-abbrev pub entryView : LineEntry → def.LineEntry
-entryView e = record { offset = e .offset; pos = record { line = e .line; column = e .column } }
 
 abbrev pub keptView : Kept → Option ℕ
 keptView None = none
@@ -175,7 +172,7 @@ pub record Within (g : Given) (r : Room) : Type 0 where
   pub few : length (g .code) ≤ maxCode
   pub code : length (g .code) ≤ r .code
   pub protected : length (g .protected) ≤ r .protected
-  pub lines : 3 * (length (g .lines) / 3) ≤ r .lines
+  pub lines : length (g .lines) / entrySize * entrySize ≤ r .lines
 
 -- the refusal of what is over its limit; 0 if nothing is
 unfoldable pub overLimit : ℕ → ℕ → ℕ → ℕ

@@ -37,9 +37,9 @@ fn refuse(
 ) -> Answer
     ensures { λ r. ⌜ answerView r (now (bytes .exit)) (now (offsets .exit)) (now (entries .exit)) ≡ answer (room (now (bytes .entry)) (now (offsets .entry)) (now (entries .entry))) (refuse number place) ⌝ }
 {
-    rewrite::zero_from(bytes, 0);
-    crate::zero_from(offsets, 0);
-    crate::zero_from(entries, 0);
+    store::zero_bytes(bytes, 0);
+    store::zero_numbers(offsets, 0);
+    store::zero_numbers(entries, 0);
     Answer {
         number: number,
         place: place,
@@ -47,12 +47,6 @@ fn refuse(
         protected: 0,
         entries: 0,
     }
-}
-
-fn place_of(x: u16) -> u32
-    ensures { λ r. ⌜ r ≡ x ⌝ }
-{
-    x as u32
 }
 
 // Has each lent output room for any result?
@@ -103,7 +97,7 @@ fn rewrite_checked(
     let mut total = [0u16; rewrite::SLOTS];
     match crate::check(sheet, code, protected, lines, &mut total) {
         Offset::Bad(x) => {
-            let place = place_of(x);
+            let place = numbers::word(x);
             refuse(BAD_CODE, place, bytes, offsets, entries)
         }
         Offset::Fine => {
@@ -195,7 +189,7 @@ fn rewrite_ruled(
     }
 }
 
-// Rewriting and line mapping called alone, from any bytes and numbers: line entries are three numbers each, in and out.
+// Rewriting and line mapping called alone, from any bytes and numbers: line entries are ENTRY_SIZE numbers each, in and out.
 pub fn rewrite_alone(
     sheet: &[u8],
     rules: &[u8],

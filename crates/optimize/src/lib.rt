@@ -1,19 +1,23 @@
 // The three passes and line mapping (optimize/mod.rs).
 ghost use mathlib.Core.Path.{_≡_};
-ghost use mathlib.Core.List.{map, [], _∷_, _++_};
+ghost use mathlib.Core.List.{map, [], _∷_};
 ghost use mathlib.Core.Option.{none};
-ghost use Prim.Native.Nat.{_+_, _-_, _*_, _/_, _≤_};
-ghost use lib.ListN.{length, take};
-ghost use Rattle.definition.specs.Limits.{maxCode};
+ghost use Prim.Native.Nat.{_*_, _/_, _≤_};
+ghost use lib.ListN.{length};
+ghost use Rattle.definition.specs.Limits.{maxCode, entrySize};
 ghost use Rattle.definition.specs.Field.{has};
 ghost use Rattle.definition.specs.Rewrite.{movedTo};
 ghost use Rattle.definition.specs.Alone.{boundaries};
-ghost use Rattle.definition.specs.Lent.{filled, entryNumbers, entriesOf, zeros};
+ghost use Rattle.definition.specs.Lent.{entryNumbers, entriesOf};
 ghost use Rattle.definition.specs.Optimize.{run, remapLineMap};
 ghost use Rattle.opcode.specs.Table.{IsTable, sheetIn};
 ghost use Rattle.rules.specs.View.{rulesIn};
-ghost use Rattle.rewrite.specs.View.{slotCount, Puts, Clear};
-ghost use Rattle.optimize.specs.View.{Small, Marks, Bounds, Runnable, pipeline, passes, Ran, Rewrote, Passed, given, mapIn, fixedIn, Checks, offsetView, entryOffsets, entryView, keptView, remappedView, lastAfter, Remaps};
+ghost use Rattle.store.specs.Store.{at, pushAll};
+ghost use Rattle.line_map.specs.View.{entryView};
+ghost use Rattle.rewrite.specs.View.{slotCount, Clear};
+ghost use Rattle.optimize.specs.View.{Small, Marks, Bounds, Runnable, pipeline, passes, Ran, Rewrote, Passed, given, mapIn, fixedIn, Checks, offsetView, entryOffsets, keptView, remappedView, lastAfter, Remaps};
+use definition::ENTRY_SIZE;
+use line_map::LineEntry;
 
 pub mod alone; // alone.rt: the entry that is called alone
 
@@ -32,28 +36,16 @@ pub enum Kept {
     At(u16),
 }
 
-pub struct LineEntry {
-    pub offset: u16,
-    pub line: u16,
-    pub column: u16,
-}
-
 pub enum Remapped {
     Gone,
     Moved(LineEntry),
-}
-
-fn wide(x: u16) -> usize
-    ensures { λ r. ⌜ r ≡ x ⌝ }
-{
-    x as usize
 }
 
 // The new offset of an old one; 0 past the map's end.
 fn moved_to(moves: &[u16], x: u16) -> u16
     ensures { λ r. ⌜ r ≡ movedTo (mapIn (now (moves .entry))) x ⌝ }
 {
-    let at = wide(x);
+    let at = numbers::wide(x);
     if at < moves.len() { moves[at] } else { 0 }
 }
 
@@ -78,7 +70,7 @@ fn mark(protected: &[u16], marks: &mut [u8])
 {
     let mut i = 0;
     while i < protected.len() {
-        let at = wide(protected[i]);
+        let at = numbers::wide(protected[i]);
         marks[at] = 1;
         i += 1;
     }
@@ -95,7 +87,7 @@ fn list_boundaries(sheet: &[u8], code: &[u8], table: &mut [u16]) -> usize
     loop {
         let part = rewrite::decode(sheet, code, at);
         let size = part.len();
-        table[at] = rewrite::narrow(at);
+        table[at] = numbers::narrow(at);
         if size == 0 {
             return at;
         }
@@ -133,12 +125,13 @@ fn check_lines(table: &[u16], lines: &[u16]) -> Offset
     ensures { λ r. ⌜ offsetView r ≡ boundaries (fixedIn (now (table .entry))) (entryOffsets (now (lines .entry))) ⌝ }
 {
     let mut i = 0;
-    while i + 2 < lines.len() {
-        let x = lines[i];
+    while lines.len() - i >= ENTRY_SIZE {
+        let entry = line_map::entry_at(lines, i);
+        let x = entry.offset;
         if !is_boundary(table, x) {
             return Offset::Bad(x);
         }
-        i += 3;
+        i += ENTRY_SIZE;
     }
     Offset::Fine
 }
@@ -148,47 +141,33 @@ pub fn remap_entry(entry: LineEntry, moves: &[u16], last: Kept, end: usize) -> R
     ensures { λ r. ⌜ remappedView r ≡ remapLineMap (mapIn (now (moves .entry))) end (keptView last) (entryView entry ∷ []) ⌝ }
 {
     let to = moved_to(moves, entry.offset);
-    if end <= wide(to) {
+    if end <= numbers::wide(to) {
         return Remapped::Gone;
     }
-    let line = entry.line;
-    let column = entry.column;
+    let pos = entry.pos;
+    let moved = LineEntry {
+        offset: to,
+        pos: pos,
+    };
     match last {
         Kept::At(k) => {
             if k == to {
                 Remapped::Gone
             } else {
-                Remapped::Moved(LineEntry {
-                    offset: to,
-                    line: line,
-                    column: column,
-                })
+                Remapped::Moved(moved)
             }
         }
-        Kept::None => Remapped::Moved(LineEntry {
-            offset: to,
-            line: line,
-            column: column,
-        }),
+        Kept::None => Remapped::Moved(moved),
     }
 }
 
-// A kept entry's numbers, put at `to`.
-fn put_entry(out: &mut [u16], to: usize, r: Remapped) -> usize
-    requires { ⌜ to + 3 ≤ length (now out) ⌝ }
-    ensures { λ e. ⌜ Puts (entryNumbers (remappedView r)) (now (out .entry)) (now (out .exit)) to e ⌝ }
+// A kept entry's numbers, put from `to` on.
+fn put_remapped(out: &mut [u16], to: usize, r: Remapped) -> usize
+    ensures { λ e. ⌜ at (now (out .exit)) e ≡ pushAll (at (now (out .entry)) to) (entryNumbers (remappedView r)) ⌝ }
 {
     match r {
         Remapped::Gone => to,
-        Remapped::Moved(e) => {
-            let offset = e.offset;
-            let line = e.line;
-            let column = e.column;
-            out[to] = offset;
-            out[to + 1] = line;
-            out[to + 2] = column;
-            to + 3
-        }
+        Remapped::Moved(e) => line_map::put_entry(out, to, e),
     }
 }
 
@@ -204,38 +183,23 @@ fn last_after(r: Remapped, last: Kept) -> Kept
     }
 }
 
-// 0 from a place up to the end.
-fn zero_from(list: &mut [u16], from: usize)
-    ensures { λ r. ⌜ now (list .exit) ≡ take from (now (list .entry)) ++ zeros (length (now (list .entry)) - from) ⌝ }
-{
-    let mut i = from;
-    while i < list.len() {
-        list[i] = 0;
-        i += 1;
-    }
-}
-
-// `remap_line_map` over numbers, three an entry. Our own crates lend an output that has room for every entry.
+// `remap_line_map` over numbers, ENTRY_SIZE to an entry. Our own crates lend an output that has room for every entry.
 pub fn remap_line_map(moves: &[u16], end: usize, lines: &[u16], out: &mut [u16]) -> usize
-    requires { ⌜ 3 * (length (now lines) / 3) ≤ length (now out) ⌝ }
+    requires { ⌜ length (now lines) / entrySize * entrySize ≤ length (now out) ⌝ }
     ensures { λ r. ⌜ Remaps (remapLineMap (mapIn (now (moves .entry))) end none (entriesOf (now (lines .entry)))) (now (out .entry)) (now (out .exit)) r ⌝ }
 {
     let mut last = Kept::None;
-    let mut at = 0;
+    let mut i = 0;
     let mut to = 0;
-    while at + 2 < lines.len() {
-        let entry = LineEntry {
-            offset: lines[at],
-            line: lines[at + 1],
-            column: lines[at + 2],
-        };
+    while lines.len() - i >= ENTRY_SIZE {
+        let entry = line_map::entry_at(lines, i);
         let r = remap_entry(entry, moves, last, end);
-        to = put_entry(out, to, r);
+        to = put_remapped(out, to, r);
         last = last_after(r, last);
-        at += 3;
+        i += ENTRY_SIZE;
     }
-    zero_from(out, to);
-    to / 3
+    store::zero_numbers(out, to);
+    to / ENTRY_SIZE
 }
 
 // One pass, with the protected offsets and the map so far moved with the code. Marks and moves are made anew for each.
@@ -277,33 +241,6 @@ pub fn optimize(
     run(sheet, rules, count, 3, &mut code[..two], protected, total)
 }
 
-// A list's bytes from the start of an output, and 0 up to its end.
-fn fill_bytes(from: &[u8], out: &mut [u8])
-    requires { ⌜ length (now from) ≤ length (now out) ⌝ }
-    ensures { λ r. ⌜ now (out .exit) ≡ filled (length (now (out .entry))) (now (from .entry)) ⌝ }
-{
-    let mut i = 0;
-    while i < from.len() {
-        let x = from[i];
-        out[i] = x;
-        i += 1;
-    }
-    rewrite::zero_from(out, i);
-}
-
-fn fill_numbers(from: &[u16], out: &mut [u16])
-    requires { ⌜ length (now from) ≤ length (now out) ⌝ }
-    ensures { λ r. ⌜ now (out .exit) ≡ filled (length (now (out .entry))) (now (from .entry)) ⌝ }
-{
-    let mut i = 0;
-    while i < from.len() {
-        let x = from[i];
-        out[i] = x;
-        i += 1;
-    }
-    zero_from(out, i);
-}
-
 // What code and protected offsets called alone come to, in lent outputs that have room for them. The code is copied once, here.
 fn rewrite_into(
     sheet: &[u8],
@@ -321,8 +258,8 @@ fn rewrite_into(
 {
     let n = code.len();
     let k = protected.len();
-    fill_bytes(code, bytes);
-    fill_numbers(protected, offsets);
+    store::fill_bytes(code, bytes);
+    store::fill_numbers(protected, offsets);
     optimize(
         sheet,
         rules,
@@ -342,7 +279,7 @@ fn check(sheet: &[u8], code: &[u8], protected: &[u16], lines: &[u16], table: &mu
 {
     let end = list_boundaries(sheet, code, table);
     if end != code.len() {
-        return Offset::Bad(rewrite::narrow(end));
+        return Offset::Bad(numbers::narrow(end));
     }
     match check_protected(table, protected) {
         Offset::Bad(x) => Offset::Bad(x),

@@ -1,5 +1,6 @@
 // Rewriting called alone, as the rig uses it: reads a sheet, rules, code, protected offsets and line entries from standard input, and prints
-// the rewritten code, the moved offsets and the mapped lines, or a refusal. Nothing is printed where the input cannot be read.
+// the rewritten code, the moved offsets and the mapped lines, or a refusal. Where the input cannot be read, or the output not written, it says so on
+// standard error; bin/passes makes an exit status of that, since a Rattle program has none of its own.
 ghost use Rattle.passes_reader.specs.View.{stateView, begun, Reading};
 use passes_reader::CODE_ROOM;
 use passes_reader::ENTRY_ROOM;
@@ -66,6 +67,7 @@ fn read_all(
     turn
 }
 
+// The text of the answer; false where it could not be written.
 fn print(
     reader: Reader,
     sheet: &[u8],
@@ -73,10 +75,10 @@ fn print(
     code: &[u8],
     offsets: &[u16],
     entries: &[u16],
-) {
+) -> bool {
     let mut out = [0u8; TEXT_ROOM];
     let n = passes_answer::finish(reader, sheet, rules, code, offsets, entries, &mut out);
-    io::write_all(1, &out[..n]);
+    io::write_all(1, &out[..n])
 }
 
 fn main() {
@@ -93,24 +95,10 @@ fn main() {
         &mut entries,
     );
     if turn.failed {
-        io::write_all(
-            2,
-            &[
-                b'r',
-                b'e',
-                b'a',
-                b'd',
-                b' ',
-                b'f',
-                b'a',
-                b'i',
-                b'l',
-                b'e',
-                b'd',
-                b'\n',
-            ],
-        );
-    } else {
-        print(turn.reader, &sheet, &rules, &code, &offsets, &entries);
+        io::write_all(2, b"passes: standard input cannot be read\n");
+        return;
+    }
+    if !print(turn.reader, &sheet, &rules, &code, &offsets, &entries) {
+        io::write_all(2, b"passes: standard output cannot be written\n");
     }
 }

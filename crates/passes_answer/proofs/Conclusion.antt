@@ -1,7 +1,7 @@
 -- The text made of the call's answer is the text of what the machine concludes.
 use mathlib.Core.Path.{_≡_, refl, ap, sym, _∙_}
 use mathlib.Core.Bool.{false}
-use mathlib.Core.List.{List, [], _∷_}
+use mathlib.Core.List.{List, []}
 use mathlib.Core.Option.{Option, some, none}
 use Prim.Native.Nat.{ℕ, _*_, _-_}
 use native.Mathlib.Omega.{arith}
@@ -19,9 +19,9 @@ use Rattle.definition.specs.Lent.{filled, entryNumbers, entriesOf}
 use Rattle.definition.specs.Alone.{Given, Rewritten, answer, boundaries, checked, rewritten, rewriteFiles, rewriteInto, roomy}
 use Rattle.definition.specs.Passes.{malformedLine, refusalLine, text}
 use Rattle.rules.proofs.File.{no-rules}
-use Rattle.optimize.proofs.Filling.{front-of}
-use Rattle.optimize.proofs.Lines.{length-numbers}
+use Rattle.line_map.proofs.Entries.{length-numbers, entries-back}
 use Rattle.store.specs.Store.{contents}
+use Rattle.store.proofs.Fills.{front-of}
 use Rattle.passes_machine.specs.Machine.{Stores, Ending, whole, cut, countless, givenIn, concludedAs}
 use Rattle.text.specs.Text.{instructionsBy}
 use Rattle.passes_answer.specs.View.{handedRules, handed, nothingGiven, fullRoom, wholeText, endingText, answerText}
@@ -29,15 +29,9 @@ use Rattle.passes_answer.proofs.Refusing.{Proper, Properly, readRules-p
 
 -- ---- what outputs give back
 
-entries-back : (ls : List LineEntry) → entriesOf (entryNumbers ls) ≡ ls
-unfolding entryNumbers entriesOf
-entries-back [] = refl
-entries-back (l ∷ ls) = ap (λ (r : List LineEntry). l ∷ r) (entries-back ls)
-
 entries-of : (room : ℕ) (ls : List LineEntry) → entriesOf (take (length ls * entrySize) (filled room (entryNumbers ls))) ≡ ls
 entries-of room ls =
-    let long : length ls * entrySize ≡ length (entryNumbers ls) = omega (arith, length-numbers ls) in
-    ap (λ (n : ℕ). entriesOf (take n (filled room (entryNumbers ls)))) long ∙ ap entriesOf (front-of room (entryNumbers ls) refl) ∙ entries-back ls
+    ap (λ (n : ℕ). entriesOf (take n (filled room (entryNumbers ls)))) (sym (length-numbers ls)) ∙ ap entriesOf (front-of room (entryNumbers ls) refl) ∙ entries-back ls
 
 -- ---- refusals
 

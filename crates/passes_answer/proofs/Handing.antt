@@ -3,12 +3,12 @@ use mathlib.Core.Path.{_≡_, refl, ap, sym, _∙_}
 use mathlib.Core.Bool.{Bool, true, false}
 use mathlib.Core.List.{List, [], _∷_, _++_}
 use mathlib.Core.Option.{Option}
-use Prim.Native.Nat.{ℕ, _*_, _≤_, _<_, min}
-use native.Mathlib.Nat.{min-eq-left, min-eq-right, min-le-right}
-use native.Mathlib.Omega.{arith, min-cases}
+use Prim.Native.Nat.{ℕ, _*_, _≤_, min}
+use native.Mathlib.Nat.{min-le-right}
+use native.Mathlib.Omega.{arith}
 use borrow.Author.Tests.{eq-eqb, ne-eqb}
 use lib.ListN.{length, take}
-use lib.Seq.{take-all, length-take-le}
+use lib.Seq.{length-take-le}
 use Rattle.definition.specs.Limits.{entrySize}
 use Rattle.definition.specs.Opcode.{Sheet}
 use Rattle.definition.specs.Lent.{entriesOf}
@@ -17,23 +17,13 @@ use Rattle.definition.specs.Listing.{numberLine, entryLines}
 use Rattle.definition.specs.Passes.{offsetLines}
 use Rattle.store.specs.Store.{Store, at, contents, pushAll}
 use Rattle.store.proofs.Stores.{pushAll-append}
+use Rattle.store.proofs.Fills.{take-least}
 use Rattle.passes_machine.specs.Machine.{Stores, Ending, whole, cut, countless, givenIn}
 use Rattle.text.specs.Text.{instructionsBy}
 use Rattle.optimize.specs.View.{given}
 use Rattle.passes_answer.specs.View.{handedRules, handed, handedCount, isWhole, isCounted, wholeText, endingText, answerText}
 
 -- ---- a part of a buffer
-
-pub least-is : (a b : ℕ) → a < b → a ≡ min a b
-least-is a b h = sym (min-eq-left (omega arith))
-
-pub least-other : (a b : ℕ) → b ≤ a → b ≡ min a b
-least-other a b h = sym (min-eq-right h)
-
-pub take-least : (n : ℕ) (l : List ℕ) → take (min n (length l)) l ≡ take n l
-take-least n l = min-cases n (length l) (take (min n (length l)) l ≡ take n l)
-    (λ h e. ap (λ (k : ℕ). take k l) e)
-    (λ h e. ap (λ (k : ℕ). take k l) e ∙ take-all (length l) l (omega arith) ∙ sym (take-all n l h))
 
 pub handed-used : (used : ℕ) (cells : List ℕ) → take (handedCount true used (length cells)) cells ≡ contents (at cells used)
 unfolding handedCount contents

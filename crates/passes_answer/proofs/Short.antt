@@ -1,12 +1,9 @@
 -- The text is never longer than textRoom.
 use mathlib.Core.Path.{_≡_, refl, ap, sym, _∙_}
-use mathlib.Core.Bool.{Bool, true, false}
 use mathlib.Core.List.{List}
 use Prim.Native.Nat.{ℕ, _*_, _-_, _≤_, _<_}
 use native.Mathlib.Omega.{arith}
-use borrow.Author.Tests.{ltb-true, ltb-false}
-use lib.Dec.{ltb}
-use lib.ListN.{length, getD, length-append, List·getD-append, List·getD-eq-default}
+use lib.ListN.{length, getD, length-append}
 use Rattle.definition.specs.Limits.{maxCode, maxProtected, maxLines, entrySize, badSheet, badRule}
 use Rattle.definition.specs.Res.{Res, ok, refuse, given}
 use Rattle.definition.specs.Opcode.{Sheet}
@@ -15,9 +12,10 @@ use Rattle.definition.specs.Rules.{readRules}
 use Rattle.definition.specs.Lent.{zeros, filled, entryNumbers}
 use Rattle.definition.specs.Alone.{Rewritten, Answer, answer, rewriteFiles, rewriteInto}
 use Rattle.definition.specs.Passes.{malformedLine, text}
-use Rattle.runs.proofs.Results.{never, ok-is, ok-bind}
-use Rattle.optimize.proofs.Lines.{length-numbers}
+use Rattle.field.proofs.Results.{never, ok-is, ok-bind}
+use Rattle.line_map.proofs.Entries.{length-numbers}
 use Rattle.store.specs.Store.{contents}
+use Rattle.store.proofs.Fills.{small-front}
 use Rattle.text.specs.Text.{textRoom}
 use Rattle.text.proofs.Room.{Small, text-fits, refusal-fits}
 use Rattle.passes_machine.specs.Machine.{Stores, Ending, whole, cut, countless, givenIn, concludedAs}
@@ -26,19 +24,15 @@ use Rattle.passes_answer.proofs.Conclusion.{into-files}
 
 -- ---- what an output holds at its start is as small as the output
 
-length-filled : (room : ℕ) (xs : List ℕ) → length (filled room xs) ≡ room → length xs ≤ room
+filled-room : (room : ℕ) (xs : List ℕ) → length (filled room xs) ≡ room → length xs ≤ room
 unfolding filled
-length-filled room xs e =
+filled-room room xs e =
     let l = length-append xs (zeros (room - length xs)) in
     omega (arith, e, l)
 
 small-start : (room m : ℕ) (xs : List ℕ) → 0 < m → ((i : ℕ) → getD (filled room xs) i 0 < m) → (i : ℕ) → getD xs i 0 < m
 unfolding filled
-small-start room m xs h k i = go (ltb i (length xs)) refl
-  where
-    go : (b : Bool) → ltb i (length xs) ≡ b → getD xs i 0 < m
-    go true e = rw (← List·getD-append xs (zeros (room - length xs)) 0 i (ltb-true _ _ e)) (k i)
-    go false e = rw (List·getD-eq-default xs 0 (ltb-false _ _ e)) h
+small-start room m xs = small-front m xs (zeros (room - length xs))
 
 pub record Sized (a : Answer) : Type 0 where
   pub code : length (a .code) ≡ maxCode
@@ -48,10 +42,10 @@ pub record Sized (a : Answer) : Type 0 where
 small : (r : Rewritten) (a : Answer) → a ≡ answer fullRoom (ok r) → Sized a → Known (a .code) (a .protected) (a .lines) → Small r
 unfolding answer
 small r a e z k =
-    let lines : length (entryNumbers (r .lineMap)) ≤ maxLines * entrySize = length-filled (maxLines * entrySize) (entryNumbers (r .lineMap)) (rw (← ap (λ (x : Answer). x .lines) e) (z .lines)) in
+    let lines : length (entryNumbers (r .lineMap)) ≤ maxLines * entrySize = filled-room (maxLines * entrySize) (entryNumbers (r .lineMap)) (rw (← ap (λ (x : Answer). x .lines) e) (z .lines)) in
     record {
-      code = length-filled maxCode (r .code) (rw (← ap (λ (x : Answer). x .code) e) (z .code));
-      protected = length-filled maxProtected (r .protected) (rw (← ap (λ (x : Answer). x .protected) e) (z .protected));
+      code = filled-room maxCode (r .code) (rw (← ap (λ (x : Answer). x .code) e) (z .code));
+      protected = filled-room maxProtected (r .protected) (rw (← ap (λ (x : Answer). x .protected) e) (z .protected));
       lines = omega (arith, lines, length-numbers (r .lineMap));
       bytes = small-start maxCode 256 (r .code) (omega arith) (rw (← ap (λ (x : Answer). x .code) e) (k .code));
       offsets = small-start maxProtected 65536 (r .protected) (omega arith) (rw (← ap (λ (x : Answer). x .protected) e) (k .protected));

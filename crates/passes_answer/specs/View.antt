@@ -8,13 +8,14 @@ use lib.Dec.{eqb}
 use lib.ListN.{length, take, getD}
 use Rattle.definition.specs.Limits.{maxCode, maxProtected, maxLines, entrySize, badRule}
 use Rattle.definition.specs.Opcode.{Sheet}
-use Rattle.definition.specs.Lent.{entriesOf}
+use Rattle.definition.specs.Res.{Res}
+use Rattle.definition.specs.Lent.{filled, entriesOf}
 use Rattle.definition.specs.Compile.{Free}
-use Rattle.definition.specs.Alone.{Given, Room, Answer}
-use Rattle.definition.specs.Listing.{cutLine, numberLine, entryLines}
-use Rattle.definition.specs.Passes.{malformedLine, offsetLines, refusalLine, passed, text}
-use Rattle.store.specs.Store.{Store, at, contents, pushAll}
-use Rattle.passes_machine.specs.Machine.{State, Stores, Ending, whole, cut, countless, givenIn, concluded}
+use Rattle.definition.specs.Alone.{Given, Room, Answer, Rewritten}
+use Rattle.definition.specs.Listing.{numberLine, entryLines}
+use Rattle.definition.specs.Passes.{malformedLine, offsetLines, refusalLine, text}
+use Rattle.store.specs.Store.{contents}
+use Rattle.passes_machine.specs.Machine.{Stores, Ending, whole, cut, countless, givenIn}
 use Rattle.text.specs.Text.{instructionsBy, textRoom}
 
 -- ---- what is handed over: only what the ending leaves to be read
@@ -54,21 +55,16 @@ endingText countless sheet a = numberLine badRule (0 ∷ [])
 unfoldable pub answerText : Ending → Option Sheet → Answer → List ℕ
 answerText e sheet a = elim (eqb (a .number) 0) [ true ↦ endingText e sheet a | false ↦ numberLine (a .number) (a .place ∷ []) ]
 
--- ---- what is printed at the machine's end
+-- ---- what is printed
 
--- the text, put from the output's start as far as there is room; textRoom is room for any
-pub record Finishes (s : State) (before : List ℕ) (after : Store) : Type 0 where
+-- an output of textRoom bytes that holds the text of a result, all of it, and then 0; the text's length is answered. All is fixed but 7's place, which is
+-- one at fault in the sheet
+pub record Told (sheet : List ℕ) (result : ℕ → Res (Sheet × Rewritten)) (out : List ℕ) (r : ℕ) : Type 0 where
   pub place : ℕ
-  pub free : Free (contents (s .stores .sheet)) place
-  pub is : after ≡ pushAll (at before 0) (text (concluded place s))
-  pub short : length (text (concluded place s)) ≤ textRoom
-
--- what is printed for a whole input: all of it is fixed but 7's place, which is one at fault
-pub record Printed (input before : List ℕ) (after : Store) : Type 0 where
-  pub place : ℕ
-  pub free : Free (cutLine input .0) place
-  pub is : after ≡ pushAll (at before 0) (text (passed place input))
-  pub short : length (text (passed place input)) ≤ textRoom
+  pub free : Free sheet place
+  pub is : out ≡ filled textRoom (text (result place))
+  pub end : r ≡ length (text (result place))
+  pub fits : r ≤ textRoom
 
 -- what the types of the outputs say of their elements
 pub record Known (bytes moved lines : List ℕ) : Type 0 where

@@ -1,15 +1,16 @@
 // The end of the passes program's input: what was read is rewritten, and the text of the answer is put into a lent output.
 ghost use mathlib.Core.Path.{_≡_};
 ghost use Prim.Native.Nat.{_*_, min};
-ghost use lib.ListN.{take};
 ghost use Rattle.definition.specs.Limits.{entrySize};
 ghost use Rattle.definition.specs.Sheet.{readSheet};
 ghost use Rattle.definition.specs.Alone.{Rewrites};
 ghost use Rattle.store.specs.Store.{at, contents, pushAll};
-ghost use Rattle.passes_machine.specs.Machine.{ending};
+ghost use Rattle.definition.specs.Listing.{cutLine};
+ghost use Rattle.definition.specs.Passes.{passed};
+ghost use Rattle.passes_machine.specs.Machine.{ending, concluded};
 ghost use Rattle.passes_reader.specs.View.{headView, endingView, storesView, stateView};
 ghost use Rattle.optimize.specs.View.{answerView, room};
-ghost use Rattle.passes_answer.specs.View.{handedRules, handed, handedCount, isWhole, isCounted, wholeText, answerText, Known, Finishes, Printed};
+ghost use Rattle.passes_answer.specs.View.{handedRules, handed, handedCount, isWhole, isCounted, wholeText, answerText, Known, Told};
 use definition::BAD_RULE;
 use definition::ENTRY_SIZE;
 use definition::MAX_CODE;
@@ -23,15 +24,10 @@ use passes_reader::OFFSET_ROOM;
 use passes_reader::RULE_ROOM;
 use passes_reader::Reader;
 use passes_reader::SHEET_ROOM;
+use text::TEXT_ROOM;
 
 // Numbers that a full line list takes.
 const LINE_NUMBERS: usize = MAX_LINES * ENTRY_SIZE;
-
-fn least(a: usize, b: usize) -> usize
-    ensures { λ r. ⌜ r ≡ min a b ⌝ }
-{
-    if a < b { a } else { b }
-}
 
 fn is_whole(e: Ending) -> bool
     ensures { λ r. ⌜ r ≡ isWhole (endingView e) ⌝ }
@@ -57,7 +53,7 @@ fn is_counted(e: Ending) -> bool
 fn handed_count(read: bool, used: usize, room: usize) -> usize
     ensures { λ r. ⌜ r ≡ handedCount read used room ⌝ }
 {
-    if read { least(used, room) } else { 0 }
+    if read { numbers::least(used, room) } else { 0 }
 }
 
 // What was read, rewritten: all of it after a whole input; else only the sheet and the rules can be refused.
@@ -99,10 +95,10 @@ fn rewrite_read(
 fn entry_numbers(entries: usize, room: usize) -> usize
     ensures { λ r. ⌜ r ≡ min (entries * entrySize) room ⌝ }
 {
-    if entries > room / 3 {
+    if entries > room / ENTRY_SIZE {
         room
     } else {
-        entries * 3
+        entries * ENTRY_SIZE
     }
 }
 
@@ -116,8 +112,8 @@ fn put_whole(
 ) -> usize
     ensures { λ r. ⌜ at (now (out .exit)) r ≡ pushAll (at (now (out .entry)) 0) (wholeText (readSheet (now (sheet .entry))) (answerView a (now (bytes .entry)) (now (moved .entry)) (now (lines .entry)))) ⌝ }
 {
-    let n = least(a.bytes, bytes.len());
-    let k = least(a.protected, moved.len());
+    let n = numbers::least(a.bytes, bytes.len());
+    let k = numbers::least(a.protected, moved.len());
     let m = entry_numbers(a.entries, lines.len());
     let one = text::put_counts(out, 0, a.bytes as u64, a.protected as u64, a.entries as u64);
     let two = text::put_offsets(out, one, &moved[..k]);
@@ -162,7 +158,7 @@ fn put_short(
     put_answer(end, a, sheet, bytes, moved, lines, out)
 }
 
-// The text for what a reader has read.
+// The text for what a reader has read, from the output's start, and 0 behind it; its length is answered. Every text fits.
 pub fn finish(
     reader: Reader,
     sheet: &[u8],
@@ -170,9 +166,9 @@ pub fn finish(
     code: &[u8],
     offsets: &[u16],
     entries: &[u16],
-    out: &mut [u8],
+    out: &mut [u8; TEXT_ROOM],
 ) -> usize
-    ensures { λ r. ⌜ Finishes (stateView reader (now (sheet .entry)) (now (rules .entry)) (now (code .entry)) (now (offsets .entry)) (now (entries .entry))) (now (out .entry)) (at (now (out .exit)) r) ⌝ }
+    ensures { λ r. ⌜ Told (contents (at (now (sheet .entry)) (reader .used .sheet))) (λ place. concluded place (stateView reader (now (sheet .entry)) (now (rules .entry)) (now (code .entry)) (now (offsets .entry)) (now (entries .entry)))) (now (out .exit)) r ⌝ }
 {
     let mut bytes = [0u8; MAX_CODE];
     let mut moved = [0u16; MAX_PROTECTED];
@@ -190,12 +186,14 @@ pub fn finish(
     );
     let end = passes_reader::ending_of(reader.head);
     let used = handed_count(true, reader.used.sheet, sheet.len());
-    put_short(end, a, &sheet[..used], &bytes, &moved, &lines, out)
+    let n = put_short(end, a, &sheet[..used], &bytes, &moved, &lines, out);
+    store::zero_bytes(out, n);
+    n
 }
 
-// The text for an input that is at hand as a whole.
-pub fn answer(input: &[u8], out: &mut [u8]) -> usize
-    ensures { λ r. ⌜ Printed (now (input .entry)) (now (out .entry)) (at (now (out .exit)) r) ⌝ }
+// The same for an input that is at hand as a whole.
+pub fn answer(input: &[u8], out: &mut [u8; TEXT_ROOM]) -> usize
+    ensures { λ r. ⌜ Told (cutLine (now (input .entry)) .0) (λ place. passed place (now (input .entry))) (now (out .exit)) r ⌝ }
 {
     let mut sheet = [0u8; SHEET_ROOM];
     let mut rules = [0u8; RULE_ROOM];

@@ -3,7 +3,7 @@ use mathlib.Core.Path.{_≡_, refl, _∙_}
 use mathlib.Core.Bool.{Bool, true, false}
 use mathlib.Core.Logic.{_⊎_, inl, inr}
 use mathlib.Core.List.{List, [], _∷_}
-use Prim.Native.Nat.{ℕ, _+_, _*_, _≤_, _<_}
+use Prim.Native.Nat.{ℕ, _+_, _≤_, _<_}
 use native.Mathlib.Omega.{arith}
 use borrow.Author.Tests.{lt-leb, leb-true, leb-false}
 use lib.Dec.{leb}
@@ -18,6 +18,7 @@ use Rattle.definition.specs.Rules.{Rule, readRules}
 use Rattle.definition.specs.Lent.{entriesOf}
 use Rattle.definition.specs.Alone.{Given, Rewritten, checked, rewritten, rewriteFiles}
 use Rattle.definition.specs.Passes.{givenFrom}
+use Rattle.line_map.proofs.Entries.{count-entries}
 use Rattle.store.specs.Store.{Store, contents, pushAll}
 use Rattle.store.proofs.Stores.{contents-pushAll}
 use Rattle.passes_machine.specs.Machine.{Stores, intoCode, intoOffsets, intoEntries, codeLine, whole, lastLine, codeRoom, offsetRoom, entryRoom, lineIn, stored, givenIn, concludedAs}
@@ -38,23 +39,14 @@ cut-list room limit xs h = go (leb (length xs) limit) refl
     go true e = let l = leb-true (length xs) limit e in inl (take-all room xs (omega arith))
     go false e = let l = leb-false (length xs) limit e in inr (lt-leb (length (take room xs)) limit (omega (arith, length-take room xs)), e)
 
-entries-count : (ns : List ℕ) → (3 * length (entriesOf ns) ≤ length ns) × (length ns ≤ 3 * length (entriesOf ns) + 2)
-unfolding entriesOf
-entries-count [] = (omega arith, omega arith)
-entries-count (a ∷ []) = (omega arith, omega arith)
-entries-count (a ∷ b ∷ []) = (omega arith, omega arith)
-entries-count (a ∷ b ∷ c ∷ ns) = let p = entries-count ns in (omega arith, omega arith)
-
 cut-entries : (room : ℕ) (xs : List ℕ) → entryRoom ≤ room → Cut (λ l. length (entriesOf l)) room maxLines xs
 cut-entries room xs h = go (leb (length (entriesOf xs)) maxLines) refl
   where
     go : (t : Bool) → leb (length (entriesOf xs)) maxLines ≡ t → Cut (λ l. length (entriesOf l)) room maxLines xs
-    go true e = let l = leb-true (length (entriesOf xs)) maxLines e in let p = entries-count xs in inl (take-all room xs (omega arith))
+    go true e = let l = leb-true (length (entriesOf xs)) maxLines e in inl (take-all room xs (omega (arith, count-entries xs)))
     go false e =
         let l = leb-false (length (entriesOf xs)) maxLines e in
-        let p = entries-count xs in
-        let q = entries-count (take room xs) in
-        inr (lt-leb (length (entriesOf (take room xs))) maxLines (omega (arith, length-take room xs)), e)
+        inr (lt-leb (length (entriesOf (take room xs))) maxLines (omega (arith, count-entries xs, count-entries (take room xs), length-take room xs)), e)
 
 -- the call by its tests, in their order
 body : Res Sheet → Res (List Rule) → Bool → Bool → Bool → (Sheet → List Rule → Res Rewritten) → Res Rewritten

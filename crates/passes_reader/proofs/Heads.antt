@@ -154,11 +154,11 @@ list-digit most p h b r l c e = rw (ne-eqb b lf l, ne-eqb b comma c, listByte) e
 
 -- ---- a line entry
 
-pub entry-comma : (h r : Head) → h .number ≤ maxField → h .index < 2 → r ≡ withNumber (h .index + 1) blank h → r ≡ entryComma h
+pub entry-comma : (h r : Head) → h .number ≤ maxField → h .index < entrySize - 1 → r ≡ withNumber (h .index + 1) blank h → r ≡ entryComma h
 unfolding entryComma
 entry-comma h r n i e = rw (le-leb (h .number) maxField n, lt-ltb (suc (h .index)) entrySize (omega (arith, i)), sym (add-one (h .index)), entryComma) e
 
-pub entry-comma-many : (h r : Head) → h .number ≤ maxField → 2 ≤ h .index → r ≡ stop malformed h → r ≡ entryComma h
+pub entry-comma-many : (h r : Head) → h .number ≤ maxField → entrySize - 1 ≤ h .index → r ≡ stop malformed h → r ≡ entryComma h
 unfolding entryComma
 entry-comma-many h r n i e = rw (le-leb (h .number) maxField n, le-ltb (suc (h .index)) entrySize (omega (arith, i)), entryComma) e
 
@@ -166,11 +166,11 @@ pub entry-comma-bad : (h r : Head) → maxField < h .number → r ≡ stop malfo
 unfolding entryComma
 entry-comma-bad h r n e = rw (lt-leb (h .number) maxField n, entryComma) e
 
-pub entry-end : (h : Head) (line : ℕ) (r : Head) → h .number ≤ maxField → h .index ≡ 2 → line ≡ lineAfter (h .line) → r ≡ lineIn entryLine line 0 → r ≡ entryEnd h
+pub entry-end : (h : Head) (line : ℕ) (r : Head) → h .number ≤ maxField → h .index ≡ entrySize - 1 → line ≡ lineAfter (h .line) → r ≡ lineIn entryLine line 0 → r ≡ entryEnd h
 unfolding entryEnd
 entry-end h line r n i l e = rw (le-leb (h .number) maxField n, eq-eqb (suc (h .index)) entrySize (omega (arith, i)), sym l, entryEnd) e
 
-pub entry-end-short : (h r : Head) → h .number ≤ maxField → (h .index ≡ 2 → ⊥) → r ≡ stop malformed h → r ≡ entryEnd h
+pub entry-end-short : (h r : Head) → h .number ≤ maxField → (h .index ≡ entrySize - 1 → ⊥) → r ≡ stop malformed h → r ≡ entryEnd h
 unfolding entryEnd
 entry-end-short h r n i e = rw (le-leb (h .number) maxField n, ne-eqb (suc (h .index)) entrySize (λ k. i (omega (arith, k))), entryEnd) e
 

@@ -1,6 +1,6 @@
 // The passes program's input read a byte at a time into lent buffers: the code of passes_machine's machine.
 ghost use mathlib.Core.Path.{_≡_};
-ghost use Prim.Native.Nat.{_≤_, _<_};
+ghost use Prim.Native.Nat.{_<_};
 ghost use Rattle.passes_machine.specs.Machine as def;
 ghost use Rattle.passes_reader.specs.View.{phaseView, headView, putView, endingView, storesView, stateView, Starts};
 use definition::ENTRY_SIZE;
@@ -73,6 +73,12 @@ const BAD: u32 = 65537;
 const FIELD_ROOM: u8 = 34;
 
 const FIELD_WIDTH: u8 = 6;
+
+// An entry's last field, counted from 0.
+const LAST_FIELD: u8 = ENTRY_SIZE as u8 - 1;
+
+// The largest count of rules.
+const RULES: u32 = MAX_RULES as u32;
 
 // The largest number of a code line.
 const MAX_BYTE: u32 = 255;
@@ -269,7 +275,7 @@ fn rules_at(line: u64, left: u32) -> Head
 fn counted(h: Head) -> Head
     ensures { λ r. ⌜ headView r ≡ def.counted (headView h) ⌝ }
 {
-    if h.number <= 64 {
+    if h.number <= RULES {
         rules_at(line_after(h.line), h.number)
     } else {
         stop(Phase::Uncounted, h)
@@ -318,7 +324,7 @@ fn entry_comma(h: Head) -> Head
     if h.number > MAX_FIELD {
         return stop(Phase::Malformed, h);
     }
-    if h.index < 2 {
+    if h.index < LAST_FIELD {
         with_number(h.index + 1, BLANK, h)
     } else {
         stop(Phase::Malformed, h)
@@ -331,7 +337,7 @@ fn entry_end(h: Head) -> Head
     if h.number > MAX_FIELD {
         return stop(Phase::Malformed, h);
     }
-    if h.index == 2 {
+    if h.index == LAST_FIELD {
         line_in(Phase::EntryLine, line_after(h.line), 0)
     } else {
         stop(Phase::Malformed, h)

@@ -1,16 +1,15 @@
--- Bytes copied down, rewritten and zeroed in place.
+-- Bytes copied down and rewritten in place.
 use mathlib.Core.Path.{_≡_, refl, ap, sym, _∙_}
-use mathlib.Core.List.{List, [], _∷_, _++_, append-assoc, append-nil}
-use Prim.Native.Nat.{ℕ, zero, suc, _+_, _-_, _≤_, _<_, _/_, _%_}
+use mathlib.Core.List.{List, [], _∷_, append-nil}
+use Prim.Native.Nat.{ℕ, suc, _+_, _-_, _≤_, _<_, _/_, _%_}
 use native.Mathlib.Numerals.{add-one, add-two}
 use native.Mathlib.Nat.{add-zero}
 use native.Mathlib.Omega.{arith}
 use lib.ListN.{length, take, drop, set, getD, length-set, length-drop, take-append-drop}
-use lib.Seq.{length-take-le, getD-drop, getD-take, take-suc-set, take-all, paste, paste-zero, paste-suc, drop-paste, sets-eq}
+use lib.Seq.{length-take-le, getD-drop, getD-take, paste, paste-zero, paste-suc, drop-paste, sets-eq}
 use Rattle.definition.specs.Rules.{Action, keep, remove, rewriteOperand}
 use Rattle.definition.specs.Emit.{le16}
 use Rattle.definition.specs.Rewrite.{applied, opcodeOf}
-use Rattle.definition.specs.Lent.{zeros}
 use Rattle.rewrite.specs.View.{put, Puts, Fitting}
 
 -- ---- copying down: `to` is not behind `from`, so that what is read was not written yet
@@ -82,43 +81,3 @@ puts-nothing code to h = record { is = sym (rw (add-zero to, append-nil) (take-a
 pub puts-removed : {x : Action} (code : List ℕ) (from to size : ℕ) → x ≡ remove → to ≤ length code → Puts (applied x (take size (drop from code))) code code to to
 unfolding applied
 puts-removed code from to size e h = rw e (puts-nothing code to h)
-
--- ---- zeroing
-
-pub zeros-more : (n : ℕ) → zeros n ++ (0 ∷ []) ≡ zeros (suc n)
-unfolding zeros
-zeros-more zero = refl
-zeros-more (suc n) = ap (λ (l : List ℕ). 0 ∷ l) (zeros-more n)
-
-pub length-zeros : (n : ℕ) → length (zeros n) ≡ n
-unfolding zeros
-length-zeros zero = refl
-length-zeros (suc n) = ap suc (length-zeros n)
-
-pub record Zeroing (list₀ : List ℕ) (from : ℕ) (list : List ℕ) (i : ℕ) : Type 0 where
-  pub head : take i list ≡ take from list₀ ++ zeros (i - from)
-  pub room : length list ≡ length list₀
-  pub low : from ≤ i
-  pub high : i ≤ from + (length list - from)
-
-module _ (list₀ : List ℕ) (from : ℕ) where
-  pub zero-begins : Zeroing list₀ from list₀ from
-  unfolding zeros
-  zero-begins =
-      let e : from - from ≡ 0 = omega arith in
-      record { head = rw (e, append-nil); room = refl; low = omega arith; high = omega arith }
-
-  pub zero-goes-on : (list : List ℕ) (i : ℕ) → Zeroing list₀ from list i → i < length list → Zeroing list₀ from (set list i 0) (i + 1)
-  zero-goes-on list i z h =
-      let e : i + 1 - from ≡ suc (i - from) = omega (arith, z .low) in
-      record {
-        head = rw (e, add-one, take-suc-set list i 0 h, z .head, ← (zeros-more (i - from)), append-assoc);
-        room = length-set list i 0 ∙ z .room;
-        low = omega (arith, z .low);
-        high = simp length-set (omega (arith, z .low));
-      }
-
-  pub zero-ends : (list : List ℕ) (i : ℕ) → Zeroing list₀ from list i → length list ≤ i → list ≡ take from list₀ ++ zeros (length list₀ - from)
-  zero-ends list i z h =
-      let e : i - from ≡ length list₀ - from = omega (arith, z .low, z .high, z .room) in
-      sym (take-all i list h) ∙ z .head ∙ ap (λ (n : ℕ). take from list₀ ++ zeros n) e

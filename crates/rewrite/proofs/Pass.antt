@@ -16,7 +16,8 @@ use Rattle.definition.specs.Opcode.{Sheet}
 use Rattle.definition.specs.Rules.{Action, keep, remove, rewriteOperand}
 use Rattle.definition.specs.Emit.{le16}
 use Rattle.definition.specs.Rewrite.{Bytes, Matcher, OffsetMap, decode, instruction, actions, applied, output, offsets, movedTo, applyPeephole}
-use Rattle.definition.specs.Lent.{filled, zeros}
+use Rattle.definition.specs.Lent.{filled}
+use Rattle.store.specs.Fill.{zeroedFrom}
 use Rattle.rewrite.specs.View.{slotCount, firstOf, actionsAfter, Fitting, FittingNext, Planned, put, Peephole}
 use Rattle.rewrite.proofs.Decoding.{First, first, first-is, first-none}
 
@@ -234,8 +235,8 @@ module _ (s : Sheet) (matches : Matcher) (protected code₀ : List ℕ) where
 
   -- nothing is left
   pub ends : {code map : List ℕ} {at to : ℕ} {next : Option Action} → Going code map at to next → decode s (drop at code) ≡ [] → length code₀ ≤ maxCode
-      → Peephole (applyPeephole s matches protected code₀) code₀ (take to code ++ zeros (length code - to)) (set map at to) to
-  unfolding output offsets actionsAfter actions movedTo filled
+      → Peephole (applyPeephole s matches protected code₀) code₀ (zeroedFrom to code) (set map at to) to
+  unfolding output offsets actionsAfter actions movedTo filled zeroedFrom
   ends {code} {map} {at} {to} {next} g e small =
       let none-left : (n : Option Action) → actionsAfter s matches protected n at [] ≡ [] = λ n. elim n as (λ o. actionsAfter s matches protected o at [] ≡ []) [ none ↦ refl | some x ↦ refl ] in
       let out = rw (e, none-left next) at (g .out) in

@@ -2,7 +2,7 @@
 use mathlib.Core.Path.{_≡_, sym, _∙_}
 use mathlib.Core.Bool.{true, false, _||_}
 use mathlib.Core.Option.{Option, some, none}
-use mathlib.Core.List.{List, _++_, map}
+use mathlib.Core.List.{List, map}
 use Prim.Native.Nat.{ℕ, _+_, _-_, _≤_}
 use native.Mathlib.Omega.{arith}
 use borrow.Author.Tests.{eq-eqb, ne-eqb}
@@ -13,7 +13,7 @@ use Rattle.definition.specs.Opcode.{Sheet}
 use Rattle.definition.specs.Rules as def
 use Rattle.definition.specs.Rules.{keep}
 use Rattle.definition.specs.Rewrite.{Bytes, Matcher, decode, instruction, applied, applyPeephole}
-use Rattle.definition.specs.Lent.{zeros}
+use Rattle.store.specs.Fill.{zeroedFrom}
 use Rattle.rules.specs.declared.Action.{Action}
 use Rattle.rules.specs.declared.Found.{Found}
 use Rattle.rules.specs.declared.Found.the-variants.{At, Nothing}
@@ -71,9 +71,6 @@ module _ (s : Sheet) (table : List ℕ) (count pass : ℕ) (marks code : List �
         → Planned s (matcher table count pass) (marked marks) code at (nextView next) (r .size) (actionView (r .action)) (nextView (r .next))
     decided-last z k = rw asked (kept k (plan-last s _ _ code at a here b after (omega arith) z))
 
-    pub decided-within-next : (length b ≡ 0 → ⊥) → at + length a + length b ≤ length code
-    decided-within-next more = first-within s code (at + length a) b after (omega arith)
-
     module _ (more : length b ≡ 0 → ⊥) where
       pub decided-first : {r : Plan} → (getD marks at 0 ≡ 0 → ⊥) → Kept (length a) r
           → Planned s (matcher table count pass) (marked marks) code at (nextView next) (r .size) (actionView (r .action)) (nextView (r .next))
@@ -107,7 +104,7 @@ module _ {s : Sheet} {matches : Matcher} {protected code₀ code code′ moves :
   pub turns : {to′ : ℕ} → (z ≡ 0 → ⊥) → Puts (applied x (take z (drop at code))) code code′ to to′ → Going s matches protected code₀ code′ (set moves at n) (at + z) to′ then
   turns full q = rw (same, q .is, q .end) (goes-on s matches protected code₀ g p (omega arith) small)
 
-  pub finishes : z ≡ 0 → code′ ≡ take to code ++ zeros (length code - to) → Peephole (applyPeephole s matches protected code₀) code₀ code′ (set moves at n) to
+  pub finishes : z ≡ 0 → code′ ≡ zeroedFrom to code → Peephole (applyPeephole s matches protected code₀) code₀ code′ (set moves at n) to
   finishes e q =
       let f : First s code at z = rw (← (p .long)) at (first s code at) in
       rw (same, q) (ends s matches protected code₀ g (f .none e) small)

@@ -9,7 +9,7 @@ use lib.ListN.{length, getD, take, drop}
 use Rattle.definition.specs.Limits.{maxCode}
 use Rattle.definition.specs.Opcode.{Sheet}
 use Rattle.definition.specs.Rules.{Action, keep, remove, rewriteOperand, matches}
-use Rattle.definition.specs.Rewrite.{Bytes, Matcher, OffsetMap, decode, actions, offsets, movedTo}
+use Rattle.definition.specs.Rewrite.{Bytes, Matcher, OffsetMap, decode, actions, movedTo}
 use Rattle.definition.specs.Lent.{filled}
 use Rattle.opcode.specs.Table.{IsTable}
 use Rattle.rules.specs.View.{actionView, rulesIn, IsRules, Inside, pairAt}

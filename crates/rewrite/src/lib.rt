@@ -1,11 +1,8 @@
 // One pass of pair rewriting, in place over lent code (optimize/rewrite.rs). Only our own crates call it: they lend tables that were read.
 ghost use mathlib.Core.Path.{_≡_};
-ghost use mathlib.Core.List.{_++_};
-ghost use Prim.Native.Nat.{_+_, _-_, _≤_};
+ghost use Prim.Native.Nat.{_+_, _≤_};
 ghost use lib.ListN.{length, take, drop};
-ghost use Rattle.definition.specs.Limits.{maxCode};
 ghost use Rattle.definition.specs.Rewrite.{decode, operandOf, instruction, applied, applyPeephole};
-ghost use Rattle.definition.specs.Lent.{zeros};
 ghost use Rattle.opcode.specs.Table.{IsTable, sheetIn};
 ghost use Rattle.rules.specs.View.{actionView, instructionView, IsRules};
 ghost use Rattle.rewrite.specs.View.{firstOf, marked, matcher, Looked, Kept, nextView, Fitting, FittingNext, Ready, Planned, Puts, Clear, Peephole};
@@ -193,24 +190,6 @@ fn decide(
     }
 }
 
-// 0 from a place up to the end.
-pub fn zero_from(list: &mut [u8], from: usize)
-    ensures { λ r. ⌜ now (list .exit) ≡ take from (now (list .entry)) ++ zeros (length (now (list .entry)) - from) ⌝ }
-{
-    let mut i = from;
-    while i < list.len() {
-        list[i] = 0;
-        i += 1;
-    }
-}
-
-pub fn narrow(x: usize) -> u16
-    requires { ⌜ x ≤ maxCode ⌝ }
-    ensures { λ r. ⌜ r ≡ x ⌝ }
-{
-    x as u16
-}
-
 // One pass over a whole slice: it holds the rewritten code and then 0, the map leads from old offsets to new ones, and the new length is answered.
 pub fn apply_peephole(
     sheet: &[u8],
@@ -231,9 +210,9 @@ pub fn apply_peephole(
     loop {
         let plan = decide(sheet, rules, count, pass, marks, code, at, next);
         let size = plan.size;
-        moves[at] = narrow(to);
+        moves[at] = numbers::narrow(to);
         if size == 0 {
-            zero_from(code, to);
+            store::zero_bytes(code, to);
             return to;
         }
         let action = plan.action;

@@ -1,15 +1,16 @@
 -- Fields and lines put into a store.
-use mathlib.Core.Path.{_≡_, refl, ap, _∙_}
+use mathlib.Core.Path.{_≡_, ap, _∙_}
 use mathlib.Core.List.{List, [], _∷_}
-use Prim.Native.Nat.{ℕ, suc, _+_, _-_, _≤_, _<_}
+use Prim.Native.Nat.{ℕ, _+_, _-_, _≤_, _<_}
 use Prim.Native.Char.{code}
 use native.Mathlib.Numerals.{add-one}
 use native.Mathlib.Omega.{arith}
-use lib.ListN.{length, drop, getD, length-drop, drop-of-length-le}
+use lib.ListN.{length, take, drop, getD, length-drop, drop-of-length-le}
 use lib.Seq.{drop-cons}
 use Rattle.definition.specs.Field.{lf}
 use Rattle.definition.specs.Opcode.{Sheet}
-use Rattle.definition.specs.Lent.{entriesOf}
+use Rattle.definition.specs.Limits.{entrySize}
+use Rattle.definition.specs.Lent.{oneEntry, entryIn, entriesOf}
 use Rattle.definition.specs.Rewrite.{Bytes, decode}
 use Rattle.definition.specs.Listing.{decimal, fields, numberLine, entryLines, instructionLines}
 use Rattle.definition.specs.Passes.{malformedLine, offsetLines, refusalLine}
@@ -18,6 +19,7 @@ use Rattle.opcode.specs.declared.sheet.SheetRead.{SheetRead}
 use Rattle.opcode.specs.declared.sheet.SheetRead.the-variants.{Accepted, Refused}
 use Rattle.opcode.specs.Table.{sheetIn, IsTable}
 use Rattle.opcode.specs.Reading.{answerOf, Reads, Accepts, Refuses}
+use Rattle.line_map.proofs.Entries.{in-front, entries-at, entries-none}
 use Rattle.rewrite.specs.View.{firstOf}
 use Rattle.rewrite.proofs.Decoding.{first-is, first-none, first-within}
 use Rattle.store.specs.Store.{Store, at, push, pushAll}
@@ -43,21 +45,21 @@ pub put-marked : (s : Store) {t u : Store} (n : ℕ) → t ≡ push s malformedL
 unfolding refusalLine
 put-marked s n e f = put-first s malformedLine (fields (n ∷ [])) e f
 
--- ---- bytes of a line
+-- ---- the fields of a line
 
-abbrev pub bytesFrom : List ℕ → ℕ → List ℕ
-bytesFrom l i = fields (drop i l)
+abbrev pub fieldsFrom : List ℕ → ℕ → List ℕ
+fieldsFrom l i = fields (drop i l)
 
-pub bytes-on : (l : List ℕ) (s : Store) {t u : Store} {i n : ℕ} → Putting (bytesFrom l) (length l) s t i → n ≡ getD l i 0 → u ≡ pushAll t (fieldOf n) → i < length l
-    → Putting (bytesFrom l) (length l) s u (i + 1)
+pub fields-on : (l : List ℕ) (s : Store) {t u : Store} {i n : ℕ} → Putting (fieldsFrom l) (length l) s t i → n ≡ getD l i 0 → u ≡ pushAll t (fieldOf n) → i < length l
+    → Putting (fieldsFrom l) (length l) s u (i + 1)
 unfolding fields
-bytes-on l s {i = i} {n = n} p e f h = put-goes-on (bytesFrom l) (length l) s (fieldOf n) p f (rw (add-one i, drop-cons l i 0 h, e)) (omega arith)
+fields-on l s {i = i} {n = n} p e f h = put-goes-on (fieldsFrom l) (length l) s (fieldOf n) p f (rw (add-one i, drop-cons l i 0 h, e)) (omega arith)
 
-pub bytes-end : (l : List ℕ) (s : Store) {t u : Store} {i : ℕ} → Putting (bytesFrom l) (length l) s t i → u ≡ push t lf → length l ≤ i → u ≡ pushAll s (fields l)
-bytes-end l s {t} p f h = put-ends (bytesFrom l) (length l) s p (rw (drop-of-length-le l h) (put-end t f))
+pub fields-end : (l : List ℕ) (s : Store) {t u : Store} {i : ℕ} → Putting (fieldsFrom l) (length l) s t i → u ≡ push t lf → length l ≤ i → u ≡ pushAll s (fields l)
+fields-end l s {t} p f h = put-ends (fieldsFrom l) (length l) s p (rw (drop-of-length-le l h) (put-end t f))
 
-pub bytes-long : (l : List ℕ) (s : Store) {t u : Store} {i : ℕ} → Putting (bytesFrom l) (length l) s t i → u ≡ push t lf → length (u .cells) ≡ length (s .cells)
-bytes-long l s {t} p f = ap (λ (v : Store). length (v .cells)) f ∙ length-push t lf ∙ put-long (bytesFrom l) (length l) s p
+pub fields-long : (l : List ℕ) (s : Store) {t u : Store} {i : ℕ} → Putting (fieldsFrom l) (length l) s t i → u ≡ push t lf → length (u .cells) ≡ length (s .cells)
+fields-long l s {t} p f = ap (λ (v : Store). length (v .cells)) f ∙ length-push t lf ∙ put-long (fieldsFrom l) (length l) s p
 
 -- ---- a line for each offset
 
@@ -79,28 +81,18 @@ offsets-end l s p h = put-ends-none (offsetsFrom l) (length l) s p (rw (drop-of-
 abbrev pub entriesFrom : List ℕ → ℕ → List ℕ
 entriesFrom l i = entryLines (entriesOf (drop i l))
 
-three : (l : List ℕ) (i : ℕ) → 3 ≤ length l - i → drop i l ≡ getD l i 0 ∷ getD l (i + 1) 0 ∷ getD l (i + 2) 0 ∷ drop (i + 3) l
-three l i h =
-    let two : i + 2 ≡ suc (i + 1) = omega arith in
-    let three : i + 3 ≡ suc (i + 2) = omega arith in
-    drop-cons l i 0 (omega arith) ∙ rw (three, ← drop-cons l (i + 2) 0 (omega arith), two, ← drop-cons l (i + 1) 0 (omega arith), add-one i)
-
-none-left : (l : List ℕ) → length l < 3 → entriesOf l ≡ []
-unfolding entriesOf
-none-left [] h = refl
-none-left (a ∷ []) h = refl
-none-left (a ∷ b ∷ []) h = refl
-none-left (a ∷ b ∷ c ∷ l) h = absurd (omega arith)
-
-pub entries-on : (l : List ℕ) (s : Store) {t v u : Store} {i a b c : ℕ} → Putting (entriesFrom l) (length l) s t i → a ≡ getD l i 0 → b ≡ getD l (i + 1) 0 → c ≡ getD l (i + 2) 0
-    → v ≡ push t (code "l") → u ≡ pushAll v (fields (a ∷ b ∷ c ∷ [])) → 3 ≤ length l - i → Putting (entriesFrom l) (length l) s u (i + 3)
-unfolding entriesOf entryLines
-entries-on l s {t} {i = i} {a = a} {b = b} {c = c} p ea eb ec m f h =
-    put-goes-on (entriesFrom l) (length l) s (code "l" ∷ fields (a ∷ b ∷ c ∷ [])) p (put-first t (code "l") (fields (a ∷ b ∷ c ∷ [])) m f) (rw (three l i h, ea, eb, ec)) (omega arith)
-
-pub entries-end : (l : List ℕ) (s : Store) {t : Store} {i : ℕ} → Putting (entriesFrom l) (length l) s t i → length l - i < 3 → t ≡ pushAll s (entryLines (entriesOf l))
+pub entries-on : (l : List ℕ) (s : Store) {t v u : Store} {i : ℕ} → Putting (entriesFrom l) (length l) s t i → entrySize ≤ length l - i
+    → v ≡ push t (code "l") → u ≡ pushAll v (fields (take (i + entrySize - i) (drop i l))) → Putting (entriesFrom l) (length l) s u (i + entrySize)
 unfolding entryLines
-entries-end l s {i = i} p h = put-ends-none (entriesFrom l) (length l) s p (rw (none-left (drop i l) (simp length-drop h)))
+entries-on l s {t} {i = i} p h m f =
+    let part = take (i + entrySize - i) (drop i l) in
+    let size : i + entrySize - i ≡ entrySize = omega arith in
+    let one : oneEntry (entryIn (drop i l)) ≡ part = rw size (in-front (drop i l) (rw (length-drop i l) h)) in
+    put-goes-on (entriesFrom l) (length l) s (code "l" ∷ fields part) p (put-first t (code "l") (fields part) m f) (rw (entries-at l i (omega (arith, p .within)), one)) (omega (arith, p .within))
+
+pub entries-end : (l : List ℕ) (s : Store) {t : Store} {i : ℕ} → Putting (entriesFrom l) (length l) s t i → length l - i < entrySize → t ≡ pushAll s (entryLines (entriesOf l))
+unfolding entryLines
+entries-end l s {i = i} p h = put-ends-none (entriesFrom l) (length l) s p (rw (entries-none l i (omega (arith, p .within))))
 
 -- ---- a line for each instruction
 

@@ -4,7 +4,7 @@ use mathlib.Core.List.{List, [], _∷_, _++_}
 use Prim.Native.Nat.{ℕ, _≤_}
 use native.Mathlib.Omega.{arith}
 use lib.ListN.{length}
-use Rattle.store.specs.Store.{Store, at, push, pushAll}
+use Rattle.store.specs.Store.{Store, push, pushAll}
 use Rattle.store.proofs.Stores.{pushAll-append, length-pushAll}
 
 -- one byte, and more behind it

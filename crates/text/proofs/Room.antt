@@ -7,17 +7,19 @@ use Prim.Native.Char.{code}
 use native.Mathlib.Omega.{arith}
 use lib.Dec.{eqb}
 use lib.ListN.{length, take, drop, getD, length-append, length-drop}
-use lib.Seq.{length-take-le, getD-drop}
-use Rattle.definition.specs.Limits.{maxCode, maxProtected, maxLines}
+use lib.Seq.{length-take-le, getD-take, getD-drop}
+use Rattle.definition.specs.Limits.{maxCode, maxProtected, maxLines, entrySize}
 use Rattle.definition.specs.Res.{ok, refuse}
 use Rattle.definition.specs.Field.{digit0}
 use Rattle.definition.specs.Opcode.{Sheet}
 use Rattle.definition.specs.Emit.{LineEntry}
-use Rattle.definition.specs.Lent.{entryNumbers}
+use Rattle.definition.specs.Lent.{oneEntry, entryNumbers}
 use Rattle.definition.specs.Rewrite.{decode}
 use Rattle.definition.specs.Alone.{Rewritten}
 use Rattle.definition.specs.Listing.{digitsOnto, decimal, fields, numberLine, entryLines, instructionLines}
 use Rattle.definition.specs.Passes.{malformedLine, offsetLines, refusalLine, text}
+use Rattle.store.proofs.Fills.{small-front, small-back}
+use Rattle.line_map.proofs.Entries.{length-one}
 use Rattle.rewrite.proofs.Decoding.{First, first}
 use Rattle.text.specs.Text.{textRoom}
 use Rattle.text.proofs.Decimals.{digits-one, digits-more, one-or-more, shorter}
@@ -52,12 +54,6 @@ pub length-decimal-any : (n : ℕ) → length (decimal n) ≤ 20
 unfolding decimal
 length-decimal-any n = omega (arith, length-any 20 n [])
 
-word-digits : (n : ℕ) → n < 65536 → length (decimal n) ≤ 5
-word-digits n h = length-decimal n 4 (omega arith)
-
-byte-digits : (n : ℕ) → n < 256 → length (decimal n) ≤ 3
-byte-digits n h = length-decimal n 2 (omega arith)
-
 -- ---- lines
 
 length-fields : (n : ℕ) (ns : List ℕ) → length (fields (n ∷ ns)) ≡ 1 + length (decimal n) + length (fields ns)
@@ -67,6 +63,21 @@ length-fields n ns = simp length-append (omega arith)
 length-end : length (fields []) ≡ 1
 unfolding fields
 length-end = refl
+
+more-fields : (m w : ℕ) → suc m * suc w ≡ suc w + m * suc w
+more-fields m w = suc-mul m (suc w) ∙ omega arith
+
+-- numbers of at most w digits
+length-list : (w : ℕ) (ns : List ℕ) → ((i : ℕ) → i < length ns → length (decimal (getD ns i 0)) ≤ w) → length (fields ns) ≤ length ns * suc w + 1
+length-list w [] h = omega (arith, length-end)
+length-list w (n ∷ ns) h =
+    let d = h 0 (omega arith) in
+    let f = length-fields n ns in
+    let r = length-list w ns (λ i k. h (suc i) (omega arith)) in
+    omega (arith, more-fields (length ns) w)
+
+length-words : (ns : List ℕ) → ((i : ℕ) → getD ns i 0 < 65536) → length (fields ns) ≤ length ns * 6 + 1
+length-words ns h = length-list 5 ns (λ i k. length-decimal (getD ns i 0) 4 (omega (arith, h i)))
 
 length-line : (n : ℕ) (ns : List ℕ) → length (numberLine n ns) ≡ length (decimal n) + length (fields ns)
 unfolding numberLine
@@ -88,35 +99,19 @@ length-offsets : (l : List ℕ) → ((i : ℕ) → getD l i 0 < 65536) → lengt
 unfolding offsetLines
 length-offsets [] h = omega arith
 length-offsets (x ∷ l) h =
-    let d = word-digits x (h 0) in
-    let f = length-fields x [] in
+    let f = length-words (x ∷ []) (small-front 65536 (x ∷ []) l (omega arith) h) in
     let r = length-offsets l (λ i. h (suc i)) in
-    simp length-append (omega (arith, length-end))
+    simp length-append (omega arith)
 
-length-entries : (l : List LineEntry) → ((i : ℕ) → getD (entryNumbers l) i 0 < 65536) → length (entryLines l) ≤ length l * 20
+length-entries : (l : List LineEntry) → ((i : ℕ) → getD (entryNumbers l) i 0 < 65536) → length (entryLines l) ≤ length l * (2 + entrySize * 6)
 unfolding entryLines entryNumbers
 length-entries [] h = omega arith
 length-entries (x ∷ l) h =
-    let a = word-digits (x .offset) (h 0) in
-    let b = word-digits (x .pos .line) (h 1) in
-    let c = word-digits (x .pos .column) (h 2) in
-    let fa = length-fields (x .offset) (x .pos .line ∷ x .pos .column ∷ []) in
-    let fb = length-fields (x .pos .line) (x .pos .column ∷ []) in
-    let fc = length-fields (x .pos .column) [] in
-    let r = length-entries l (λ i. h (suc (suc (suc i)))) in
-    simp length-append (omega (arith, length-end))
+    let f = length-words (oneEntry x) (small-front 65536 (oneEntry x) (entryNumbers l) (omega arith) h) in
+    let r = length-entries l (small-back 65536 (oneEntry x) (entryNumbers l) h) in
+    simp length-append (omega (arith, length-one x))
 
 -- ---- instructions
-
-length-bytes : (l : List ℕ) (z : ℕ) → ((i : ℕ) → getD l i 0 < 256) → length (fields (take z l)) ≤ z * 4 + 1
-length-bytes [] zero h = omega (arith, length-end)
-length-bytes [] (suc z) h = omega (arith, length-end)
-length-bytes (x ∷ l) zero h = omega (arith, length-end)
-length-bytes (x ∷ l) (suc z) h =
-    let d = byte-digits x (h 0) in
-    let f = length-fields x (take z l) in
-    let r = length-bytes l z (λ i. h (suc i)) in
-    omega arith
 
 module _ (s : Sheet) (l : List ℕ) (few : length l ≤ maxCode) (small : (i : ℕ) → getD l i 0 < 256) where
   by-first : (at z : ℕ) → First s l at z → ((to : ℕ) → at < to → to ≤ length l → length (instructionLines to (decode s (drop to l))) ≤ (length l - to) * 12)
@@ -126,9 +121,9 @@ module _ (s : Sheet) (l : List ℕ) (few : length l ≤ maxCode) (small : (i : �
   by-first at (suc z) f more =
       let w = f .within (omega arith) in
       let long : length (take (suc z) (drop at l)) ≡ suc z = length-take-le (suc z) (drop at l) (simp length-drop (omega arith)) in
-      let d = word-digits at (omega arith) in
+      let d = length-decimal at 4 (omega arith) in
       let a = length-fields at (take (suc z) (drop at l)) in
-      let b = length-bytes (drop at l) (suc z) (λ i. rw (getD-drop at l i 0) (small (at + i))) in
+      let b = length-list 3 (take (suc z) (drop at l)) (λ i k. length-decimal (getD (take (suc z) (drop at l)) i 0) 2 (rw (getD-take (suc z) (drop at l) i 0 (omega (arith, long)), getD-drop at l i 0) (omega (arith, small (at + i))))) in
       let r = more (at + suc z) (omega arith) w in
       let j = length-append (fields (at ∷ take (suc z) (drop at l))) (instructionLines (at + suc z) (decode s (drop (at + suc z) l))) in
       rw (f .some (omega arith), long) (omega arith)
@@ -151,22 +146,22 @@ pub record Small (r : Rewritten) : Type 0 where
   pub offsets : (i : ℕ) → getD (r .protected) i 0 < 65536
   pub entries : (i : ℕ) → getD (entryNumbers (r .lineMap)) i 0 < 65536
 
-length-counts : (a b c : ℕ) → a < 65536 → b < 65536 → c < 65536 → length (numberLine 0 (a ∷ b ∷ c ∷ [])) ≤ 33
-length-counts a b c ha hb hc =
-    let da = word-digits a ha in
-    let db = word-digits b hb in
-    let dc = word-digits c hc in
+length-counts : (ns : List ℕ) → ((i : ℕ) → getD ns i 0 < 65536) → length (numberLine 0 ns) ≤ length ns * 6 + 2
+length-counts ns h =
     let d = length-decimal 0 0 (omega arith) in
-    let l = length-line 0 (a ∷ b ∷ c ∷ []) in
-    let fa = length-fields a (b ∷ c ∷ []) in
-    let fb = length-fields b (c ∷ []) in
-    let fc = length-fields c [] in
-    omega (arith, length-end)
+    let f = length-words ns h in
+    omega (arith, length-line 0 ns)
+
+counts-small : (a b c : ℕ) → a < 65536 → b < 65536 → c < 65536 → (i : ℕ) → getD (a ∷ b ∷ c ∷ []) i 0 < 65536
+counts-small a b c ha hb hc zero = ha
+counts-small a b c ha hb hc (suc zero) = hb
+counts-small a b c ha hb hc (suc (suc zero)) = hc
+counts-small a b c ha hb hc (suc (suc (suc i))) = omega arith
 
 pub text-fits : (s : Sheet) (r : Rewritten) → Small r → length (text (ok (s, r))) ≤ textRoom
 unfolding text
 text-fits s r h =
-    let c = length-counts (length (r .code)) (length (r .protected)) (length (r .lineMap)) (omega (arith, h .code)) (omega (arith, h .protected)) (omega (arith, h .lines)) in
+    let c = length-counts (length (r .code) ∷ length (r .protected) ∷ length (r .lineMap) ∷ []) (counts-small _ _ _ (omega (arith, h .code)) (omega (arith, h .protected)) (omega (arith, h .lines))) in
     let o = length-offsets (r .protected) (h .offsets) in
     let e = length-entries (r .lineMap) (h .entries) in
     let i = length-instructions s (r .code) (h .code) (h .bytes) in

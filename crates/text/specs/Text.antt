@@ -3,7 +3,7 @@ use Prim.Native.Nat.{ℕ, _+_, _*_}
 use Prim.Native.Char.{code}
 use mathlib.Core.List.{List, [], _∷_}
 use mathlib.Core.Option.{Option, some, none}
-use Rattle.definition.specs.Limits.{maxCode, maxProtected, maxLines}
+use Rattle.definition.specs.Limits.{maxCode, maxProtected, maxLines, entrySize}
 use Rattle.definition.specs.Field.{comma}
 use Rattle.definition.specs.Opcode.{Sheet}
 use Rattle.definition.specs.Rewrite.{Bytes, decode}
@@ -24,7 +24,7 @@ instructionsBy (some s) bytes = instructionLines 0 (decode s bytes)
 
 -- bytes that hold any text of the passes program
 abbrev pub textRoom : ℕ
-textRoom = 33 + maxProtected * 8 + maxLines * 20 + maxCode * 12
+textRoom = 33 + maxProtected * 8 + maxLines * (2 + entrySize * 6) + maxCode * 12
 
 -- `unfolding open-Text` names all of this module's definitions at once
 unfoldable pub open-Text : Unit {0}

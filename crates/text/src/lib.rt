@@ -11,6 +11,7 @@ ghost use Rattle.definition.specs.Passes.{malformedLine, offsetLines, refusalLi
 ghost use Rattle.opcode.specs.Table.{IsTable, sheetIn};
 ghost use Rattle.store.specs.Store.{at, pushAll};
 ghost use Rattle.text.specs.Text.{fieldOf, instructionLine, instructionsBy, textRoom};
+use definition::ENTRY_SIZE;
 use definition::MAX_CODE;
 use definition::MAX_LINES;
 use definition::MAX_PROTECTED;
@@ -18,7 +19,10 @@ use opcode::sheet;
 use opcode::sheet::SheetRead;
 
 // Bytes that hold any text of the passes program.
-pub const TEXT_ROOM: usize = 33 + MAX_PROTECTED * 8 + MAX_LINES * 20 + MAX_CODE * 12;
+pub const TEXT_ROOM: usize = 33
+    + MAX_PROTECTED * 8
+    + MAX_LINES * (2 + ENTRY_SIZE * 6)
+    + MAX_CODE * 12;
 
 const COMMA: u8 = 44;
 
@@ -111,6 +115,20 @@ pub fn put_bytes(out: &mut [u8], used: usize, bytes: &[u8]) -> usize
     store::push_byte(out, behind, LF)
 }
 
+// Numbers as the last fields of a line.
+fn put_numbers(out: &mut [u8], used: usize, list: &[u16]) -> usize
+    ensures { λ r. ⌜ at (now (out .exit)) r ≡ pushAll (at (now (out .entry)) used) (fields (now (list .entry))) ⌝ }
+{
+    let mut behind = used;
+    let mut i = 0;
+    while i < list.len() {
+        let n = from_number(list[i]);
+        behind = put_field(out, behind, n);
+        i += 1;
+    }
+    store::push_byte(out, behind, LF)
+}
+
 // ---- lines
 
 // The first line of an answer of the passes program: 0, and how many bytes, offsets and entries it has.
@@ -152,19 +170,17 @@ pub fn put_offsets(out: &mut [u8], used: usize, list: &[u16]) -> usize
     behind
 }
 
-// A line for each entry, which is three numbers of the list; one or two over are none.
+// A line for each entry, which is ENTRY_SIZE numbers of the list; fewer over are none.
 pub fn put_entries(out: &mut [u8], used: usize, list: &[u16]) -> usize
     ensures { λ r. ⌜ at (now (out .exit)) r ≡ pushAll (at (now (out .entry)) used) (entryLines (entriesOf (now (list .entry)))) ⌝ }
 {
     let mut behind = used;
     let mut i = 0;
-    while list.len() - i >= 3 {
-        let a = from_number(list[i]);
-        let b = from_number(list[i + 1]);
-        let c = from_number(list[i + 2]);
+    while list.len() - i >= ENTRY_SIZE {
+        let next = i + ENTRY_SIZE;
         let start = store::push_byte(out, behind, b'l');
-        behind = put_three(out, start, a, b, c);
-        i += 3;
+        behind = put_numbers(out, start, &list[i..next]);
+        i = next;
     }
     behind
 }

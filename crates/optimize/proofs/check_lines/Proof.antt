@@ -23,12 +23,11 @@ check-lines-spec =
     Inv-loop
     μ-loop
     (λ c. lines-begin _ _)  -- loop-holds
-    (λ c. omega (arith, c .loop .inv .within, c .before .before .before .good))  -- add-loop
-    (λ c. search needs)  -- mul-x
-    (λ c. search needs)  -- shared-slice-read-x
+    (λ c. search needs)  -- sub-loop
+    (λ c κs. search needs)  -- entry-at-requires
     (λ c κs. search needs)  -- is-boundary-requires
-    (λ c. lines-bad _ _ _ (c .before .before .before .before .loop .inv) (c .before .before .before .loop-test .taken) (sym (not-true _ (c .if1 .taken)) ∙ (c .before .is-boundary) .ensures))  -- returns
+    (λ c. lines-bad _ _ _ _ (c .before .before .before .before .loop .inv) (c .before .before .before .loop-test .taken) (c .before .before .entry-at .ensures) (sym (not-true _ (c .if1 .taken)) ∙ (c .before .is-boundary) .ensures))  -- returns
     (λ c. search needs)  -- add-i
     (λ c. search needs)  -- loop-less
-    (λ c. lines-go-on _ _ _ (c .before .before .before .before .loop .inv) (c .before .before .before .loop-test .taken) (sym (not-false _ (c .if1 .left)) ∙ (c .before .is-boundary) .ensures))  -- loop-again
+    (λ c. lines-go-on _ _ _ _ (c .before .before .before .before .loop .inv) (c .before .before .before .loop-test .taken) (c .before .before .entry-at .ensures) (sym (not-false _ (c .if1 .left)) ∙ (c .before .is-boundary) .ensures))  -- loop-again
     (λ c. lines-end _ _ _ (c .before .loop .inv) (c .loop-test .left)))  -- returns-2

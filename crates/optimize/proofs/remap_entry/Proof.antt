@@ -13,6 +13,6 @@ remap-entry-spec =
     (λ c. entry-past _ _ (c .before .before .before .before .args .entry) (c .before .before .before .before .args .last) (c .before .before .moved-to .ensures) (search needs))  -- returns
     (λ c. search needs)  -- enum-known-last
     (λ c. search needs)  -- enum-told
-    (λ c. entry-same _ _ (c .before .before .before .before .before .before .before .before .args .entry) (c .before .before .before .before .before .before .before .before .args .last) (c .before .before .before .before .before .before .moved-to .ensures) (search needs) (c .before .before .last .given .1) (search needs))  -- returns-2
-    (λ c. entry-other _ _ (c .before .before .before .before .before .before .before .before .args .entry) (c .before .before .before .before .before .before .before .before .args .last) (c .before .before .before .before .before .before .moved-to .ensures) (search needs) (c .before .before .last .given .1) (search needs))  -- returns-3
-    (λ c. entry-first _ _ (c .before .before .before .before .before .before .args .entry) (c .before .before .before .before .before .before .args .last) (c .before .before .before .before .moved-to .ensures) (search needs) (c .enum-told .given .1)))  -- returns-4
+    (λ c. entry-same _ _ (c .before .before .before .before .before .before .before .before .before .args .entry) (c .before .before .before .before .before .before .before .before .before .args .last) (c .before .before .before .before .before .before .before .moved-to .ensures) (search needs) (c .before .before .last .given .1) (search needs))  -- returns-2
+    (λ c. entry-other _ _ (c .before .before .before .before .before .before .before .before .before .args .entry) (c .before .before .before .before .before .before .before .before .before .args .last) (c .before .before .before .before .before .before .before .moved-to .ensures) (search needs) (c .before .before .last .given .1) (search needs))  -- returns-3
+    (λ c. entry-first _ _ (c .before .before .before .before .before .before .before .args .entry) (c .before .before .before .before .before .before .before .args .last) (c .before .before .before .before .before .moved-to .ensures) (search needs) (c .enum-told .given .1)))  -- returns-4

@@ -8,13 +8,13 @@ pub rewrite-into-spec : {M : Type 1} → statement M
 rewrite-into-spec =
     tie.close
     (tie.spec
-    (λ c κs. c .before .before .before .before .before .before .before .before .pre .1 .0)  -- fill-bytes-requires
-    (λ c κs. c .before .before .before .before .before .before .before .before .before .before .before .before .pre .1 .1)  -- fill-numbers-requires
+    (λ c κs. search needs)  -- fill-bytes-requires
+    (λ c κs. search needs)  -- fill-numbers-requires
     (λ c. search needs)  -- slice-relend-prefix-optimize
-    (λ c. front-long _ _ (c .before .before .before .before .before .before .before .fill-bytes .ensures))  -- slice-aggregate-optimize
+    (λ c. front-long _ _ (c .before .before .before .before .before .before .before .before .before .before .before .before .before .before .before .before .pre .1 .0) (c .before .before .before .before .before .before .before .fill-bytes .ensures))  -- slice-aggregate-optimize
     (λ c. search needs)  -- slice-relend-prefix-optimize-2
-    (λ c. front-long _ _ (c .before .before .before .before .fill-numbers .ensures))  -- slice-aggregate-optimize-2
-    (λ c κs. lent _ _ (c .before .before .before .before .before .before .before .before .before .before .before .before .before .before .before .before .before .before .pre .0) (c .before .before .before .before .before .before .before .before .before .fill-bytes .ensures) (c .before .before .before .before .before .fill-numbers .ensures))  -- optimize-requires
+    (λ c. front-long _ _ (c .before .before .before .before .before .before .before .before .before .before .before .before .before .before .before .before .before .pre .1 .1) (c .before .before .before .before .fill-numbers .ensures))  -- slice-aggregate-optimize-2
+    (λ c κs. lent _ _ (c .before .before .before .before .before .before .before .before .before .before .before .before .before .before .before .before .before .before .pre .0) (c .before .before .before .before .before .before .before .before .before .before .before .before .before .before .before .before .before .before .pre .1 .0) (c .before .before .before .before .before .before .before .before .before .before .before .before .before .before .before .before .before .before .pre .1 .1) (c .before .before .before .before .before .before .before .before .before .fill-bytes .ensures) (c .before .before .before .before .before .fill-numbers .ensures))  -- optimize-requires
     (λ c. search needs)  -- same-length
     (λ c. search needs)  -- same-length-2
     (λ c. search needs)  -- same-length-3

@@ -28,10 +28,10 @@ apply-peephole-spec =
     (λ c κs. omega (arith, c .before .before .loop .inv .behind, c .before .before .loop .inv .within, c .before .before .loop .inv .room, c .before .before .before .before .before .before .before .before .pre .0 .small))  -- narrow-requires
     (λ c. omega (arith, c .before .before .before .loop .inv .within, c .before .before .before .loop .inv .room, c .before .before .before .before .before .before .before .before .before .pre .0 .small))  -- mul-moves
     (λ c. omega (arith, c .before .before .before .loop .inv .within, c .before .before .before .loop .inv .room, c .before .before .before .loop .inv .slots, c .before .before .before .before .before .before .before .before .before .pre .0 .small))  -- slice-write-moves
-    (λ c κs. search needs)  -- zero-from-requires
-    (λ c. c .before .before .zero-from .kept .0 ∙ (c .before .before .before .before .before .before .before .before .loop) .inv .room)  -- same-length
+    (λ c κs. search needs)  -- zero-bytes-requires
+    (λ c. c .before .before .zero-bytes .kept .0 ∙ (c .before .before .before .before .before .before .before .before .loop) .inv .room)  -- same-length
     (λ c. simp length-set (c .before .before .before .before .before .before .before .before .loop .inv .slots ∙ sym (c .before .before .before .before .before .before .before .before .before .before .before .before .before .before .pre .1 .slots)))  -- same-length-2
-    (λ c. finishes (c .before .before .before .before .before .before .before .before .loop .inv) (c .before .before .before .before .before .before .decide .ensures) (c .before .before .before .before .before .narrow .ensures) (c .before .before .before .before .before .before .before .before .before .before .before .before .before .before .pre .0 .small) (c .before .before .before .before .if1 .taken) (c .before .before .zero-from .ensures))  -- returns
+    (λ c. finishes (c .before .before .before .before .before .before .before .before .loop .inv) (c .before .before .before .before .before .before .decide .ensures) (c .before .before .before .before .before .narrow .ensures) (c .before .before .before .before .before .before .before .before .before .before .before .before .before .before .pre .0 .small) (c .before .before .before .before .if1 .taken) (c .before .before .zero-bytes .ensures))  -- returns
     (λ c κs. ((c .before .before .before .before .before .loop .inv .behind, turn-within (c .before .before .before .decide .ensures) (c .before .if1 .left)), c .before .before .before .decide .ensures .fits))  -- apply-requires
     (λ c. omega (arith, turn-within (c .before .before .before .before .before .before .decide .ensures) (c .before .before .before .before .if1 .left), c .before .before .before .before .before .before .before .before .loop .inv .room, c .before .before .before .before .before .before .before .before .before .before .before .before .before .before .pre .0 .small))  -- add-at
     (λ c. omega (arith, turn-within (c .before .before .before .before .before .before .decide .ensures) (c .before .before .before .before .if1 .left), c .before .before .before .before .before .before .before .before .loop .inv .room, c .before .before .before .before .if1 .left))  -- loop-less

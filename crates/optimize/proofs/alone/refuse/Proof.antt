@@ -8,10 +8,10 @@ pub refuse-spec : {M : Type 1} → statement M
 refuse-spec =
     tie.close
     (tie.spec
-    (λ c κs. search needs)  -- zero-from-requires
-    (λ c κs. search needs)  -- zero-from-requires-2
-    (λ c κs. search needs)  -- zero-from-requires-3
+    (λ c κs. search needs)  -- zero-bytes-requires
+    (λ c κs. search needs)  -- zero-numbers-requires
+    (λ c κs. search needs)  -- zero-numbers-requires-2
     (λ c. search needs)  -- same-length
     (λ c. search needs)  -- same-length-2
     (λ c. search needs)  -- same-length-3
-    (λ c. refused _ _ (c .before .before .before .before .before .before .before .before .before .before .before .before .before .before .before .args .bytes .now) (c .before .before .before .before .before .before .before .before .before .before .before .before .before .before .before .args .offsets .now) (c .before .before .before .before .before .before .before .before .before .before .before .before .before .before .before .args .entries .now) (c .before .before .before .before .before .before .before .before .before .before .zero-from .ensures) (c .before .before .before .before .before .before .zero-from2 .ensures) (c .before .before .zero-from3 .ensures)))  -- returns
+    (λ c. refused _ _ (c .before .before .before .before .before .before .before .before .before .before .before .before .before .before .before .args .bytes .now) (c .before .before .before .before .before .before .before .before .before .before .before .before .before .before .before .args .offsets .now) (c .before .before .before .before .before .before .before .before .before .before .before .before .before .before .before .args .entries .now) (c .before .before .before .before .before .before .before .before .before .before .zero-bytes .ensures) (c .before .before .before .before .before .before .zero-numbers .ensures) (c .before .before .zero-numbers2 .ensures)))  -- returns

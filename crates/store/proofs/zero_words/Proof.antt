@@ -1,0 +1,28 @@
+-- Made by `answers` from crates/store/answers/zero_words.txt: edit that file, not this one.
+use lib.ListN.{length}
+use Prim.Native.Nat.{_-_}
+use Rattle.store.proofs.Fills.{Setting, set-begins, set-goes-on, set-ends, zero-is}
+use Rattle.store.proofs.zero_words.Statement.{statement}
+use Rattle.store.proofs.zero_words.Tie as tie
+use borrow.Author.Needs.{needs}
+
+abbrev Inv-loop : tie.InvT-loop
+Inv-loop list₀ from i₀ list i = Setting 0 list₀ from list i
+
+abbrev μ-loop : tie.MeasureT-loop
+μ-loop list₀ from i₀ list i = length list₀ - i
+
+pub zero-words-spec : {M : Type 1} → statement M
+zero-words-spec =
+    tie.close
+    (tie.spec
+    Inv-loop
+    μ-loop
+    (λ c. set-begins _ _ _)  -- loop-holds
+    (λ c. search needs)  -- mul-list
+    (λ c. search needs)  -- slice-write-list
+    (λ c. search needs)  -- add-i
+    (λ c. search needs)  -- loop-less
+    (λ c. set-goes-on _ _ _ _ _ (c .before .loop .inv) (c .loop-test .taken))  -- loop-again
+    (λ c. search needs)  -- same-length
+    (λ c. zero-is _ _ (set-ends _ _ _ _ _ (c .before .loop .inv) (c .loop-test .left))))  -- returns
