@@ -2,7 +2,7 @@
 -- in the order of the lines, is the refusal.
 use Prim.Native.Nat.{ℕ, _+_, suc, zero}
 use Prim.Native.Char.{code}
-use mathlib.Core.List.{List, [], _∷_}
+use mathlib.Core.List.{List, [], _∷_, _++_}
 use mathlib.Core.Bool.{Bool, true, false, _&&_}
 use mathlib.Core.Option.{Option, some, none}
 use lib.Dec.{eqb, leb, ltb}
@@ -75,14 +75,26 @@ faultAt c n = record { number = n; place = c .row }
 unfoldable pub num : List ℕ → ℕ → ℕ
 num ns i = getD ns i 0
 
-unfoldable pub posOf : List ℕ → Pos
-posOf ns = record { line = num ns 0; column = num ns 1 }
-
 abbrev pub any : Field
 any = upTo maxField
 
 abbrev pub signed : Field
 signed = fields.value width
+
+-- the fields of a position, wherever one stands
+unfoldable pub posFields : List Field
+posFields = any ∷ any ∷ []
+
+-- the position that numbers begin with, and the numbers behind it
+unfoldable pub posOf : List ℕ → Pos
+posOf ns = record { line = num ns 0; column = num ns 1 }
+
+unfoldable pub behindPos : List ℕ → List ℕ
+behindPos ns = drop (length posFields) ns
+
+-- a letter whose fields begin with a position
+unfoldable pub placed : {L : Type 0} → ℕ → List Field → (Pos → List ℕ → L) → Form L
+placed b fs f = form b (posFields ++ fs) (λ ns. f (posOf ns) (behindPos ns))
 
 pub record Header : Type 0 where
   pub variables : ℕ
@@ -90,9 +102,7 @@ pub record Header : Type 0 where
   pub pos : Pos
 
 unfoldable pub headerForms : List (Form Header)
-headerForms = form (code "P") (upTo maxVariables ∷ any ∷ any ∷ any ∷ [])
-    (λ ns. record { variables = num ns 0; statements = num ns 1; pos = record { line = num ns 2; column = num ns 3 } })
-    ∷ []
+headerForms = form (code "P") (upTo maxVariables ∷ any ∷ posFields) (λ ns. record { variables = num ns 0; statements = num ns 1; pos = posOf (drop 2 ns) }) ∷ []
 
 -- counts are those of statements, but for S's arms
 pub data StmtLine : Type 0 where
@@ -113,14 +123,14 @@ pub data StmtLine : Type 0 where
 
 -- the lines of a program of v variables
 unfoldable pub stmtForms : ℕ → List (Form StmtLine)
-stmtForms v = form (code "A") (any ∷ any ∷ below v ∷ []) (λ ns. A (posOf ns) (num ns 2))
-    ∷ form (code "I") (any ∷ any ∷ any ∷ any ∷ []) (λ ns. I (posOf ns) (num ns 2) (num ns 3))
-    ∷ form (code "S") (any ∷ any ∷ any ∷ any ∷ []) (λ ns. S (posOf ns) (num ns 2) (num ns 3))
-    ∷ form (code "F") (any ∷ any ∷ any ∷ below v ∷ signed ∷ any ∷ []) (λ ns. F (posOf ns) (num ns 2) (num ns 3) (num ns 4) (num ns 5))
-    ∷ form (code "L") (any ∷ any ∷ any ∷ any ∷ any ∷ []) (λ ns. L (posOf ns) (num ns 2) (num ns 3) (num ns 4))
-    ∷ form (code "X") (any ∷ any ∷ any ∷ []) (λ ns. X (posOf ns) (num ns 2))
-    ∷ form (code "N") (any ∷ any ∷ any ∷ []) (λ ns. N (posOf ns) (num ns 2))
-    ∷ form (code "R") (any ∷ any ∷ []) (λ ns. R (posOf ns))
+stmtForms v = placed (code "A") (below v ∷ []) (λ p ns. A p (num ns 0))
+    ∷ placed (code "I") (any ∷ any ∷ []) (λ p ns. I p (num ns 0) (num ns 1))
+    ∷ placed (code "S") (any ∷ any ∷ []) (λ p ns. S p (num ns 0) (num ns 1))
+    ∷ placed (code "F") (any ∷ below v ∷ signed ∷ any ∷ []) (λ p ns. F p (num ns 0) (num ns 1) (num ns 2) (num ns 3))
+    ∷ placed (code "L") (any ∷ any ∷ any ∷ []) (λ p ns. L p (num ns 0) (num ns 1) (num ns 2))
+    ∷ placed (code "X") (any ∷ []) (λ p ns. X p (num ns 0))
+    ∷ placed (code "N") (any ∷ []) (λ p ns. N p (num ns 0))
+    ∷ placed (code "R") [] (λ p ns. R p)
     ∷ []
 
 pub data ExprLine : Type 0 where
@@ -316,5 +326,5 @@ readProgram text = do
 
 -- `unfolding open-Program` names all of this module's definitions at once
 unfoldable pub open-Program : Unit {0}
-unfolding form made byLetter lineOf lineAt refusal nextLine faultAt num posOf headerForms stmtForms exprForms armForms labelForms exprOf exprBy exprAt labelBy labelsAt blockOf armBy armsAt stmtOf stmtBy stmtAt orElse faultOfExpr faultOfLabels faultOfStmt endsInLF headerOf noFault topStmts readProgram
+unfolding form made byLetter lineOf lineAt refusal nextLine faultAt num posFields posOf behindPos placed headerForms stmtForms exprForms armForms labelForms exprOf exprBy exprAt labelBy labelsAt blockOf armBy armsAt stmtOf stmtBy stmtAt orElse faultOfExpr faultOfLabels faultOfStmt endsInLF headerOf noFault topStmts readProgram
 open-Program = tt

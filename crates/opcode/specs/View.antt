@@ -11,6 +11,8 @@ use Rattle.opcode.specs.declared.UnaryOp.{UnaryOp}
 use Rattle.opcode.specs.declared.UnaryOp.the-variants as unary
 use Rattle.opcode.specs.declared.CompareOp.{CompareOp}
 use Rattle.opcode.specs.declared.CompareOp.the-variants.{Eq, Ne, Lt, Le, Gt, Ge}
+use Rattle.opcode.specs.declared.ShortCircuitOp.{ShortCircuitOp}
+use Rattle.opcode.specs.declared.ShortCircuitOp.the-variants.{AndThen, OrElse}
 use Rattle.opcode.specs.declared.Role.{Role}
 use Rattle.opcode.specs.declared.Role.the-variants.{Dup, Pop, LoadVar, StoreVar, LoadConst, LoadTrue, LoadFalse, Arithmetic, Logic, Neg, BoolNot, Compare, Jmp, JmpIfNot, CmpBr, Ret}
 use Rattle.opcode.specs.declared.Effect.{Effect}
@@ -44,6 +46,10 @@ compareView Lt = def.Lt
 compareView Le = def.Le
 compareView Gt = def.Gt
 compareView Ge = def.Ge
+
+abbrev pub shortCircuitView : ShortCircuitOp → def.ShortCircuitOp
+shortCircuitView AndThen = def.AndThen
+shortCircuitView OrElse = def.OrElse
 
 abbrev pub roleView : Role → def.Role
 roleView Dup = def.dup

@@ -39,6 +39,12 @@ pub enum CompareOp {
     Ge,
 }
 
+// AND_THEN and OR_ELSE: no roles, emission spells them with branches.
+pub enum ShortCircuitOp {
+    AndThen,
+    OrElse,
+}
+
 // The 27 roles, by class.
 pub enum Role {
     Dup,

@@ -8,16 +8,15 @@ use native.Mathlib.Omega.{arith}
 use borrow.Author.Tests.{le-leb, lt-leb, ne-eqb, eq-eqb}
 use lib.Dec.{eqb, leb}
 use lib.ListN.{length, getD}
-use Rattle.definition.specs.Limits.{maxProgram, maxNesting, wrongLines}
+use Rattle.definition.specs.Limits.{maxProgram, maxNesting, badText, wrongLines}
 use Rattle.definition.specs.Res.{Res, ok, refuse, _>>=_, _>>_, demand}
 use Rattle.definition.specs.Field.{lf}
 use Rattle.definition.specs.Tree.{Pos, Fault, Program, Block}
 use Rattle.definition.specs.Program as def
 use Rattle.definition.specs.Program.{is, not, Header, lineAt, headerForms, nextLine, stmtAt, blockOf, faultOfBlock, endsInLF, headerOf, noFault, topStmts, readProgram}
 use Rattle.program.specs.declared.Walk.{Walk}
-use Rattle.program.specs.declared.Checked.the-variants.{Refused, Accepted}
 use Rattle.program.specs.Walk.{cursorIn, standBy, stand, Walked, outcome, many, overStmt, Passed}
-use Rattle.program.specs.Check.{answer, checked, Headed}
+use Rattle.program.specs.Check.{checked, Headed}
 use Rattle.program.proofs.Laws.{block-many}
 
 -- ---- 1
@@ -34,25 +33,25 @@ ends-in-lf (b ∷ bs) h =
     rw q (last-is b bs)
 
 module _ (text : List ℕ) where
-  bad-text : leb (length text) maxProgram && endsInLF text ≡ false → Refused 1 0 ≡ checked text
-  unfolding checked readProgram demand _>>_ answer
+  bad-text : leb (length text) maxProgram && endsInLF text ≡ false → refuse badText 0 ≡ checked text
+  unfolding checked readProgram demand _>>_ _>>=_
   bad-text e = rw (checked, readProgram, e)
 
-  pub check-long : maxProgram < length text → Refused 1 0 ≡ checked text
+  pub check-long : maxProgram < length text → refuse badText 0 ≡ checked text
   check-long h = bad-text (rw (lt-leb _ _ h))
 
-  pub check-open : 0 < length text → length text ≤ maxProgram → (getD text (length text - 1) 0 ≡ lf → ⊥) → Refused 1 0 ≡ checked text
+  pub check-open : 0 < length text → length text ≤ maxProgram → (getD text (length text - 1) 0 ≡ lf → ⊥) → refuse badText 0 ≡ checked text
   check-open there short h = bad-text (rw (le-leb _ _ short, ends-in-lf text there, ne-eqb _ _ h))
 
   module _ (there : 0 < length text) (short : length text ≤ maxProgram) (last : getD text (length text - 1) 0 ≡ lf) where
     pub headed : {v n : ℕ} {p : Pos} → lineAt headerForms maxNesting text 0 ≡ is (record { variables = v; statements = n; pos = p }) → Headed text v n p
     headed e = record { there = there; short = short; ended = ends-in-lf text there ∙ eq-eqb _ _ last; header = e }
 
-    pub check-header : (n : ℕ) → lineAt headerForms maxNesting text 0 ≡ not n → Refused n 1 ≡ checked text
-    unfolding checked readProgram demand _>>_ _>>=_ headerOf answer
+    pub check-header : (n : ℕ) → lineAt headerForms maxNesting text 0 ≡ not n → refuse n 1 ≡ checked text
+    unfolding checked readProgram demand _>>_ _>>=_ headerOf
     check-header n e = rw (checked, readProgram, le-leb _ _ short, ends-in-lf text there, eq-eqb _ _ last, e)
 
-pub check-empty : (text : List ℕ) → length text ≡ 0 → Refused 1 0 ≡ checked text
+pub check-empty : (text : List ℕ) → length text ≡ 0 → refuse badText 0 ≡ checked text
 unfolding endsInLF
 check-empty [] e = bad-text [] refl
 check-empty (b ∷ bs) e = absurd (omega arith)
@@ -95,21 +94,21 @@ module _ {text : List ℕ} {v n : ℕ} {p : Pos} (h : Headed text v n p) {top : 
   unfolding standBy _>>=_
   stands = walked .did ∙ rw (passed .same, passed .is) (sym (block-many true (λ c. stmtAt maxNesting v text c) n _))
 
-  checked-is : (r : Res Program) → readProgram text ≡ r → checked text ≡ answer r (is head) (top .at)
-  unfolding checked
+  checked-is : (r : Res Program) → readProgram text ≡ r → checked text ≡ r >>= (λ p. ok (head, top .at))
+  unfolding checked headerOf _>>=_
   checked-is r e = rw (checked, e, h .header, ← passed .is)
 
-  pub check-faulty : (w .refused ≡ 0 → ⊥) → Refused (w .refused) (w .row) ≡ checked text
-  unfolding answer
+  pub check-faulty : (w .refused ≡ 0 → ⊥) → refuse (w .refused) (w .row) ≡ checked text
+  unfolding _>>=_
   check-faulty z = sym (checked-is _ (read-is ∙ behind-refused _ _ _ _ _ _ stands z))
 
   on : w .refused ≡ 0 → standBy 0 (cursorIn w) ≡ outcome true (faultOfBlock (body .0)) (body .1)
   on z = rw z at stands
 
-  pub check-left-over : w .refused ≡ 0 → w .at < length text → Refused wrongLines (w .row) ≡ checked text
-  unfolding answer demand _>>_
+  pub check-left-over : w .refused ≡ 0 → w .at < length text → refuse wrongLines (w .row) ≡ checked text
+  unfolding _>>=_ demand _>>_
   check-left-over z less = sym (checked-is (refuse wrongLines (w .row)) (read-is ∙ behind-on _ _ _ _ _ (on z) ∙ rw (lt-leb _ _ less)))
 
-  pub check-fine : w .refused ≡ 0 → length text ≤ w .at → Accepted v n (record { line = p .line; column = p .column }) (top .at) ≡ checked text
-  unfolding answer demand _>>_
+  pub check-fine : w .refused ≡ 0 → length text ≤ w .at → ok (head, top .at) ≡ checked text
+  unfolding _>>=_ demand _>>_
   check-fine z all = sym (checked-is (ok (record { pos = p; body = body .0 })) (read-is ∙ behind-on _ _ _ _ _ (on z) ∙ rw (le-leb _ _ all)))

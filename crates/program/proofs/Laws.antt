@@ -16,10 +16,11 @@ use Rattle.definition.specs.Tree.{Fault, Expr, bad, Stmt, badStmt, Arms, CaseLa
 use Rattle.definition.specs.Program as def
 use Rattle.definition.specs.Program.{Form, Line, is, not, made, byLetter, lineOf, lineAt, refusal, Reader, A, I, S, F, L, X, N, R, K, B, D, O, U, C, H, M, StmtLine, ExprLine, ArmLine, nextLine, faultAt, exprForms, stmtForms, armForms, labelForms, exprOf, exprBy, exprAt, labelBy, labelsAt, blockOf, armBy, armsAt, stmtOf, stmtBy, stmtAt, orElse, faultOfExpr, faultOfLabels, faultOfStmt, faultOfBlock, faultOfArms}
 use Rattle.field.specs.View.{Ends}
+use Rattle.program.specs.declared.Cursor.{Cursor}
 use Rattle.program.specs.declared.Walk.{Walk}
 use Rattle.program.specs.declared.Parts.{Parts}
 use Rattle.program.specs.declared.Operands.{Operands}
-use Rattle.program.specs.Walk.{cursorIn, standBy, stand, Near, Walked, outcome, went, many, overExpr, overStmt, faultOfLabel, overLabel, armWith, overArm, partsOf, operandsOf, failed, Passed}
+use Rattle.program.specs.Walk.{cursorOf, cursorIn, standBy, stand, Near, Skipped, linesOn, Counted, Walked, outcome, went, many, overExpr, overStmt, faultOfLabel, overLabel, armWith, overArm, partsOf, operandsOf, failed, Passed}
 
 -- ---- answers in a row
 
@@ -223,16 +224,44 @@ module _ (left v : ℕ) (text : List ℕ) (c : def.Cursor) where
       go zero e = absurd (let h = line-there (stmtForms v) 0 text (c .at) l e in omega arith)
       go (suc k) e = rw (sub-one, stmtAt, e)
 
+-- ---- lines counted
+
+module _ (text : List ℕ) where
+  lines-row : (n : ℕ) (c : def.Cursor) → linesOn text n c .row ≡ c .row + n
+  unfolding linesOn nextLine
+  lines-row zero c = omega arith
+  lines-row (suc n) c = omega (arith, lines-row n (nextLine text c))
+
+  lines-add : (n m k : ℕ) → n + m ≡ k → (c : def.Cursor) → linesOn text m (linesOn text n c) ≡ linesOn text k c
+  unfolding linesOn
+  lines-add zero m k e c = let z : k ≡ m = omega arith in rw z
+  lines-add (suc n) m zero e c = absurd (omega arith)
+  lines-add (suc n) m (suc k) e c = lines-add n m k (omega arith) (nextLine text c)
+
+  here : (c : def.Cursor) → Counted text c c
+  unfolding linesOn
+  here c = let z : c .row - c .row ≡ 0 = omega arith in record { is = rw z }
+
+  line-on : (c : def.Cursor) → Counted text c (nextLine text c)
+  unfolding linesOn nextLine
+  line-on c = let z : c .row + 1 - c .row ≡ 1 = omega arith in record { is = rw z }
+
+counted-then : {text : List ℕ} {c d e : def.Cursor} → Counted text c d → Counted text d e → Counted text c e
+counted-then {text} {c} {d} {e} a b =
+    let p : d .row ≡ c .row + (d .row - c .row) = ap (λ (x : def.Cursor). x .row) (a .is) ∙ lines-row text _ c in
+    let q : e .row ≡ d .row + (e .row - d .row) = ap (λ (x : def.Cursor). x .row) (b .is) ∙ lines-row text _ d in
+    record { is = b .is ∙ ap (linesOn text (e .row - d .row)) (a .is) ∙ lines-add text (d .row - c .row) (e .row - d .row) (e .row - c .row) (omega (arith, p, q)) c }
+
 -- ---- what the walk has done
 
 pub walked-then : {f g : def.Cursor → Res def.Cursor} {text : List ℕ} {w v u : Walk} → Walked f text w v → Walked g text v u → Walked (λ c. f c >>= g) text w u
-walked-then {f} {g} {w = w} a b = record { near = b .near; did = b .did ∙ ap (λ (m : Res def.Cursor). m >>= g) (a .did) ∙ bind-assoc (stand w) f g }
+walked-then {f} {g} {w = w} a b = record { near = b .near; did = b .did ∙ ap (λ (m : Res def.Cursor). m >>= g) (a .did) ∙ bind-assoc (stand w) f g; lines = counted-then (a .lines) (b .lines) }
 
 module _ {text : List ℕ} {w : Walk} (near : Near text (w .at) (w .row)) where
   -- it was refused before
   pub stays-refused : (f : def.Cursor → Res def.Cursor) → (w .refused ≡ 0 → ⊥) → Walked f text w w
   unfolding standBy _>>=_
-  stays-refused f h = record { near = near; did = go (w .refused) h }
+  stays-refused f h = record { near = near; did = go (w .refused) h; lines = here text (cursorIn w) }
     where
       go : (n : ℕ) → (n ≡ 0 → ⊥) → standBy n (cursorIn w) ≡ standBy n (cursorIn w) >>= f
       go zero h = absurd (h refl)
@@ -244,14 +273,16 @@ module _ {text : List ℕ} {w : Walk} (near : Near text (w .at) (w .row)) where
         → Walked f text w (failed heed w n)
     unfolding standBy _>>=_ failed outcome faultAt
     fails f true zero e h = absurd (h refl)
-    fails f true (suc n) e h = record { near = near; did = rw (on) (sym e) }
-    fails f false n e h = record { near = near; did = rw (on) (sym e) }
+    fails f true (suc n) e h = record { near = near; did = rw (on) (sym e); lines = here text (cursorIn w) }
+    fails f false n e h = record { near = near; did = rw (on) (sym e); lines = here text (cursorIn w) }
 
 -- it went over a line, and on
 goes-over : {text : List ℕ} {w : Walk} → w .refused ≡ 0 → {f g : def.Cursor → Res def.Cursor} {v u : Walk} → Passed text w v → Walked g text v u
     → f (cursorIn w) ≡ g (nextLine text (cursorIn w)) → Walked f text w u
 unfolding standBy _>>=_
-goes-over on p d e = record { near = d .near; did = d .did ∙ rw (p .same, on, p .is) (sym e) }
+goes-over {text} {w} on {v = v} p d e =
+    let one : Counted text (cursorIn w) (cursorIn v) = rw (p .is) (line-on text (cursorIn w)) in
+    record { near = d .near; did = d .did ∙ rw (p .same, on, p .is) (sym e); lines = counted-then one (d .lines) }
 
 -- ---- one line, and what follows it
 
@@ -343,16 +374,17 @@ unfolding armWith
 arm-fails heed left v on near n e = fails near on _ heed n (rw e) (line-some armForms left _ _ n e)
 
 pub walked-none : {text : List ℕ} {w : Walk} → Near text (w .at) (w .row) → Walked (λ c. ok c) text w w
-walked-none {w = w} near = record { near = near; did = sym (bind-ok (stand w)) }
+walked-none {text} {w} near = record { near = near; did = sym (bind-ok (stand w)); lines = here text (cursorIn w) }
 
 -- ---- so many parts: what is left to go over
 
 pub record Going (n : ℕ) (f : def.Cursor → Res def.Cursor) (text : List ℕ) (w₀ w : Walk) (more : ℕ) : Type 0 where
   pub near : Near text (w .at) (w .row)
   pub left : stand w >>= many more f ≡ stand w₀ >>= many n f
+  pub lines : Counted text (cursorIn w₀) (cursorIn w)
 
 pub begins : (n : ℕ) (f : def.Cursor → Res def.Cursor) {text : List ℕ} {w : Walk} → Near text (w .at) (w .row) → Going n f text w w n
-begins n f near = record { near = near; left = refl }
+begins n f {text} {w} near = record { near = near; left = refl; lines = here text (cursorIn w) }
 
 many-more : (f : def.Cursor → Res def.Cursor) (k : ℕ) → 0 < k → (c : def.Cursor) → many k f c ≡ f c >>= (λ d. many (k - 1) f d)
 unfolding many
@@ -364,24 +396,27 @@ module _ {n : ℕ} {f : def.Cursor → Res def.Cursor} {text : List ℕ} {w₀ w
   goes-on d h = record {
     near = d .near;
     left = rw (d .did) (bind-assoc (stand w) f (many (more - 1) f)) ∙ ap (λ (k : def.Cursor → Res def.Cursor). stand w >>= k) (fun-ext (λ c. sym (many-more f more h c))) ∙ g .left;
+    lines = counted-then (g .lines) (d .lines);
   }
 
   pub ends : more ≤ 0 → Walked (many n f) text w₀ w
   unfolding many
   ends h =
       let z : more ≡ 0 = omega arith in
-      record { near = g .near; did = sym (bind-ok (stand w)) ∙ rw z at (g .left) }
+      record { near = g .near; did = sym (bind-ok (stand w)) ∙ rw z at (g .left); lines = g .lines }
 
   pub breaks : (w .refused ≡ 0 → ⊥) → Walked (many n f) text w₀ w
-  breaks h = record { near = g .near; did = stays-refused (g .near) (many more f) h .did ∙ g .left }
+  breaks h = record { near = g .near; did = stays-refused (g .near) (many more f) h .did ∙ g .left; lines = g .lines }
 
 -- ---- over a line
 
-pub passes : {text : List ℕ} {w : Walk} {end : ℕ} → Ends firstLine text (w .at) end → Near text (w .at) (w .row) → w .at < length text
-    → Passed text w (record { at = end + 1; row = w .row + 1; refused = w .refused })
+pub next-is : {text : List ℕ} {c : Cursor} {end : ℕ} → Ends firstLine text (c .at) end → Near text (c .at) (c .row) → c .at < length text
+    → Skipped text (nextLine text (cursorOf c)) (record { at = end + 1; row = c .row + 1 })
 unfolding nextLine
-passes {text} {w} {end} e near h = record {
-  near = record { short = near .short; within = omega (arith, e .high); rows = omega (arith, near .rows, e .low) };
+next-is e near h = record {
   is = rw (← e .is);
-  same = refl;
+  near = record { short = near .short; within = omega (arith, e .high); rows = omega (arith, near .rows, e .low) };
 }
+
+pub passes : {text : List ℕ} {w : Walk} {c : Cursor} → Skipped text (nextLine text (cursorIn w)) c → Passed text w (record { at = c .at; row = c .row; refused = w .refused })
+passes s = record { near = s .near; is = s .is; same = refl }

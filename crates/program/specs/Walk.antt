@@ -1,5 +1,5 @@
 -- The walk over a program's lines: where it stands, and what it has gone over.
-use Prim.Native.Nat.{ℕ, zero, suc, _+_, _≤_}
+use Prim.Native.Nat.{ℕ, zero, suc, _+_, _-_, _≤_}
 use mathlib.Core.Path.{_≡_}
 use mathlib.Core.List.{List, [], _∷_}
 use mathlib.Core.Bool.{Bool, true, false}
@@ -18,6 +18,9 @@ use Rattle.program.specs.declared.Operands.{Operands}
 abbrev pub cursorOf : Cursor → def.Cursor
 cursorOf c = record { at = c .at; row = c .row }
 
+abbrev pub placeOf : def.Cursor → Cursor
+placeOf c = record { at = c .at; row = c .row }
+
 abbrev pub cursorIn : Walk → def.Cursor
 cursorIn w = record { at = w .at; row = w .row }
 
@@ -35,9 +38,24 @@ pub record Near (text : List ℕ) (at row : ℕ) : Type 0 where
   pub within : at ≤ length text + 1
   pub rows : row ≤ at + 1
 
+-- a place that was gone to
+pub record Skipped (text : List ℕ) (d : def.Cursor) (r : Cursor) : Type 0 where
+  pub is : cursorOf r ≡ d
+  pub near : Near text (r .at) (r .row)
+
+unfoldable pub linesOn : List ℕ → ℕ → def.Cursor → def.Cursor
+linesOn text zero c = c
+linesOn text (suc n) c = linesOn text n (nextLine text c)
+
+-- the place d is as many lines on from c as its line number says, so its byte follows from that number
+pub record Counted (text : List ℕ) (c d : def.Cursor) : Type 0 where
+  pub is : d ≡ linesOn text (d .row - c .row) c
+
+-- what a walk has done: `did` gives its refusal and its line, and where it goes on; after a refusal too its byte is that of its line
 pub record Walked (f : def.Cursor → Res def.Cursor) (text : List ℕ) (w v : Walk) : Type 0 where
   pub near : Near text (v .at) (v .row)
   pub did : stand v ≡ stand w >>= f
+  pub lines : Counted text (cursorIn w) (cursorIn v)
 
 -- ---- what is gone over
 

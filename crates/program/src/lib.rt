@@ -3,18 +3,19 @@ ghost use mathlib.Core.Path.{_≡_};
 ghost use Prim.Native.Nat.{_<_};
 ghost use lib.ListN.{length};
 ghost use Rattle.definition.specs.Program.{nextLine};
-ghost use Rattle.program_line.specs.View.{posView, stmtLine, exprLine};
-ghost use Rattle.program.specs.Walk.{stand, cursorIn, Near, Walked, many, overExpr, overStmt, overLabel, overArm, partsOf, operandsOf, blocks, failed, Passed};
-ghost use Rattle.program.specs.Check.{checked, Headed};
+ghost use Rattle.line_map.specs.View.{posView};
+ghost use Rattle.program_line.specs.View.{stmtLine, exprLine};
+ghost use Rattle.program.specs.Walk.{cursorOf, Near, Skipped, Walked, many, overExpr, overStmt, overLabel, overArm, partsOf, operandsOf, blocks, failed, Passed};
+ghost use Rattle.program.specs.Check.{checkedView, checked, Headed};
 use definition::BAD_TEXT;
 use definition::MAX_NESTING;
 use definition::MAX_PROGRAM;
 use definition::WRONG_LINES;
+use line_map::Pos;
 use program_line::ArmLine;
 use program_line::ExprLine;
 use program_line::HeaderLine;
 use program_line::LabelLine;
-use program_line::Pos;
 use program_line::StmtLine;
 
 // A place in the text: the byte where a line starts, and its number.
@@ -140,17 +141,36 @@ fn fail(w: Walk, heed: bool, n: u8) -> Walk
     w
 }
 
+// The place of the next line, where there is one here.
+pub fn next_line(text: &[u8], c: Cursor) -> Cursor
+    requires { ⌜ Near (now text) (c .at) (c .row) ⌝ }
+    requires { ⌜ c .at < length (now text) ⌝ }
+    ensures { λ r. ⌜ Skipped (now (text .entry)) (nextLine (now (text .entry)) (cursorOf c)) r ⌝ }
+{
+    let at = c.at;
+    let end = field::line_end(text, at);
+    Cursor {
+        at: end + 1,
+        row: c.row + 1,
+    }
+}
+
 // Over a line that is there.
-fn next_line(text: &[u8], w: Walk) -> Walk
+fn pass_line(text: &[u8], w: Walk) -> Walk
     requires { ⌜ Near (now text) (w .at) (w .row) ⌝ }
     requires { ⌜ w .at < length (now text) ⌝ }
     ensures { λ r. ⌜ Passed (now (text .entry)) w r ⌝ }
 {
-    let at = w.at;
-    let end = field::line_end(text, at);
+    let c = next_line(
+        text,
+        Cursor {
+            at: w.at,
+            row: w.row,
+        },
+    );
     Walk {
-        at: end + 1,
-        row: w.row + 1,
+        at: c.at,
+        row: c.row,
         refused: w.refused,
     }
 }
@@ -186,7 +206,7 @@ pub fn walk_expr(text: &[u8], variables: u16, heed: bool, left: usize, w: Walk) 
         return fail(w, heed, p.bad);
     }
     let count = p.count;
-    let next = next_line(text, w);
+    let next = pass_line(text, w);
     walk_exprs(text, variables, heed, left - 1, count, next)
 }
 
@@ -202,8 +222,8 @@ fn walk_label(text: &[u8], heed: bool, left: usize, w: Walk) -> Walk
     let line = program_line::read_label(text, left, at);
     match line {
         LabelLine::Bad(n) => fail(w, heed, n),
-        LabelLine::Value(_) => next_line(text, w),
-        LabelLine::Range(_, _) => next_line(text, w),
+        LabelLine::Value(_) => pass_line(text, w),
+        LabelLine::Range(_, _) => pass_line(text, w),
     }
 }
 
@@ -254,7 +274,7 @@ pub fn walk_arm(text: &[u8], variables: u16, heed: bool, left: usize, w: Walk) -
     match line {
         ArmLine::Bad(n) => fail(w, heed, n),
         ArmLine::Arm { labels, statements } => {
-            let next = next_line(text, w);
+            let next = pass_line(text, w);
             let a = walk_labels(text, heed, left, labels as usize, next);
             walk_stmts(text, variables, heed, left, statements as usize, a)
         }
@@ -291,7 +311,7 @@ pub fn walk_stmt(text: &[u8], variables: u16, heed: bool, left: usize, w: Walk) 
     if p.bad != 0 {
         return fail(w, heed, p.bad);
     }
-    let next = next_line(text, w);
+    let next = pass_line(text, w);
     let l = left - 1;
     let a = walk_exprs(text, variables, heed, l, p.exprs, next);
     let b = walk_arms(text, variables, heed, l, p.arms, a);
@@ -302,14 +322,14 @@ pub fn walk_stmt(text: &[u8], variables: u16, heed: bool, left: usize, w: Walk) 
 // The lines behind an accepted header, the top statements at nesting level 1.
 fn check_body(text: &[u8], variables: u16, statements: u16, pos: Pos) -> Checked
     requires { ⌜ Headed (now text) variables statements (posView pos) ⌝ }
-    ensures { λ r. ⌜ r ≡ checked (now (text .entry)) ⌝ }
+    ensures { λ r. ⌜ checkedView r ≡ checked (now (text .entry)) ⌝ }
 {
     let first = Walk {
         at: 0,
         row: 1,
         refused: 0,
     };
-    let top = next_line(text, first);
+    let top = pass_line(text, first);
     let next = top.at;
     let w = walk_stmts(text, variables, true, MAX_NESTING, statements as usize, top);
     if w.refused != 0 {
@@ -334,7 +354,7 @@ fn check_body(text: &[u8], variables: u16, statements: u16, pos: Pos) -> Checked
 
 // The check of any text.
 pub fn check_program(text: &[u8]) -> Checked
-    ensures { λ r. ⌜ r ≡ checked (now (text .entry)) ⌝ }
+    ensures { λ r. ⌜ checkedView r ≡ checked (now (text .entry)) ⌝ }
 {
     let n = text.len();
     if n == 0 {

@@ -2,7 +2,7 @@
 use mathlib.Core.Path.{_≡_, refl, ap, sym, _∙_}
 use mathlib.Core.Bool.{Bool, true, false}
 use mathlib.Core.Option.{Option, some, none}
-use mathlib.Core.List.{List, [], _∷_}
+use mathlib.Core.List.{List, [], _∷_, _++_}
 use Prim.Native.Nat.{ℕ, zero, suc, _-_, _≤_, _<_}
 use native.Mathlib.Nat.{sub-zero}
 use native.Mathlib.Omega.{arith}
@@ -12,46 +12,46 @@ use lib.ListN.{length, getD, take, drop}
 use Rattle.definition.specs.Limits.{maxField, badForm, badRange, tooDeep, wrongLines}
 use Rattle.definition.specs.Field as def
 use Rattle.definition.specs.Field.{comma, split, firstLine, Field, upTo, below, value, Read, malformed, outside, field, natural, naturalWithin, within, Numbers, wrong, far, are, andThese, numbers}
-use Rattle.definition.specs.Program.{Form as LetterForm, is, not, made, byLetter, lineOf, lineAt}
+use Rattle.definition.specs.Program.{Form, is, not, made, byLetter, lineOf, lineAt, posFields}
 use Rattle.field.specs.View.{before, Ends}
 use Rattle.field.proofs.Parts.{parts-last, parts-more, line-is, Some, some-part, split-some}
-use Rattle.program_line.specs.declared.Pos.{Pos}
-use Rattle.program_line.specs.declared.Form.{Form}
-use Rattle.program_line.specs.declared.Form.the-variants.{Good, Far, Wrong}
+use Rattle.line_map.specs.declared.Pos.{Pos}
+use Rattle.program_line.specs.declared.Verdict.{Verdict}
+use Rattle.program_line.specs.declared.Verdict.the-variants.{Good, Far, Wrong}
 use Rattle.program_line.specs.declared.Scan.{Scan}
-use Rattle.program_line.specs.Scan.{restFrom, rest, behindIf, behind, farther, worse, numberIn, held, push, left, Bounded, Took, TookPos, Fresh, letterOf, behindLetter, Opened, refusalIf, refusalAt}
+use Rattle.program_line.specs.Scan.{restFrom, rest, behindIf, behind, farther, worse, numberIn, held, push, pushAll, left, Bounded, Took, posNumbers, TookPos, Fresh, letterOf, behindLetter, Opened, refusalIf, refusalAt}
 
 -- ---- one field
 
 -- the fields from a place on: the one that ends at `end`, and those behind it
-module _ {line : List ℕ} {at end : ℕ} (e : Ends (before comma) line at end) (form : Form) where
-  pub field-and-rest : split comma (drop at line) ≡ take (end - at) (drop at line) ∷ rest line (behind line end form)
+module _ {line : List ℕ} {at end : ℕ} (e : Ends (before comma) line at end) (v : Verdict) where
+  pub field-and-rest : split comma (drop at line) ≡ take (end - at) (drop at line) ∷ rest line (behind line end v)
   unfolding behindIf restFrom
   field-and-rest = go (ltb end (length line)) refl
     where
       go : (b : Bool) → ltb end (length line) ≡ b
-          → split comma (drop at line) ≡ take (end - at) (drop at line) ∷ restFrom (behindIf b end form .more) (behindIf b end form .at) line
+          → split comma (drop at line) ≡ take (end - at) (drop at line) ∷ restFrom (behindIf b end v .more) (behindIf b end v .at) line
       go true h = parts-more comma e (ltb-true _ _ h)
       go false h = parts-last comma e (ltb-false _ _ h)
 
-  pub behind-within : at ≤ length line → behind line end form .at ≤ length line
+  pub behind-within : at ≤ length line → behind line end v .at ≤ length line
   unfolding behindIf
   behind-within low = go (ltb end (length line)) refl
     where
-      go : (b : Bool) → ltb end (length line) ≡ b → behindIf b end form .at ≤ length line
+      go : (b : Bool) → ltb end (length line) ≡ b → behindIf b end v .at ≤ length line
       go true h = omega (arith, ltb-true end (length line) h)
       go false h = omega (arith, e .high)
 
-  behind-form : behind line end form .form ≡ form
+  behind-verdict : behind line end v .verdict ≡ v
   unfolding behindIf
-  behind-form = go (ltb end (length line))
+  behind-verdict = go (ltb end (length line))
     where
-      go : (b : Bool) → behindIf b end form .form ≡ form
+      go : (b : Bool) → behindIf b end v .verdict ≡ v
       go true = refl
       go false = refl
 
 -- what one number does to those behind it
-held-these : (form : Form) (r : Read) (x : Numbers) → held form (andThese r x) ≡ push (numberIn r) (held (worse form r) x)
+held-these : (v : Verdict) (r : Read) (x : Numbers) → held v (andThese r x) ≡ push (numberIn r) (held (worse v r) x)
 unfolding held andThese push numberIn worse farther
 held-these Good malformed x = refl
 held-these Far malformed x = refl
@@ -71,7 +71,7 @@ held-these Far (def.is n) far = refl
 held-these Far (def.is n) (are ns) = refl
 held-these Wrong (def.is n) x = refl
 
-held-wrong : (form : Form) → held form wrong ≡ wrong
+held-wrong : (v : Verdict) → held v wrong ≡ wrong
 unfolding held
 held-wrong Good = refl
 held-wrong Far = refl
@@ -99,19 +99,20 @@ zero-bounded (value w) = tt
 
 module _ {line : List ℕ} {s : Scan} (f : Field) (low : s .at ≤ length line) where
   pub took : {end : ℕ} (r : Read) → Ends (before comma) line (s .at) end → s .more ≡ true → r ≡ field f (take (end - s .at) (drop (s .at) line))
-      → Took f line s (numberIn r) (behind line end (worse (s .form) r))
+      → Took f line s (numberIn r) (behind line end (worse (s .verdict) r))
   unfolding restFrom numbers
   took {end} r e more is-r = record {
-    is = λ fs. rw (more, field-and-rest e (worse (s .form) r), ← is-r, held-these, behind-form e (worse (s .form) r));
-    within = behind-within e (worse (s .form) r) low;
+    is = λ fs. rw (more, field-and-rest e (worse (s .verdict) r), ← is-r, held-these, behind-verdict e (worse (s .verdict) r));
+    within = behind-within e (worse (s .verdict) r) low;
     bound = rw is-r (bounded f _);
   }
 
-  pub took-none : s .more ≡ false → Took f line s 0 (record { at = s .at; more = false; form = Wrong })
+  pub took-none : s .more ≡ false → Took f line s 0 (record { at = s .at; more = false; verdict = Wrong })
   unfolding restFrom numbers held push
   took-none more = record { is = λ fs. rw (more, held-wrong); within = low; bound = zero-bounded f }
 
 pub took-position : {line : List ℕ} {s t u : Scan} {p : Pos} → Took (upTo maxField) line s (p .line) t → Took (upTo maxField) line t (p .column) u → TookPos line s p u
+unfolding posFields pushAll
 took-position {p = p} a b = record { is = λ fs. a .is _ ∙ ap (push (p .line)) (b .is fs); within = b .within }
 
 -- ---- a line
@@ -130,15 +131,15 @@ numbers-over : {xs : List (List ℕ)} → Some xs → numbers [] xs ≡ wrong
 unfolding numbers
 numbers-over some-part = refl
 
-ended-at : (line : List ℕ) (at : ℕ) (more : Bool) (form : Form) → Ended line [] (record { at = at; more = more; form = form }) (refusalIf more form) []
+ended-at : (line : List ℕ) (at : ℕ) (more : Bool) (v : Verdict) → Ended line [] (record { at = at; more = more; verdict = v }) (refusalIf more v) []
 unfolding held numbers restFrom refusalIf refused
-ended-at line at true form = record { good = λ h. absurd (omega arith); bad = λ h. rw (numbers-over (split-some comma (drop at line)), held-wrong form) }
+ended-at line at true v = record { good = λ h. absurd (omega arith); bad = λ h. rw (numbers-over (split-some comma (drop at line)), held-wrong v) }
 ended-at line at false Good = record { good = λ h. refl; bad = λ h. absurd (h refl) }
 ended-at line at false Far = record { good = λ h. absurd (omega arith); bad = λ h. refl }
 ended-at line at false Wrong = record { good = λ h. absurd (omega arith); bad = λ h. refl }
 
 pub ended : {line : List ℕ} {s : Scan} {r : ℕ} → r ≡ refusalAt s → Ended line [] s r []
-ended {line} {s} e = rw e (ended-at line (s .at) (s .more) (s .form))
+ended {line} {s} e = rw e (ended-at line (s .at) (s .more) (s .verdict))
 
 refused-push : (n : ℕ) (x : Numbers) → refused (push n x) ≡ refused x
 unfolding refused push
@@ -146,17 +147,26 @@ refused-push n wrong = refl
 refused-push n far = refl
 refused-push n (are ns) = refl
 
+refused-all : (ns : List ℕ) (x : Numbers) → refused (pushAll ns x) ≡ refused x
+unfolding pushAll
+refused-all [] x = refl
+refused-all (n ∷ ns) x = refused-push n (pushAll ns x) ∙ refused-all ns x
+
+push-all : (ms ns : List ℕ) → pushAll ms (are ns) ≡ are (ms ++ ns)
+unfolding pushAll push
+push-all [] ns = refl
+push-all (m ∷ ms) ns = rw (push-all ms ns)
+
 module _ {line : List ℕ} {s t : Scan} {r : ℕ} {fs : List Field} {ns : List ℕ} where
   pub ended-number : {f : Field} {n : ℕ} → Took f line s n t → Ended line fs t r ns → Ended line (f ∷ fs) s r (n ∷ ns)
   unfolding push
   ended-number {n = n} a e = record { good = λ h. rw (a .is fs, e .good h); bad = λ h. rw (a .is fs, refused-push) (e .bad h) }
 
-  pub ended-position : {p : Pos} → TookPos line s p t → Ended line fs t r ns → Ended line (upTo maxField ∷ upTo maxField ∷ fs) s r (p .line ∷ p .column ∷ ns)
-  unfolding push
-  ended-position {p = p} a e = record { good = λ h. rw (a .is fs, e .good h); bad = λ h. rw (a .is fs, refused-push, refused-push) (e .bad h) }
+  pub ended-position : {p : Pos} → TookPos line s p t → Ended line fs t r ns → Ended line (posFields ++ fs) s r (posNumbers p ++ ns)
+  ended-position {p = p} a e = record { good = λ h. rw (a .is fs, e .good h) (push-all (posNumbers p) ns); bad = λ h. rw (a .is fs, refused-all (posNumbers p)) (e .bad h) }
 
 -- what a letter makes of the numbers of its fields
-pub record Fits {L : Type 0} (forms : List (LetterForm L)) (letter : ℕ) (fields : List Field) (make : List ℕ → L) : Type 0 where
+pub record Fits {L : Type 0} (forms : List (Form L)) (letter : ℕ) (fields : List Field) (make : List ℕ → L) : Type 0 where
   pub is : (fs : List (List ℕ)) → byLetter forms letter fs ≡ made make (numbers fields fs)
 
 made-bad : {L : Type 0} (make : List ℕ → L) (x : Numbers) (r : ℕ) → refused x ≡ r → (r ≡ 0 → ⊥) → not r ≡ made make x
@@ -165,7 +175,7 @@ made-bad make wrong r e h = rw e
 made-bad make far r e h = rw e
 made-bad make (are ns) r e h = absurd (h (sym e))
 
-module _ {L : Type 0} (forms : List (LetterForm L)) (letter : ℕ) {fields : List Field} {make : List ℕ → L}
+module _ {L : Type 0} (forms : List (Form L)) (letter : ℕ) {fields : List Field} {make : List ℕ → L}
     {line : List ℕ} {s : Scan} (fresh : Fresh line s) {r : ℕ} {ns : List ℕ} (e : Ended line fields s r ns) (fit : Fits forms letter fields make) where
   made-of : made make (left line fields s) ≡ byLetter forms letter (rest line s)
   unfolding held
@@ -181,10 +191,10 @@ module _ {L : Type 0} (forms : List (LetterForm L)) (letter : ℕ) {fields : Lis
 -- ---- the line at a place
 
 -- no letter is 0
-pub record Lettered {L : Type 0} (forms : List (LetterForm L)) : Type 0 where
+pub record Lettered {L : Type 0} (forms : List (Form L)) : Type 0 where
   pub none : (fs : List (List ℕ)) → byLetter forms 0 fs ≡ not badForm
 
-line-by : {L : Type 0} {forms : List (LetterForm L)} → Lettered forms → (fs : List (List ℕ)) → lineOf forms fs ≡ byLetter forms (letterOf fs) (behindLetter fs)
+line-by : {L : Type 0} {forms : List (Form L)} → Lettered forms → (fs : List (List ℕ)) → lineOf forms fs ≡ byLetter forms (letterOf fs) (behindLetter fs)
 unfolding lineOf letterOf behindLetter
 line-by h [] = sym (h .none [])
 line-by h ([] ∷ fs) = sym (h .none fs)
@@ -192,24 +202,24 @@ line-by h ((b ∷ []) ∷ fs) = refl
 line-by h ((b ∷ c ∷ bs) ∷ fs) = sym (h .none fs)
 
 -- a byte that is no letter of theirs
-abbrev pub Differ : {L : Type 0} → List (LetterForm L) → ℕ → Type 0
+abbrev pub Differ : {L : Type 0} → List (Form L) → ℕ → Type 0
 Differ [] b = Unit {0}
 Differ (x ∷ xs) b = (b ≡ x .letter → ⊥) × Differ xs b
 
-differ : {L : Type 0} (forms : List (LetterForm L)) (b : ℕ) → Differ forms b → (fs : List (List ℕ)) → byLetter forms b fs ≡ not badForm
+differ : {L : Type 0} (forms : List (Form L)) (b : ℕ) → Differ forms b → (fs : List (List ℕ)) → byLetter forms b fs ≡ not badForm
 unfolding byLetter
 differ [] b h fs = refl
 differ (x ∷ xs) b h fs = rw (byLetter, ne-eqb (x .letter) b (λ e. h .0 (sym e))) (differ xs b (h .1) fs)
 
 module _ {L : Type 0} where
-  module _ (forms : List (LetterForm L)) (h : Lettered forms) {line : List ℕ} {b : ℕ} {s : Scan} (o : Opened line b s) where
+  module _ (forms : List (Form L)) (h : Lettered forms) {line : List ℕ} {b : ℕ} {s : Scan} (o : Opened line b s) where
     pub by-letter : (k : ℕ) → b ≡ k → byLetter forms k (rest line s) ≡ lineOf forms (split comma line)
     by-letter k e = rw (← e, o .is, o .others) (sym (line-by h (split comma line)))
 
     pub no-letter : Differ forms b → not badForm ≡ lineOf forms (split comma line)
     no-letter d = sym (differ forms b d (rest line s)) ∙ by-letter b refl
 
-  module _ (forms : List (LetterForm L)) (depth : ℕ) (text : List ℕ) (at : ℕ) where
+  module _ (forms : List (Form L)) (depth : ℕ) (text : List ℕ) (at : ℕ) where
     pub line-missing : length text ≤ at → not wrongLines ≡ lineAt forms depth text at
     unfolding lineAt
     line-missing h = rw (lineAt, le-ltb _ _ h)
@@ -245,7 +255,7 @@ module _ {line : List ℕ} {end : ℕ} (e : Ends (before comma) line 0 end) wher
   opened b h = record {
     is = rw fields-are h;
     others = rw fields-are;
-    fresh = record { good = behind-form e Good; within = behind-within e Good (omega arith) };
+    fresh = record { good = behind-verdict e Good; within = behind-within e Good (omega arith) };
   }
 
   pub opened-one : end ≡ 1 → Opened line (getD line 0 0) (behind line end Good)

@@ -1,16 +1,17 @@
 -- The fields behind a line's letter, as they are read one by one.
 use Prim.Native.Nat.{ℕ, _+_, _≤_}
 use mathlib.Core.Path.{_≡_}
-use mathlib.Core.List.{List, [], _∷_}
+use mathlib.Core.List.{List, [], _∷_, _++_}
 use mathlib.Core.Bool.{Bool, true, false}
 use lib.Dec.{ltb}
 use lib.ListN.{length, drop}
-use Rattle.definition.specs.Limits.{width, maxField, badForm, badRange}
+use Rattle.definition.specs.Limits.{width, badForm, badRange}
 use Rattle.definition.specs.Field as def
 use Rattle.definition.specs.Field.{comma, split, Field, Read, malformed, outside, Numbers, wrong, far, are, numbers}
-use Rattle.program_line.specs.declared.Pos.{Pos}
-use Rattle.program_line.specs.declared.Form.{Form}
-use Rattle.program_line.specs.declared.Form.the-variants.{Good, Far, Wrong}
+use Rattle.definition.specs.Program.{posFields}
+use Rattle.line_map.specs.declared.Pos.{Pos}
+use Rattle.program_line.specs.declared.Verdict.{Verdict}
+use Rattle.program_line.specs.declared.Verdict.the-variants.{Good, Far, Wrong}
 use Rattle.program_line.specs.declared.Kind.{Kind}
 use Rattle.program_line.specs.declared.Kind.the-variants.{UpTo, Below, Value}
 use Rattle.program_line.specs.declared.Scan.{Scan}
@@ -28,21 +29,21 @@ restFrom false at line = []
 abbrev pub rest : List ℕ → Scan → List (List ℕ)
 rest line s = restFrom (s .more) (s .at) line
 
-unfoldable pub behindIf : Bool → ℕ → Form → Scan
-behindIf true end f = record { at = end + 1; more = true; form = f }
-behindIf false end f = record { at = end; more = false; form = f }
+unfoldable pub behindIf : Bool → ℕ → Verdict → Scan
+behindIf true end f = record { at = end + 1; more = true; verdict = f }
+behindIf false end f = record { at = end; more = false; verdict = f }
 
 -- the place behind the field that ends at `end`
-abbrev pub behind : List ℕ → ℕ → Form → Scan
+abbrev pub behind : List ℕ → ℕ → Verdict → Scan
 behind line end f = behindIf (ltb end (length line)) end f
 
 -- 2 wins over 3
-unfoldable pub farther : Form → Form
+unfoldable pub farther : Verdict → Verdict
 farther Good = Far
 farther Far = Far
 farther Wrong = Wrong
 
-unfoldable pub worse : Form → Read → Form
+unfoldable pub worse : Verdict → Read → Verdict
 worse f malformed = Wrong
 worse f outside = farther f
 worse f (def.is n) = f
@@ -53,7 +54,7 @@ numberIn outside = 0
 numberIn (def.is n) = n
 
 -- the numbers that follow, after fields that stand so
-unfoldable pub held : Form → Numbers → Numbers
+unfoldable pub held : Verdict → Numbers → Numbers
 held Good x = x
 held Far wrong = wrong
 held Far far = far
@@ -66,9 +67,13 @@ push n wrong = wrong
 push n far = far
 push n (are ns) = are (n ∷ ns)
 
+unfoldable pub pushAll : List ℕ → Numbers → Numbers
+pushAll [] x = x
+pushAll (n ∷ ns) x = push n (pushAll ns x)
+
 -- the numbers from a place on, by their fields
 abbrev pub left : List ℕ → List Field → Scan → Numbers
-left line fs s = held (s .form) (numbers fs (rest line s))
+left line fs s = held (s .verdict) (numbers fs (rest line s))
 
 -- a bound of what a field that has no sign may hold
 abbrev pub Bounded : Field → ℕ → Type 0
@@ -82,14 +87,18 @@ pub record Took (f : Field) (line : List ℕ) (s : Scan) (n : ℕ) (t : Scan) : 
   pub within : t .at ≤ length line
   pub bound : Bounded f n
 
--- two fields were read: a position
+-- a position's numbers, in the order of its fields
+abbrev pub posNumbers : Pos → List ℕ
+posNumbers p = p .line ∷ p .column ∷ []
+
+-- a position's fields were read
 pub record TookPos (line : List ℕ) (s : Scan) (p : Pos) (t : Scan) : Type 0 where
-  pub is : (fs : List Field) → left line (def.upTo maxField ∷ def.upTo maxField ∷ fs) s ≡ push (p .line) (push (p .column) (left line fs t))
+  pub is : (fs : List Field) → left line (posFields ++ fs) s ≡ pushAll (posNumbers p) (left line fs t)
   pub within : t .at ≤ length line
 
 -- the place behind the letter
 pub record Fresh (line : List ℕ) (s : Scan) : Type 0 where
-  pub good : s .form ≡ Good
+  pub good : s .verdict ≡ Good
   pub within : s .at ≤ length line
 
 -- field 0 where it is one byte, else 0, which is no letter
@@ -108,7 +117,7 @@ pub record Opened (line : List ℕ) (b : ℕ) (s : Scan) : Type 0 where
   pub others : rest line s ≡ behindLetter (split comma line)
   pub fresh : Fresh line s
 
-unfoldable pub refusalIf : Bool → Form → ℕ
+unfoldable pub refusalIf : Bool → Verdict → ℕ
 refusalIf true f = badForm
 refusalIf false Good = 0
 refusalIf false Far = badRange
@@ -116,4 +125,4 @@ refusalIf false Wrong = badForm
 
 -- the refusal of a line whose fields end here: 0 if there is none
 abbrev pub refusalAt : Scan → ℕ
-refusalAt s = refusalIf (s .more) (s .form)
+refusalAt s = refusalIf (s .more) (s .verdict)

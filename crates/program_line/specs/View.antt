@@ -1,25 +1,19 @@
 -- What this crate's types stand for in the definition.
 use Rattle.definition.specs.Tree as tree
-use Rattle.definition.specs.Opcode as op
 use Rattle.definition.specs.Program as def
 use Rattle.definition.specs.Program.{Line, is, not}
-use Rattle.opcode.specs.View.{binaryView, unaryView, compareView}
-use Rattle.program_line.specs.declared.Pos.{Pos}
+use Rattle.line_map.specs.View.{posView}
+use Rattle.opcode.specs.View.{binaryView, unaryView, compareView, shortCircuitView}
 use Rattle.program_line.specs.declared.HeaderLine as header
 use Rattle.program_line.specs.declared.HeaderLine.the-variants as header-line
 use Rattle.program_line.specs.declared.StmtLine as stmt
 use Rattle.program_line.specs.declared.StmtLine.the-variants as stmt-line
-use Rattle.program_line.specs.declared.ShortCircuitOp.{ShortCircuitOp}
-use Rattle.program_line.specs.declared.ShortCircuitOp.the-variants.{AndThen, OrElse}
 use Rattle.program_line.specs.declared.ExprLine as expr
 use Rattle.program_line.specs.declared.ExprLine.the-variants as expr-line
 use Rattle.program_line.specs.declared.ArmLine as arm
 use Rattle.program_line.specs.declared.ArmLine.the-variants as arm-line
 use Rattle.program_line.specs.declared.LabelLine as label
 use Rattle.program_line.specs.declared.LabelLine.the-variants as label-line
-
-abbrev pub posView : Pos → tree.Pos
-posView p = record { line = p .line; column = p .column }
 
 abbrev pub headerLine : header.HeaderLine → Line def.Header
 headerLine (header-line.Header v n p) = is (record { variables = v; statements = n; pos = posView p })
@@ -35,10 +29,6 @@ stmtLine (stmt-line.Exit p i) = is (def.X (posView p) i)
 stmtLine (stmt-line.Continue p i) = is (def.N (posView p) i)
 stmtLine (stmt-line.Return p) = is (def.R (posView p))
 stmtLine (stmt-line.Bad n) = not n
-
-abbrev pub shortCircuitView : ShortCircuitOp → op.ShortCircuitOp
-shortCircuitView AndThen = op.AndThen
-shortCircuitView OrElse = op.OrElse
 
 abbrev pub exprLine : expr.ExprLine → Line def.ExprLine
 exprLine (expr-line.Const k) = is (def.K k)

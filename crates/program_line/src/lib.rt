@@ -8,8 +8,8 @@ ghost use Rattle.definition.specs.Field.{comma, split, upTo, below, field};
 ghost use Rattle.definition.specs.Opcode.{Add, Arithmetic, binaryOps, Neg, BoolNot, Eq, Ne, Lt, Le, Gt, Ge, AndThen, OrElse};
 ghost use Rattle.definition.specs.Program.{lineAt, lineOf, byLetter, headerForms, stmtForms, exprForms, armForms, labelForms};
 ghost use Rattle.field.specs.View.{readOf};
-ghost use Rattle.opcode.specs.View.{binaryView, unaryView, compareView};
-ghost use Rattle.program_line.specs.View.{shortCircuitView, headerLine, stmtLine, exprLine, armLine, labelLine};
+ghost use Rattle.opcode.specs.View.{binaryView, unaryView, compareView, shortCircuitView};
+ghost use Rattle.program_line.specs.View.{headerLine, stmtLine, exprLine, armLine, labelLine};
 ghost use Rattle.program_line.specs.Scan.{kindOf, rest, behind, worse, numberIn, refusalAt, Opened, Fresh, Took, TookPos};
 use definition::BAD_FORM;
 use definition::BAD_RANGE;
@@ -18,10 +18,12 @@ use definition::MAX_VARIABLES;
 use definition::TOO_DEEP;
 use definition::WRONG_LINES;
 use field::Read;
+use line_map::Pos;
 use opcode::ArithmeticOp;
 use opcode::BinaryOp;
 use opcode::BoolOp;
 use opcode::CompareOp;
+use opcode::ShortCircuitOp;
 use opcode::UnaryOp;
 
 // The largest count, position or loop number, and the largest number of variables.
@@ -30,12 +32,6 @@ const COUNTS: u16 = MAX_FIELD as u16;
 const VARIABLES: u16 = MAX_VARIABLES as u16;
 
 // ---- what a line says
-
-// A source position.
-pub struct Pos {
-    pub line: u16,
-    pub column: u16,
-}
 
 pub enum HeaderLine {
     Header {
@@ -89,11 +85,6 @@ pub enum StmtLine {
     Bad(u8),
 }
 
-pub enum ShortCircuitOp {
-    AndThen,
-    OrElse,
-}
-
 // A constant is its two's complement bits.
 pub enum ExprLine {
     Const(u32),
@@ -120,7 +111,7 @@ pub enum LabelLine {
 // ---- the fields behind a line's letter
 
 // How the numbers of a line stand so far: a malformed one (2) wins over one outside its range (3), whatever their order.
-pub enum Form {
+pub enum Verdict {
     Good,
     Far,
     Wrong,
@@ -130,7 +121,7 @@ pub enum Form {
 pub struct Scan {
     pub at: usize,
     pub more: bool,
-    pub form: Form,
+    pub verdict: Verdict,
 }
 
 // What a field may hold.
@@ -158,28 +149,28 @@ pub struct Letter {
     pub scan: Scan,
 }
 
-// A position that was read, and the place behind its two fields.
+// A position that was read, and the place behind its fields.
 pub struct Placed {
     pub pos: Pos,
     pub scan: Scan,
 }
 
 // The place behind the field that ends at `end`.
-fn behind(line: &[u8], end: usize, form: Form) -> Scan
+fn behind(line: &[u8], end: usize, verdict: Verdict) -> Scan
     requires { ⌜ end ≤ length (now line) ⌝ }
-    ensures { λ r. ⌜ r ≡ behind (now (line .entry)) end form ⌝ }
+    ensures { λ r. ⌜ r ≡ behind (now (line .entry)) end verdict ⌝ }
 {
     if end < line.len() {
         Scan {
             at: end + 1,
             more: true,
-            form: form,
+            verdict: verdict,
         }
     } else {
         Scan {
             at: end,
             more: false,
-            form: form,
+            verdict: verdict,
         }
     }
 }
@@ -188,7 +179,7 @@ fn take_letter(line: &[u8]) -> Letter
     ensures { λ r. ⌜ Opened (now (line .entry)) (r .letter) (r .scan) ⌝ }
 {
     let end = field::field_end(line, 0);
-    let scan = behind(line, end, Form::Good);
+    let scan = behind(line, end, Verdict::Good);
     if end == 1 {
         Letter {
             letter: line[0],
@@ -212,17 +203,17 @@ fn read_field(bytes: &[u8], kind: Kind) -> Read
     }
 }
 
-fn worse(form: Form, read: Read) -> Form
-    ensures { λ r. ⌜ r ≡ worse form (readOf read) ⌝ }
+fn worse(verdict: Verdict, read: Read) -> Verdict
+    ensures { λ r. ⌜ r ≡ worse verdict (readOf read) ⌝ }
 {
     match read {
-        Read::Malformed => Form::Wrong,
-        Read::Outside => match form {
-            Form::Wrong => Form::Wrong,
-            Form::Good => Form::Far,
-            Form::Far => Form::Far,
+        Read::Malformed => Verdict::Wrong,
+        Read::Outside => match verdict {
+            Verdict::Wrong => Verdict::Wrong,
+            Verdict::Good => Verdict::Far,
+            Verdict::Far => Verdict::Far,
         },
-        Read::Is(_) => form,
+        Read::Is(_) => verdict,
     }
 }
 
@@ -242,11 +233,11 @@ fn take_number(line: &[u8], s: Scan, kind: Kind) -> Number
     ensures { λ r. ⌜ Took (kindOf kind) (now (line .entry)) s (r .n) (r .scan) ⌝ }
 {
     let at = s.at;
-    let form = s.form;
+    let verdict = s.verdict;
     if s.more {
         let end = field::field_end(line, at);
         let read = read_field(&line[at..end], kind);
-        let worst = worse(form, read);
+        let worst = worse(verdict, read);
         return Number {
             n: number_in(read),
             scan: behind(line, end, worst),
@@ -257,7 +248,7 @@ fn take_number(line: &[u8], s: Scan, kind: Kind) -> Number
         scan: Scan {
             at: at,
             more: false,
-            form: Form::Wrong,
+            verdict: Verdict::Wrong,
         },
     }
 }
@@ -319,11 +310,11 @@ fn refusal(s: Scan) -> u8
     if s.more {
         return BAD_FORM;
     }
-    let form = s.form;
-    match form {
-        Form::Good => 0,
-        Form::Far => BAD_RANGE,
-        Form::Wrong => BAD_FORM,
+    let verdict = s.verdict;
+    match verdict {
+        Verdict::Good => 0,
+        Verdict::Far => BAD_RANGE,
+        Verdict::Wrong => BAD_FORM,
     }
 }
 
@@ -611,7 +602,7 @@ fn bool_line(line: &[u8], s: Scan, variables: u16) -> ExprLine
     ExprLine::Bool(k.n == 1)
 }
 
-fn read_line(line: &[u8], s: Scan, variables: u16) -> ExprLine
+fn variable_line(line: &[u8], s: Scan, variables: u16) -> ExprLine
     requires { ⌜ Fresh (now line) s ⌝ }
     ensures { λ r. ⌜ exprLine r ≡ byLetter (exprForms variables) 0x44 (rest (now (line .entry)) s) ⌝ }
 {
@@ -713,7 +704,7 @@ fn expr_of(line: &[u8], variables: u16) -> ExprLine
     match b {
         b'K' => const_line(line, s, variables),
         b'B' => bool_line(line, s, variables),
-        b'D' => read_line(line, s, variables),
+        b'D' => variable_line(line, s, variables),
         b'O' => binary_line(line, s, variables),
         b'U' => unary_line(line, s, variables),
         b'C' => compare_line(line, s, variables),

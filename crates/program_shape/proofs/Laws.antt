@@ -3,13 +3,12 @@ use mathlib.Core.Path.{_≡_, refl, ap, sym, _∙_}
 use mathlib.Core.Bool.{Bool, true, false, _&&_}
 use mathlib.Core.Option.{Option, some, none}
 use mathlib.Core.List.{List, []}
-use Prim.Native.Nat.{ℕ, zero, suc, _+_, _-_, _<_}
+use Prim.Native.Nat.{ℕ, zero, suc, _-_, _<_}
 use native.Mathlib.Omega.{arith}
 use lib.Dec.{eqb, eqb·suc-zero, eqb·suc-suc}
 use borrow.Author.Tests.{eqb-true}
 use lib.ListN.{length}
 use Rattle.definition.specs.Res.{Res, ok, _>>=_}
-use Rattle.definition.specs.Field.{firstLine}
 use Rattle.definition.specs.Opcode.{CompareOp}
 use Rattle.definition.specs.Tree.{Pos, Source, Expr, Stmt, if, Arms}
 use Rattle.definition.specs.Program as def
@@ -17,17 +16,16 @@ use Rattle.definition.specs.Program.{Line, is, not, Reader, A, I, S, F, L, X, N
 use Rattle.definition.specs.Stmt as shapes
 use Rattle.definition.specs.Stmt.{isDone, isExitStmt, isExit, onlyIf, exitWhen, exitUnless, repeatOr, whileOr, shape}
 use Rattle.definition.specs.CompileExpr.{readOf, constantOf, zip, orClassified, classify}
-use Rattle.field.specs.View.{Ends}
 use Rattle.program.specs.declared.Cursor.{Cursor}
 use Rattle.program.specs.declared.Walk.{Walk}
-use Rattle.program.specs.Walk.{cursorOf, cursorIn, standBy, Near, Walked, outcome, many, overExpr, overStmt}
+use Rattle.program.specs.Walk.{cursorOf, cursorIn, standBy, Near, Skipped, Walked, outcome, many, overExpr, overStmt}
 use Rattle.program.proofs.Laws.{block-many, line-there, expr-bad, expr-is, stmt-bad, stmt-is}
 use Rattle.program_shape.specs.declared.Operand.{Operand}
 use Rattle.program_shape.specs.declared.Condition.{Condition}
 use Rattle.program_shape.specs.declared.ExitIf.{ExitIf}
 use Rattle.program_shape.specs.declared.ExitIf.the-variants as exit-if
 use Rattle.program_shape.specs.declared.Shape.the-variants as loop-shape
-use Rattle.program_shape.specs.Shape.{Skipped, walkFrom, operandOf, variableIn, constantIn, Sided, comparisonIn, classified, fused, exitIf, sizesFit, ifFits, exitLine, Exiting, Shaped, whileBy, repeatBy}
+use Rattle.program_shape.specs.Shape.{walkFrom, operandOf, variableIn, constantIn, Sided, comparisonIn, classified, fused, exitIf, sizesFit, ifFits, exitLine, exitBy, exitCondition, exitPlaces, Exiting, whileBy, repeatBy, shapeBy, blockAt, Shaped}
 
 -- ---- skipping: a walk that heeds no fault
 
@@ -53,14 +51,6 @@ module _ (left v : ℕ) {text : List ℕ} (c : Cursor) {r : Walk} where
   pub skipped-block : (n : ℕ) → Walked (many n (overStmt false left v text)) text (walkFrom c) r → Skipped text (blockOf (λ d. stmtAt left v text d) n (cursorOf c) .1) (record { at = r .at; row = r .row })
   unfolding outcome
   skipped-block n w = skipped _ w (sym (block-many false (λ d. stmtAt left v text d) n (cursorOf c)))
-
-pub next-is : {text : List ℕ} {c : Cursor} {end : ℕ} → Ends firstLine text (c .at) end → Near text (c .at) (c .row) → c .at < length text
-    → Skipped text (nextLine text (cursorOf c)) (record { at = end + 1; row = c .row + 1 })
-unfolding nextLine
-next-is e near h = record {
-  is = rw (← e .is);
-  near = record { short = near .short; within = omega (arith, e .high); rows = omega (arith, near .rows, e .low) };
-}
 
 -- ---- conditions
 
@@ -245,9 +235,19 @@ fitting when (is (N p j)) e = absurd (let q : _≡_ {A = ℕ} 0 1 = cc in omega 
 fitting when (is (R p)) e = absurd (let q : _≡_ {A = ℕ} 0 1 = cc in omega arith)
 fitting when (not n) e = absurd (let q : _≡_ {A = ℕ} 0 1 = cc in omega arith)
 
+-- the condition and the places make the answer
+exit-by : (left v : ℕ) (text : List ℕ) (c d : def.Cursor) (o : Option Expr) (r : ExitIf) → exitCondition left v text r ≡ o → exitPlaces text c d r → r ≡ exitBy text c d o
+unfolding exitBy
+exit-by left v text c d o (exit-if.Exits q end) e p = rw (← e, ← p .0 .is, ← p .1 .is)
+exit-by left v text c d o exit-if.Other e p = rw (← e)
+
+exiting : {when : Bool} {i left v : ℕ} {text : List ℕ} {c : def.Cursor} (r : ExitIf) → exitCondition left v text r ≡ exitIf when i (stmtAt left v text c .0)
+    → exitPlaces text c (stmtAt left v text c .1) r → Exiting when i left v text c r
+exiting {left = left} {v = v} {text = text} {c = c} r e p = record { is = exit-by left v text c _ _ r e p; condition = e; places = p }
+
 module _ (when : Bool) (i left v : ℕ) (text : List ℕ) (c : def.Cursor) (x : Line StmtLine) (k : x ≡ lineAt (stmtForms v) left text (c .at)) where
   pub exits-not : ifFits when x ≡ false → Exiting when i left v text c exit-if.Other
-  exits-not e = record { is = go x k e; places = tt }
+  exits-not e = exiting exit-if.Other (go x k e) tt
     where
       go : (y : Line StmtLine) → y ≡ lineAt (stmtForms v) left text (c .at) → ifFits when y ≡ false → none ≡ exitIf when i (stmtAt left v text c .0)
       go (is l) k e = rw (stmt-is left v text c l (sym k)) (no-exit when i _ _ _ _ _ l e)
@@ -280,40 +280,47 @@ module _ (when : Bool) (i left v : ℕ) (text : List ℕ) (c : def.Cursor) (x : 
 
       pub exits-other : exitLine i y ≡ false → Exiting when i left v text c exit-if.Other
       unfolding onlyIf
-      exits-other z = record { is = sym (exit-is ∙ rw z); places = tt }
+      exits-other z = exiting exit-if.Other (sym (exit-is ∙ rw z)) tt
 
       pub exit-there : exitLine i y ≡ true → p .at < length text
       exit-there z = exit-behind i (left - 1) v text (cursorOf p) y h z .1
 
       pub exits-here : exitLine i y ≡ true → {end : Cursor} → Skipped text (nextLine text (cursorOf p)) end → Exiting when i left v text c (exit-if.Exits condition end)
       unfolding onlyIf
-      exits-here z n = record {
-        is = sym (exit-is ∙ rw z);
-        places = (f .near, record { is = n .is ∙ sym (end-is ∙ exit-behind i (left - 1) v text (cursorOf p) y h z .0); near = n .near });
-      }
+      exits-here z n = exiting _ (sym (exit-is ∙ rw z)) (f, record { is = n .is ∙ sym (end-is ∙ exit-behind i (left - 1) v text (cursorOf p) y h z .0); near = n .near })
 
 -- ---- a loop's shape
 
+repeat-by : (text : List ℕ) (c first d last : def.Cursor) (o : Option Expr) → repeatBy (exitBy text d last o) ≡ shapeBy text c first d last (repeatOr o)
+unfolding exitBy shapeBy repeatOr
+repeat-by text c first d last (some x) = refl
+repeat-by text c first d last none = refl
+
+while-by : (text : List ℕ) (c first d last : def.Cursor) (o : Option Expr) → whileBy (exitBy text c first o) ≡ shapeBy text c first d last (whileOr o)
+unfolding exitBy shapeBy whileOr
+while-by text c first d last (some x) = refl
+while-by text c first d last none = refl
+
 module _ (i n m left v : ℕ) (text : List ℕ) (c : def.Cursor) where
-  pub shape-repeat : m ≡ 1 → {p : Cursor} → Skipped text (blockOf (λ d. stmtAt left v text d) n c .1) p → (r : ExitIf) → Exiting true i left v text (cursorOf p) r → Shaped i n m left v text c (repeatBy r)
+  pub shape-repeat : m ≡ 1 → {p : Cursor} → Skipped text (blockAt left v text n c .1) p → (r : ExitIf) → Exiting true i left v text (cursorOf p) r → Shaped i n m left v text c (repeatBy r)
   unfolding shape blockOf exitIf repeatOr
-  shape-repeat e s (exit-if.Exits condition end) x = let y = rw (s .is) at x in rw e (record { is = ap repeatOr (y .is); places = y .places })
-  shape-repeat e s exit-if.Other x = let y = rw (s .is) at x in rw e (record { is = ap repeatOr (y .is); places = tt })
+  shape-repeat e s (exit-if.Exits q end) x = let y = rw (s .is) at x in rw e (record { is = ap repeatBy (y .is) ∙ repeat-by text c _ _ _ _; condition = ap repeatOr (y .condition); places = y .places })
+  shape-repeat e s exit-if.Other x = let y = rw (s .is) at x in rw e (record { is = ap repeatBy (y .is) ∙ repeat-by text c _ _ _ _; condition = ap repeatOr (y .condition); places = tt })
 
 module _ (i m left v : ℕ) (text : List ℕ) (c : def.Cursor) (e : m ≡ 0) where
   pub shape-while : (n : ℕ) → (n ≡ 0 → ⊥) → (r : ExitIf) → Exiting false i left v text c r → Shaped i n m left v text c (whileBy r)
   unfolding shape blockOf exitIf whileOr
   shape-while zero h r x = absurd (h refl)
-  shape-while (suc n) h (exit-if.Exits condition end) x = rw e (record { is = ap whileOr (x .is); places = x .places })
-  shape-while (suc n) h exit-if.Other x = rw e (record { is = ap whileOr (x .is); places = tt })
+  shape-while (suc n) h (exit-if.Exits q end) x = rw e (record { is = ap whileBy (x .is) ∙ while-by text c _ _ _ _; condition = ap whileOr (x .condition); places = x .places })
+  shape-while (suc n) h exit-if.Other x = rw e (record { is = ap whileBy (x .is) ∙ while-by text c _ _ _ _; condition = ap whileOr (x .condition); places = tt })
 
   pub shape-empty : (n : ℕ) → n ≡ 0 → Shaped i n m left v text c loop-shape.Plain
-  unfolding shape blockOf
-  shape-empty zero h = rw e (record { is = refl; places = tt })
+  unfolding shape blockOf shapeBy
+  shape-empty zero h = rw e (record { is = refl; condition = refl; places = tt })
   shape-empty (suc n) h = absurd (omega arith)
 
 pub shape-plain : (i n m left v : ℕ) (text : List ℕ) (c : def.Cursor) → 1 < m → Shaped i n m left v text c loop-shape.Plain
-unfolding shape blockOf
+unfolding shape blockOf shapeBy
 shape-plain i n zero left v text c h = absurd (omega arith)
 shape-plain i n (suc zero) left v text c h = absurd (omega arith)
-shape-plain i n (suc (suc m)) left v text c h = record { is = refl; places = tt }
+shape-plain i n (suc (suc m)) left v text c h = record { is = refl; condition = refl; places = tt }

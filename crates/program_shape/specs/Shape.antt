@@ -5,9 +5,9 @@ use mathlib.Core.List.{List}
 use mathlib.Core.Bool.{Bool, true, false, _&&_}
 use mathlib.Core.Option.{Option, some, none}
 use lib.Dec.{eqb}
-use Rattle.definition.specs.Tree.{Expr, Stmt}
+use Rattle.definition.specs.Tree.{Expr, Stmt, Block}
 use Rattle.definition.specs.Program as def
-use Rattle.definition.specs.Program.{Line, is, not, A, I, S, F, L, X, N, R, K, B, D, O, U, C, H, exprAt, stmtAt, blockOf}
+use Rattle.definition.specs.Program.{Line, is, not, A, I, S, F, L, X, N, R, K, B, D, O, U, C, H, nextLine, exprAt, stmtAt, blockOf}
 use Rattle.definition.specs.Opcode.{CompareOp, commute}
 use Rattle.definition.specs.CompileExpr.{ClassifiedCmp, readOf, constantOf, zip, orClassified}
 use Rattle.definition.specs.Stmt as shapes
@@ -15,7 +15,7 @@ use Rattle.definition.specs.Stmt.{exitWhen, exitUnless}
 use Rattle.opcode.specs.View.{compareView}
 use Rattle.program.specs.declared.Cursor.{Cursor}
 use Rattle.program.specs.declared.Walk.{Walk}
-use Rattle.program.specs.Walk.{cursorOf, Near}
+use Rattle.program.specs.Walk.{cursorOf, placeOf, Skipped}
 use Rattle.program_shape.specs.declared.Operand.{Operand}
 use Rattle.program_shape.specs.declared.Operand.the-variants as operand
 use Rattle.program_shape.specs.declared.Compared.{Compared}
@@ -30,11 +30,6 @@ use Rattle.program_shape.specs.declared.Shape.the-variants as loop-shape
 -- where a walk that skips starts
 unfoldable pub walkFrom : Cursor → Walk
 walkFrom c = record { at = c .at; row = c .row; refused = 0 }
-
--- a place that the walk went to
-pub record Skipped (text : List ℕ) (d : def.Cursor) (r : Cursor) : Type 0 where
-  pub is : cursorOf r ≡ d
-  pub near : Near text (r .at) (r .row)
 
 -- ---- conditions
 
@@ -119,7 +114,12 @@ exitLine i (is (N p j)) = false
 exitLine i (is (R p)) = false
 exitLine i (not n) = false
 
--- a condition of a statement whose line has so many levels left stands one level deeper
+-- the IF at c, which ends at `end`, by the condition of its EXIT: the condition stands on the next line
+unfoldable pub exitBy : List ℕ → def.Cursor → def.Cursor → Option Expr → ExitIf
+exitBy text c end (some x) = exit-if.Exits (placeOf (nextLine text c)) (placeOf end)
+exitBy text c end none = exit-if.Other
+
+-- the expression at a place below a statement of so many levels left
 abbrev pub conditionAt : ℕ → ℕ → List ℕ → Cursor → Expr
 conditionAt left v text c = exprAt (left - 1) v text (cursorOf c) .0
 
@@ -127,14 +127,15 @@ abbrev pub exitCondition : ℕ → ℕ → List ℕ → ExitIf → Option Expr
 exitCondition left v text (exit-if.Exits c end) = some (conditionAt left v text c)
 exitCondition left v text exit-if.Other = none
 
-abbrev pub exitPlaces : List ℕ → def.Cursor → ExitIf → Type 0
-exitPlaces text d (exit-if.Exits c end) = Near text (c .at) (c .row) × Skipped text d end
-exitPlaces text d exit-if.Other = Unit {0}
+abbrev pub exitPlaces : List ℕ → def.Cursor → def.Cursor → ExitIf → Type 0
+exitPlaces text c d (exit-if.Exits q end) = Skipped text (nextLine text c) q × Skipped text d end
+exitPlaces text c d exit-if.Other = Unit {0}
 
--- the IF at a place, as one that exits loop i
+-- the statement at a place, as an IF that exits loop i. `is` gives the answer; what follows from it for callers is that the condition stands there, and its places
 pub record Exiting (when : Bool) (i left v : ℕ) (text : List ℕ) (c : def.Cursor) (r : ExitIf) : Type 0 where
-  pub is : exitCondition left v text r ≡ exitIf when i (stmtAt left v text c .0)
-  pub places : exitPlaces text (stmtAt left v text c .1) r
+  pub is : r ≡ exitBy text c (stmtAt left v text c .1) (exitIf when i (stmtAt left v text c .0))
+  pub condition : exitCondition left v text r ≡ exitIf when i (stmtAt left v text c .0)
+  pub places : exitPlaces text c (stmtAt left v text c .1) r
 
 -- the shape that such an IF makes of a loop, at its front or as its `continuing`
 abbrev pub whileBy : ExitIf → Shape
@@ -145,18 +146,33 @@ abbrev pub repeatBy : ExitIf → Shape
 repeatBy (exit-if.Exits c end) = loop-shape.Repeat c end
 repeatBy exit-if.Other = loop-shape.Plain
 
+-- a loop from c on, whose first statement ends at `first`, its body at d and its `continuing` at `last`, by its shape: a WHILE's IF is the body's first
+-- statement and a REPEAT's is its `continuing`; the condition stands on the line behind the IF's
+unfoldable pub shapeBy : List ℕ → def.Cursor → def.Cursor → def.Cursor → def.Cursor → shapes.Shape → Shape
+shapeBy text c first d last (shapes.while x) = loop-shape.While (placeOf (nextLine text c)) (placeOf first)
+shapeBy text c first d last (shapes.repeat x) = loop-shape.Repeat (placeOf (nextLine text d)) (placeOf last)
+shapeBy text c first d last shapes.plain = loop-shape.Plain
+
+-- n statements from c on
+abbrev pub blockAt : ℕ → ℕ → List ℕ → ℕ → def.Cursor → Block × def.Cursor
+blockAt left v text n c = blockOf (λ d. stmtAt left v text d) n c
+
+-- the shape of the loop i whose body of n and whose `continuing` of m statements stand from c on
+abbrev pub shapeAt : ℕ → ℕ → ℕ → ℕ → ℕ → List ℕ → def.Cursor → shapes.Shape
+shapeAt i n m left v text c = shapes.shape i (blockAt left v text n c .0) (blockAt left v text m (blockAt left v text n c .1) .0)
+
 abbrev pub shapeOf : ℕ → ℕ → List ℕ → Shape → shapes.Shape
 shapeOf left v text (loop-shape.While c rest) = shapes.while (conditionAt left v text c)
 shapeOf left v text (loop-shape.Repeat c end) = shapes.repeat (conditionAt left v text c)
 shapeOf left v text loop-shape.Plain = shapes.plain
 
--- a WHILE's rest stands behind its first statement, a REPEAT's end behind its `continuing`
-abbrev pub shapePlaces : List ℕ → def.Cursor → def.Cursor → Shape → Type 0
-shapePlaces text first end (loop-shape.While c rest) = Near text (c .at) (c .row) × Skipped text first rest
-shapePlaces text first end (loop-shape.Repeat c d) = Near text (c .at) (c .row) × Skipped text end d
-shapePlaces text first end loop-shape.Plain = Unit {0}
+abbrev pub shapePlaces : List ℕ → def.Cursor → def.Cursor → def.Cursor → def.Cursor → Shape → Type 0
+shapePlaces text c first d last (loop-shape.While q rest) = Skipped text (nextLine text c) q × Skipped text first rest
+shapePlaces text c first d last (loop-shape.Repeat q end) = Skipped text (nextLine text d) q × Skipped text last end
+shapePlaces text c first d last loop-shape.Plain = Unit {0}
 
--- the loop i whose body of n and whose `continuing` of m statements stand from c on
+-- `is` gives the answer; what follows from it for callers is that the condition stands there, and its places
 pub record Shaped (i n m left v : ℕ) (text : List ℕ) (c : def.Cursor) (r : Shape) : Type 0 where
-  pub is : shapeOf left v text r ≡ shapes.shape i (blockOf (λ d. stmtAt left v text d) n c .0) (blockOf (λ d. stmtAt left v text d) m (blockOf (λ d. stmtAt left v text d) n c .1) .0)
-  pub places : shapePlaces text (stmtAt left v text c .1) (blockOf (λ d. stmtAt left v text d) m (blockOf (λ d. stmtAt left v text d) n c .1) .1) r
+  pub is : r ≡ shapeBy text c (stmtAt left v text c .1) (blockAt left v text n c .1) (blockAt left v text m (blockAt left v text n c .1) .1) (shapeAt i n m left v text c)
+  pub condition : shapeOf left v text r ≡ shapeAt i n m left v text c
+  pub places : shapePlaces text c (stmtAt left v text c .1) (blockAt left v text n c .1) (blockAt left v text m (blockAt left v text n c .1) .1) r

@@ -1,14 +1,12 @@
 // What emission must know of a part of the text before it comes to it: where the part ends, whether a condition is fused, and whether a loop is a
 // WHILE or a REPEAT. Each answer is that of the total reading, whatever the text.
 ghost use mathlib.Core.Path.{_≡_};
-ghost use Prim.Native.Nat.{_<_};
-ghost use lib.ListN.{length};
-ghost use Rattle.definition.specs.Program.{nextLine, exprAt, stmtAt, blockOf};
+ghost use Rattle.definition.specs.Program.{exprAt, stmtAt, blockOf};
 ghost use Rattle.definition.specs.CompileExpr.{classify};
 ghost use Rattle.opcode.specs.View.{compareView};
 ghost use Rattle.program_line.specs.View.{stmtLine, exprLine};
-ghost use Rattle.program.specs.Walk.{cursorOf, Near};
-ghost use Rattle.program_shape.specs.Shape.{Skipped, walkFrom, operandOf, variableIn, constantIn, Sided, comparisonIn, compared, classified, fused, sizesFit, ifFits, exitLine, Exiting, whileBy, repeatBy, Shaped};
+ghost use Rattle.program.specs.Walk.{cursorOf, Near, Skipped};
+ghost use Rattle.program_shape.specs.Shape.{walkFrom, operandOf, variableIn, constantIn, Sided, comparisonIn, compared, classified, fused, sizesFit, ifFits, exitLine, Exiting, whileBy, repeatBy, Shaped};
 use opcode::CompareOp;
 use program::Cursor;
 use program::Walk;
@@ -97,20 +95,6 @@ pub fn skip_block(text: &[u8], variables: u16, left: usize, n: usize, c: Cursor)
     }
 }
 
-// The place of the next line, where there is one here.
-pub fn next_line(text: &[u8], c: Cursor) -> Cursor
-    requires { ⌜ Near (now text) (c .at) (c .row) ⌝ }
-    requires { ⌜ c .at < length (now text) ⌝ }
-    ensures { λ r. ⌜ Skipped (now (text .entry)) (nextLine (now (text .entry)) (cursorOf c)) r ⌝ }
-{
-    let at = c.at;
-    let end = field::line_end(text, at);
-    Cursor {
-        at: end + 1,
-        row: c.row + 1,
-    }
-}
-
 // ---- conditions
 
 fn operand_of(line: ExprLine) -> Operand
@@ -188,7 +172,7 @@ pub fn classify(text: &[u8], variables: u16, left: usize, c: Cursor) -> Conditio
     match by {
         Compared::Other => Condition::Other,
         Compared::By(op) => {
-            let first = next_line(text, c);
+            let first = program::next_line(text, c);
             let l = left - 1;
             let a = operand_at(text, variables, l, first);
             let second = skip_expr(text, variables, l, first);
@@ -266,13 +250,13 @@ fn exit_at(text: &[u8], variables: u16, left: usize, c: Cursor, i: u16, when: bo
     let at = c.at;
     let fits = if_fits(when, program_line::read_stmt(text, variables, left, at));
     if fits {
-        let condition = next_line(text, c);
+        let condition = program::next_line(text, c);
         let l = left - 1;
         let p = skip_expr(text, variables, l, condition);
         let there = p.at;
         let out = exits(i, program_line::read_stmt(text, variables, l, there));
         if out {
-            let end = next_line(text, p);
+            let end = program::next_line(text, p);
             return ExitIf::Exits {
                 condition: condition,
                 end: end,

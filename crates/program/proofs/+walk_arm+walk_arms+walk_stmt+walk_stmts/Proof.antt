@@ -21,8 +21,8 @@ use Rattle.program.proofs.walk_stmts.Reads as walk-stmts
 use Rattle.program.proofs.walk_stmts.Kinds as walk-stmts-kinds
 use Rattle.program.proofs.+walk_arm+walk_arms+walk_stmt+walk_stmts.Lts-walk_stmts as walk-stmts-lts
 use Rattle.program.proofs.fail.Reads as fail-reads
-use Rattle.program.proofs.next_line.Reads as next-line-reads
 use Rattle.program.proofs.parts_of.Reads as parts-of-reads
+use Rattle.program.proofs.pass_line.Reads as pass-line-reads
 use Rattle.program.proofs.walk_exprs.Reads as walk-exprs-reads
 use Rattle.program.proofs.walk_labels.Reads as walk-labels-reads
 use Rattle.program_line.proofs.read_arm.Reads as read-arm-reads
@@ -86,8 +86,8 @@ pub +walk-arm+walk-arms+walk-stmt+walk-stmts-spec : {M : Type 1} → statement M
       read-arm-reads.Learnt,
       fail-reads.Asked,
       fail-reads.Learnt,
-      next-line-reads.Asked,
-      next-line-reads.Learnt,
+      pass-line-reads.Asked,
+      pass-line-reads.Learnt,
       walk-labels-reads.Asked,
       walk-labels-reads.Learnt,
       walk-stmts-below t,
@@ -100,20 +100,20 @@ pub +walk-arm+walk-arms+walk-stmt+walk-stmts-spec : {M : Type 1} → statement M
     (λ c. search needs)  -- walk-arm-enum-known-line
     (λ c κs. search needs)  -- walk-arm-fail-requires
     (λ c. search needs)  -- walk-arm-enum-known-line-2
-    (λ c κs. (c .before .before .before .before .before .before .before .pre .1, arm-step true _ 0 _ (cursorIn (c .before .before .before .before .before .before .before .args .w)) _ _ (sym (c .before .before .before .read-arm .ensures) ∙ ap armLine (c .before .line2 .given .1)) .there refl .0))  -- walk-arm-next-line-requires
+    (λ c κs. (c .before .before .before .before .before .before .before .pre .1, arm-step true _ 0 _ (cursorIn (c .before .before .before .before .before .before .before .args .w)) _ _ (sym (c .before .before .before .read-arm .ensures) ∙ ap armLine (c .before .line2 .given .1)) .there refl .0))  -- walk-arm-pass-line-requires
     (λ c. search needs)  -- walk-arm-cast-walk-labels
     (λ c κs. search needs)  -- walk-arm-walk-labels-requires
     (λ c. search needs)  -- walk-arm-cast-walk-stmts
     (λ c κs. search needs)  -- walk-arm-walk-stmts-requires
     (λ c. rw (c .fail .ensures) (arm-fails _ _ _ (c .before .before .before .before .before .if1 .left) (c .before .before .before .before .before .before .before .before .pre .1) _ (sym (c .before .before .before .before .read-arm .ensures) ∙ ap armLine (c .before .before .line .given .1))))  -- walk-arm-returns-2
-    (λ c. step-walks (arm-step _ _ _ _ _ _ _ (sym (c .before .before .before .before .before .before .read-arm .ensures) ∙ ap armLine (c .before .before .before .before .line2 .given .1))) (c .before .before .before .before .before .before .before .if1 .left) refl (c .before .before .next-line .ensures) (walked-then (c .before .walk-labels .ensures) (c .walk-stmts .ensures))))  -- walk-arm-returns-3
+    (λ c. step-walks (arm-step _ _ _ _ _ _ _ (sym (c .before .before .before .before .before .before .read-arm .ensures) ∙ ap armLine (c .before .before .before .before .line2 .given .1))) (c .before .before .before .before .before .before .before .if1 .left) refl (c .before .before .pass-line .ensures) (walked-then (c .before .walk-labels .ensures) (c .walk-stmts .ensures))))  -- walk-arm-returns-3
     (λ t. walk-arms-lts.spec
     (walk-arm-below t, walk-arm.Post)
     (walk-arms-at t)
     walk-arms.Post
     walk-arms-Inv-loop
     walk-arms-μ-loop
-    (λ c. search needs)  -- walk-arms-loop-holds
+    (λ c. begins _ _ (c .before .pre .1))  -- walk-arms-loop-holds
     (λ c. breaks (c .before .before .before .loop .inv) (c .if1 .taken))  -- walk-arms-returns
     (λ c κs. search needs)  -- walk-arms-walk-arm-requires
     (λ c. search needs)  -- walk-arms-sub-more
@@ -127,8 +127,8 @@ pub +walk-arm+walk-arms+walk-stmt+walk-stmts-spec : {M : Type 1} → statement M
       parts-of-reads.Learnt,
       fail-reads.Asked,
       fail-reads.Learnt,
-      next-line-reads.Asked,
-      next-line-reads.Learnt,
+      pass-line-reads.Asked,
+      pass-line-reads.Learnt,
       walk-exprs-reads.Asked,
       walk-exprs-reads.Learnt,
       walk-arms-below t,
@@ -143,20 +143,20 @@ pub +walk-arm+walk-arms+walk-stmt+walk-stmts-spec : {M : Type 1} → statement M
     (λ c κs. search needs)  -- walk-stmt-parts-of-requires
     (λ c κs. search needs)  -- walk-stmt-fail-requires
     (λ c. rw (c .fail .ensures) (step-fails (stmt-step _ _ _ _ _ _ _ (c .before .before .before .parts-of .ensures) (c .before .before .before .before .read-stmt .ensures)) (c .before .before .before .before .before .if1 .left) (c .before .before .before .before .before .before .before .before .pre .1) (c .before .if2 .taken)))  -- walk-stmt-returns-2
-    (λ c κs. (c .before .before .before .before .before .before .before .pre .1, stmt-step true _ _ _ (cursorIn (c .before .before .before .before .before .before .before .args .w)) _ _ (c .before .before .parts-of .ensures) (c .before .before .before .read-stmt .ensures) .there (c .if2 .left) .0))  -- walk-stmt-next-line-requires
+    (λ c κs. (c .before .before .before .before .before .before .before .pre .1, stmt-step true _ _ _ (cursorIn (c .before .before .before .before .before .before .before .args .w)) _ _ (c .before .before .parts-of .ensures) (c .before .before .before .read-stmt .ensures) .there (c .if2 .left) .0))  -- walk-stmt-pass-line-requires
     (λ c. stmt-step true _ _ _ (cursorIn (c .before .before .before .before .before .before .before .before .args .w)) _ _ (c .before .before .before .parts-of .ensures) (c .before .before .before .before .read-stmt .ensures) .there (c .before .if2 .left) .1)  -- walk-stmt-sub-l
     (λ c κs. search needs)  -- walk-stmt-walk-exprs-requires
     (λ c κs. (omega (arith, c .before .before .before .before .before .before .before .before .before .pre .0, stmt-step true _ _ _ (cursorIn (c .before .before .before .before .before .before .before .before .before .args .w)) _ _ (c .before .before .before .before .parts-of .ensures) (c .before .before .before .before .before .read-stmt .ensures) .there (c .before .before .if2 .left)), c .walk-exprs .ensures .near))  -- walk-stmt-walk-arms-requires
     (λ c κs. (omega (arith, c .before .before .before .before .before .before .before .before .before .before .pre .0, stmt-step true _ _ _ (cursorIn (c .before .before .before .before .before .before .before .before .before .before .args .w)) _ _ (c .before .before .before .before .before .parts-of .ensures) (c .before .before .before .before .before .before .read-stmt .ensures) .there (c .before .before .before .if2 .left)), c .walk-arms .ensures .near))  -- walk-stmt-walk-stmts-requires
     (λ c κs. (omega (arith, c .before .before .before .before .before .before .before .before .before .before .before .pre .0, stmt-step true _ _ _ (cursorIn (c .before .before .before .before .before .before .before .before .before .before .before .args .w)) _ _ (c .before .before .before .before .before .before .parts-of .ensures) (c .before .before .before .before .before .before .before .read-stmt .ensures) .there (c .before .before .before .before .if2 .left)), c .walk-stmts .ensures .near))  -- walk-stmt-walk-stmts-requires-2
-    (λ c. step-walks (stmt-step _ _ _ _ _ _ _ (c .before .before .before .before .before .before .before .parts-of .ensures) (c .before .before .before .before .before .before .before .before .read-stmt .ensures)) (c .before .before .before .before .before .before .before .before .before .if1 .left) (c .before .before .before .before .before .if2 .left) (c .before .before .before .before .next-line .ensures) (walked-then (c .before .before .before .walk-exprs .ensures) (walked-then (c .before .before .walk-arms .ensures) (walked-then (c .before .walk-stmts .ensures) (c .walk-stmts2 .ensures))))))  -- walk-stmt-returns-3
+    (λ c. step-walks (stmt-step _ _ _ _ _ _ _ (c .before .before .before .before .before .before .before .parts-of .ensures) (c .before .before .before .before .before .before .before .before .read-stmt .ensures)) (c .before .before .before .before .before .before .before .before .before .if1 .left) (c .before .before .before .before .before .if2 .left) (c .before .before .before .before .pass-line .ensures) (walked-then (c .before .before .before .walk-exprs .ensures) (walked-then (c .before .before .walk-arms .ensures) (walked-then (c .before .walk-stmts .ensures) (c .walk-stmts2 .ensures))))))  -- walk-stmt-returns-3
     λ t. walk-stmts-lts.spec
     (walk-stmt-below t, walk-stmt.Post)
     (walk-stmts-at t)
     walk-stmts.Post
     walk-stmts-Inv-loop
     walk-stmts-μ-loop
-    (λ c. search needs)  -- walk-stmts-loop-holds
+    (λ c. begins _ _ (c .before .pre .1))  -- walk-stmts-loop-holds
     (λ c. breaks (c .before .before .before .loop .inv) (c .if1 .taken))  -- walk-stmts-returns
     (λ c κs. search needs)  -- walk-stmts-walk-stmt-requires
     (λ c. search needs)  -- walk-stmts-sub-more

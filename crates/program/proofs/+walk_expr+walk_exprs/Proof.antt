@@ -13,8 +13,8 @@ use Rattle.program.proofs.walk_exprs.Reads as walk-exprs
 use Rattle.program.proofs.walk_exprs.Kinds as walk-exprs-kinds
 use Rattle.program.proofs.+walk_expr+walk_exprs.Lts-walk_exprs as walk-exprs-lts
 use Rattle.program.proofs.fail.Reads as fail-reads
-use Rattle.program.proofs.next_line.Reads as next-line-reads
 use Rattle.program.proofs.operands_of.Reads as operands-of-reads
+use Rattle.program.proofs.pass_line.Reads as pass-line-reads
 use Rattle.program_line.proofs.read_expr.Reads as read-expr-reads
 use Rattle.program.proofs.+walk_expr+walk_exprs.{statement}
 use Rattle.program.proofs.+walk_expr+walk_exprs.Tie.{close}
@@ -53,8 +53,8 @@ pub +walk-expr+walk-exprs-spec : {M : Type 1} → statement M
       operands-of-reads.Learnt,
       fail-reads.Asked,
       fail-reads.Learnt,
-      next-line-reads.Asked,
-      next-line-reads.Learnt,
+      pass-line-reads.Asked,
+      pass-line-reads.Learnt,
       walk-exprs-below t,
       walk-exprs.Post,
     )
@@ -65,17 +65,17 @@ pub +walk-expr+walk-exprs-spec : {M : Type 1} → statement M
     (λ c κs. search needs)  -- walk-expr-operands-of-requires
     (λ c κs. search needs)  -- walk-expr-fail-requires
     (λ c. rw (c .fail .ensures) (step-fails (expr-step _ _ _ _ _ _ _ (c .before .before .before .operands-of .ensures) (c .before .before .before .before .read-expr .ensures)) (c .before .before .before .before .before .if1 .left) (c .before .before .before .before .before .before .before .before .pre .1) (c .before .if2 .taken)))  -- walk-expr-returns-2
-    (λ c κs. (c .before .before .before .before .before .before .before .pre .1, expr-step true _ _ _ (cursorIn (c .before .before .before .before .before .before .before .args .w)) _ _ (c .before .before .operands-of .ensures) (c .before .before .before .read-expr .ensures) .there (c .if2 .left) .0))  -- walk-expr-next-line-requires
+    (λ c κs. (c .before .before .before .before .before .before .before .pre .1, expr-step true _ _ _ (cursorIn (c .before .before .before .before .before .before .before .args .w)) _ _ (c .before .before .operands-of .ensures) (c .before .before .before .read-expr .ensures) .there (c .if2 .left) .0))  -- walk-expr-pass-line-requires
     (λ c. expr-step true _ _ _ (cursorIn (c .before .before .before .before .before .before .before .before .args .w)) _ _ (c .before .before .before .operands-of .ensures) (c .before .before .before .before .read-expr .ensures) .there (c .before .if2 .left) .1)  -- walk-expr-sub-walk-exprs
-    (λ c κs. (omega (arith, c .before .before .before .before .before .before .before .before .pre .0, expr-step true _ _ _ (cursorIn (c .before .before .before .before .before .before .before .before .args .w)) _ _ (c .before .before .before .operands-of .ensures) (c .before .before .before .before .read-expr .ensures) .there (c .before .if2 .left)), c .next-line .ensures .near))  -- walk-expr-walk-exprs-requires
-    (λ c. step-walks (expr-step _ _ _ _ _ _ _ (c .before .before .before .before .operands-of .ensures) (c .before .before .before .before .before .read-expr .ensures)) (c .before .before .before .before .before .before .if1 .left) (c .before .before .if2 .left) (c .before .next-line .ensures) (c .walk-exprs .ensures)))  -- walk-expr-returns-3
+    (λ c κs. (omega (arith, c .before .before .before .before .before .before .before .before .pre .0, expr-step true _ _ _ (cursorIn (c .before .before .before .before .before .before .before .before .args .w)) _ _ (c .before .before .before .operands-of .ensures) (c .before .before .before .before .read-expr .ensures) .there (c .before .if2 .left)), c .pass-line .ensures .near))  -- walk-expr-walk-exprs-requires
+    (λ c. step-walks (expr-step _ _ _ _ _ _ _ (c .before .before .before .before .operands-of .ensures) (c .before .before .before .before .before .read-expr .ensures)) (c .before .before .before .before .before .before .if1 .left) (c .before .before .if2 .left) (c .before .pass-line .ensures) (c .walk-exprs .ensures)))  -- walk-expr-returns-3
     λ t. walk-exprs-lts.spec
     (walk-expr-below t, walk-expr.Post)
     (walk-exprs-at t)
     walk-exprs.Post
     walk-exprs-Inv-loop
     walk-exprs-μ-loop
-    (λ c. search needs)  -- walk-exprs-loop-holds
+    (λ c. begins _ _ (c .before .pre .1))  -- walk-exprs-loop-holds
     (λ c. breaks (c .before .before .before .loop .inv) (c .if1 .taken))  -- walk-exprs-returns
     (λ c κs. search needs)  -- walk-exprs-walk-expr-requires
     (λ c. search needs)  -- walk-exprs-sub-more

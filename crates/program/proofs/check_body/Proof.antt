@@ -8,8 +8,8 @@ pub check-body-spec : {M : Type 1} → statement M
 check-body-spec =
     tie.close
     (tie.spec
-    (λ c κs. search needs)  -- next-line-requires
+    (λ c κs. search needs)  -- pass-line-requires
     (λ c κs. search needs)  -- walk-stmts-requires
-    (λ c. check-faulty (c .before .before .before .before .before .pre) (c .before .before .before .next-line .ensures) (c .before .before .walk-stmts .ensures) (c .if1 .taken))  -- returns
-    (λ c. check-left-over (c .before .before .before .before .before .before .before .pre) (c .before .before .before .before .before .next-line .ensures) (c .before .before .before .before .walk-stmts .ensures) (c .before .before .if1 .left) (c .if2 .taken))  -- returns-2
-    (λ c. check-fine (c .before .before .before .before .before .before .before .pre) (c .before .before .before .before .before .next-line .ensures) (c .before .before .before .before .walk-stmts .ensures) (c .before .before .if1 .left) (c .if2 .left)))  -- returns-3
+    (λ c. check-faulty (c .before .before .before .before .before .pre) (c .before .before .before .pass-line .ensures) (c .before .before .walk-stmts .ensures) (c .if1 .taken))  -- returns
+    (λ c. check-left-over (c .before .before .before .before .before .before .before .pre) (c .before .before .before .before .before .pass-line .ensures) (c .before .before .before .before .walk-stmts .ensures) (c .before .before .if1 .left) (c .if2 .taken))  -- returns-2
+    (λ c. check-fine (c .before .before .before .before .before .before .before .pre) (c .before .before .before .before .before .pass-line .ensures) (c .before .before .before .before .walk-stmts .ensures) (c .before .before .if1 .left) (c .if2 .left)))  -- returns-3

@@ -1,5 +1,5 @@
 -- Made by `answers` from crates/program/answers/next_line.txt: edit that file, not this one.
-use Rattle.program.proofs.Laws.{passes}
+use Rattle.program.proofs.Laws.{next-is}
 use borrow.Author.Needs.{needs}
 use Rattle.program.proofs.next_line.Statement.{statement}
 use Rattle.program.proofs.next_line.Tie as tie
@@ -11,4 +11,4 @@ next-line-spec =
     (λ c κs. search needs)  -- line-end-requires
     (λ c. search needs)  -- add-t5
     (λ c. search needs)  -- add-t6
-    (λ c. passes (c .before .line-end .ensures) (c .before .before .before .pre .0) (c .before .before .before .pre .1)))  -- returns
+    (λ c. next-is (c .before .line-end .ensures) (c .before .before .before .pre .0) (c .before .before .before .pre .1)))  -- returns

@@ -17,9 +17,9 @@ walk-label-spec =
     (λ c. search needs)  -- enum-known-line
     (λ c κs. search needs)  -- fail-requires
     (λ c. search needs)  -- enum-told
-    (λ c κs. (c .before .before .before .before .before .before .pre, label-value true _ _ (cursorIn (c .before .before .before .before .before .before .args .w)) _ (sym (c .before .before .read-label .ensures) ∙ ap labelLine (c .enum-told .given .1)) .there refl .0))  -- next-line-requires
+    (λ c κs. (c .before .before .before .before .before .before .pre, label-value true _ _ (cursorIn (c .before .before .before .before .before .before .args .w)) _ (sym (c .before .before .read-label .ensures) ∙ ap labelLine (c .enum-told .given .1)) .there refl .0))  -- pass-line-requires
     (λ c. search needs)  -- enum-told-2
-    (λ c κs. (c .before .before .before .before .before .before .pre, label-range true _ _ (cursorIn (c .before .before .before .before .before .before .args .w)) _ _ (sym (c .before .before .read-label .ensures) ∙ ap labelLine (c .enum-told2 .given .1)) .there refl .0))  -- next-line-requires-2
+    (λ c κs. (c .before .before .before .before .before .before .pre, label-range true _ _ (cursorIn (c .before .before .before .before .before .before .args .w)) _ _ (sym (c .before .before .read-label .ensures) ∙ ap labelLine (c .enum-told2 .given .1)) .there refl .0))  -- pass-line-requires-2
     (λ c. rw (c .fail .ensures) (label-fails _ _ (c .before .before .before .before .before .if1 .left) (c .before .before .before .before .before .before .before .before .pre) _ (sym (c .before .before .before .before .read-label .ensures) ∙ ap labelLine (c .before .before .line .given .1))))  -- returns-2
-    (λ c. step-walks (label-value _ _ _ _ _ (sym (c .before .before .before .read-label .ensures) ∙ ap labelLine (c .before .enum-told .given .1))) (c .before .before .before .before .if1 .left) refl (c .next-line .ensures) (walked-none (c .next-line .ensures .near)))  -- returns-3
-    (λ c. step-walks (label-range _ _ _ _ _ _ (sym (c .before .before .before .read-label .ensures) ∙ ap labelLine (c .before .enum-told2 .given .1))) (c .before .before .before .before .if1 .left) refl (c .next-line2 .ensures) (walked-none (c .next-line2 .ensures .near))))  -- returns-4
+    (λ c. step-walks (label-value _ _ _ _ _ (sym (c .before .before .before .read-label .ensures) ∙ ap labelLine (c .before .enum-told .given .1))) (c .before .before .before .before .if1 .left) refl (c .pass-line .ensures) (walked-none (c .pass-line .ensures .near)))  -- returns-3
+    (λ c. step-walks (label-range _ _ _ _ _ _ (sym (c .before .before .before .read-label .ensures) ∙ ap labelLine (c .before .enum-told2 .given .1))) (c .before .before .before .before .if1 .left) refl (c .pass-line2 .ensures) (walked-none (c .pass-line2 .ensures .near))))  -- returns-4

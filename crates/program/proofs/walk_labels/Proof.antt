@@ -17,7 +17,7 @@ walk-labels-spec =
     (tie.spec
     Inv-loop
     μ-loop
-    (λ c. search needs)  -- loop-holds
+    (λ c. begins _ _ (c .before .pre))  -- loop-holds
     (λ c. breaks (c .before .before .before .loop .inv) (c .if1 .taken))  -- returns
     (λ c κs. search needs)  -- walk-label-requires
     (λ c. search needs)  -- sub-more

@@ -16,7 +16,7 @@ returns-2 c = c .bool-line .ensures ∙ by-letter (exprForms (c .before .before 
 
 returns-3 : tie.Need-returns-3
 unfolding open-Program
-returns-3 c = c .read-line .ensures ∙ by-letter (exprForms (c .before .before .before .before .before .args .variables)) (record { none = λ fs. refl }) (c .before .before .before .take-letter .ensures) 0x44 (search needs)
+returns-3 c = c .variable-line .ensures ∙ by-letter (exprForms (c .before .before .before .before .before .args .variables)) (record { none = λ fs. refl }) (c .before .before .before .take-letter .ensures) 0x44 (search needs)
 
 returns-4 : tie.Need-returns-4
 unfolding open-Program
@@ -45,7 +45,7 @@ expr-of-spec =
     (λ c κs. search needs)  -- take-letter-requires
     (λ c κs. search needs)  -- const-line-requires
     (λ c κs. search needs)  -- bool-line-requires
-    (λ c κs. search needs)  -- read-line-requires
+    (λ c κs. search needs)  -- variable-line-requires
     (λ c κs. search needs)  -- binary-line-requires
     (λ c κs. search needs)  -- unary-line-requires
     (λ c κs. search needs)  -- compare-line-requires

@@ -1,10 +1,10 @@
--- Made by `answers` from crates/program_line/answers/read_line.txt: edit that file, not this one.
+-- Made by `answers` from crates/program_line/answers/variable_line.txt: edit that file, not this one.
 use mathlib.Core.Path.{refl}
 use Rattle.definition.specs.Program.{exprForms, open-Program}
 use Rattle.program_line.proofs.Laws.{bad-line, good-line, ended, ended-number, ended-position}
 use borrow.Author.Needs.{needs}
-use Rattle.program_line.proofs.read_line.Statement.{statement}
-use Rattle.program_line.proofs.read_line.Tie as tie
+use Rattle.program_line.proofs.variable_line.Statement.{statement}
+use Rattle.program_line.proofs.variable_line.Tie as tie
 
 returns : tie.Need-returns
 unfolding open-Program
@@ -14,8 +14,8 @@ returns-2 : tie.Need-returns-2
 unfolding open-Program
 returns-2 c = good-line (exprForms (c .before .before .before .before .args .variables)) 0x44 (c .before .before .before .before .pre) (ended-number (c .before .before .index .ensures) (ended (c .before .refusal .ensures))) (record { is = λ fs. refl }) (c .if1 .left)
 
-pub read-line-spec : {M : Type 1} → statement M
-read-line-spec =
+pub variable-line-spec : {M : Type 1} → statement M
+variable-line-spec =
     tie.close
     (tie.spec
     (λ c κs. search needs)  -- index-requires
