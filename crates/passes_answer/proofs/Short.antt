@@ -15,7 +15,7 @@ use Rattle.definition.specs.Rules.{readRules}
 use Rattle.definition.specs.Lent.{zeros, filled, entryNumbers}
 use Rattle.definition.specs.Alone.{Rewritten, Answer, answer, rewriteFiles, rewriteInto}
 use Rattle.definition.specs.Passes.{malformedLine, text}
-use Rattle.runs.proofs.Results.{never, ok-is, ok-bind}
+use Rattle.field.proofs.Results.{never, ok-is, ok-bind}
 use Rattle.optimize.proofs.Lines.{length-numbers}
 use Rattle.store.specs.Store.{contents}
 use Rattle.text.specs.Text.{textRoom}
