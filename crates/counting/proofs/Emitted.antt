@@ -16,7 +16,7 @@ use Rattle.definition.specs.Emit.{le16, Emitter, Last, other, loaded, stored, P
 use Rattle.definition.specs.Walk.{next, after}
 use Rattle.definition.specs.Count.{oneIf}
 use Rattle.counting.proofs.Once.{OneByte, OneBytes, closes, closed, isBind, binds}
-use Rattle.runs.proofs.Results.{never, ok-demand, ok-bind, ok-is}
+use Rattle.field.proofs.Results.{never, ok-demand, ok-bind, ok-is}
 use Rattle.runs.proofs.Emitted.{fold-bytes}
 use Rattle.runs.proofs.Conditions.{index-last}
 use Rattle.counting.proofs.Rows.{Row, rowOf, unpatched, bytesOf, codeOf, patchOf, patchesOf, Sized, code-append, patches-append, sized-append, sized-left, Formed, FormedBy, Adds, add-adds, branch-adds}

@@ -29,7 +29,7 @@ use Rattle.definition.specs.For.{Places, Emits, For, forStmt, settingOf, testin
 use Rattle.definition.specs.Count.{oneIf}
 use Rattle.counting.proofs.Laid.{Opening, Laid}
 use Rattle.counting.proofs.Once.{OneByte, OneBytes, bytes-left, bytes-right, binds, isBind, binds-append}
-use Rattle.runs.proofs.Results.{ok-demand, ok-bind, ok-is}
+use Rattle.field.proofs.Results.{ok-demand, ok-bind, ok-is}
 use Rattle.runs.proofs.Heights.{after-mono}
 use Rattle.runs.proofs.Conditions.{indexed}
 use Rattle.counting.proofs.Rows.{Row, rowOf, unpatched, bytesOf, codeOf, patchesOf, Sized, code-append, FormedBy}

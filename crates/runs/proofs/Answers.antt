@@ -18,7 +18,7 @@ use Rattle.definition.specs.Emit.{Call, createLabel, bindLabel, loadVariable, s
 use Rattle.definition.specs.Stmt.{emitStmts}
 use Rattle.definition.specs.Compile.{FinalizedFunction, emitProgram, compileProgram, compileFiles, Room, compileInto, Answer, answer}
 use Rattle.definition.specs.Claims.{Each, empty, _also_}
-use Rattle.runs.proofs.Results.{never, ok-bind, ok-demand, ok-is}
+use Rattle.field.proofs.Results.{never, ok-bind, ok-demand, ok-is}
 use Rattle.runs.proofs.Refusals.{Number, Numbered, numbered-bind, numbered-demand, numbered-given, rules-numbered, read-numbered}
 use Rattle.runs.proofs.Faultless.{Told, program-tells}
 

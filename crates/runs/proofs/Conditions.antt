@@ -22,7 +22,7 @@ use Rattle.definition.specs.Stmt.{Loops, branchUnlessBy, branchUnless, loopBody
 use Rattle.opcode.proofs.Faults.{good}
 use Rattle.opcode.proofs.Branches.{iec-negate, iec-commute, taken-iec}
 use Rattle.definition.specs.Fused.{side, holds, goes}
-use Rattle.runs.proofs.Results.{never, ok-demand, ok-bind, ok-is}
+use Rattle.field.proofs.Results.{never, ok-demand, ok-bind, ok-is}
 use Rattle.runs.proofs.Emitted.{add-ok}
 
 -- ---- what a condition says

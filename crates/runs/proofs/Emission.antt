@@ -15,7 +15,7 @@ use Rattle.definition.specs.CompileExpr.{ClassifiedCmp, constantOf, classify, e
 use Rattle.definition.specs.Expr.{emitExpr}
 use Rattle.definition.specs.Stmt.{LoopLabels, Loops, labels, jumpTo, exitOf, nextOf, continues, continuesStmt, continuesArms, isDone, Shape, while, repeat, plain, shape, branchUnlessBy, branchUnless, elsePart, testAgainst, testLabel, testLabels, armBody, emitArm, loopBody, countsDown, bound, endTestBy, emitFor, whileBy, emitWhile, repeatBy, emitRepeat, emitPlain, emitLoop, sourceOf, recordPosition, emitStmt, emitBlock, emitRest, emitArms, emitStmts}
 use Rattle.definition.specs.Claims.{left, right}
-use Rattle.runs.proofs.Results.{never}
+use Rattle.field.proofs.Results.{never}
 use Rattle.runs.proofs.Heights.{Binds, sooner, further, binds, inside, Sound, With, wider, _⨾_, opens, leaves, silent, loads, stores, pushes, pools, emits, returns, binding, resets, places, refuses, jumps, unless, compares}
 
 -- ---- expressions

@@ -17,7 +17,7 @@ use Rattle.definition.specs.Tree.{Pos, Block}
 use Rattle.definition.specs.Emit.{le16, Emitter, emitterAt, Last, other, loaded, stored, LineEntry, PendingPatch, added, add, folded, foldStore, loadAfter, withConstant, pooledIf, pooled, patched, labelled, settled, branch, act, acts, Call, createLabel, bindLabel, loadVariable, storeVariable, loadConstant, addConstant, emitOpcode, emitJmp, emitJmpIfNot, emitCmpBr, resetStackDepth, setPosition, refused}
 use Rattle.definition.specs.Walk.{next}
 use Rattle.definition.specs.Stmt.{emitStmts}
-use Rattle.runs.proofs.Results.{never, ok-demand, ok-bind, ok-is}
+use Rattle.field.proofs.Results.{never, ok-demand, ok-bind, ok-is}
 use Rattle.runs.proofs.Heights.{falls, Stops, Held, Holds, aim, Step, Safe, ends, goes, Jumps, this, later, Bound, here, there}
 use Rattle.runs.proofs.Emission.{program-sound, Nobody}
 use Rattle.definition.specs.Claims.{Either, left, right, branches, Each, empty, _also_}

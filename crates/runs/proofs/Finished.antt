@@ -26,7 +26,7 @@ use Rattle.definition.specs.Lent.{zeros, filled}
 use Rattle.definition.specs.Runs.{target, run, start}
 use Rattle.opcode.proofs.Faults.{good}
 use Rattle.opcode.proofs.Sheets.{role-of-opcode}
-use Rattle.runs.proofs.Results.{never, ok-demand, ok-bind, ok-is, ok-given, some-is}
+use Rattle.field.proofs.Results.{never, ok-demand, ok-bind, ok-is, ok-given, some-is}
 use Rattle.runs.proofs.Heights.{Bound}
 use Rattle.definition.specs.Claims.{Fine, branchPlaces, inTurn, LeadsTo, Each, empty, _also_, BranchLeads, Branches}
 use Rattle.runs.proofs.Rows.{Row, bytes-of, place-at, aim-at, row-of, row-inside, row-aim, row-bytes, height-first, place-first, place-end, place-within, patchHere, patchesBy, patches-same, each-patch, Linked}

@@ -11,7 +11,7 @@ use Rattle.definition.specs.Tree.{Pos, Fault}
 use Rattle.definition.specs.Emit.{Call, createLabel, bindLabel, loadVariable, storeVariable, loadConstant, addConstant, emitOpcode, emitJmp, emitJmpIfNot, emitCmpBr, resetStackDepth, setPosition, refused}
 use Rattle.definition.specs.Walk.{next, after, Calls, _>>=_, _>>_, say, nothing, newLabel}
 use Rattle.definition.specs.Claims.{Either, left, right, branches}
-use Rattle.runs.proofs.Results.{never}
+use Rattle.field.proofs.Results.{never}
 
 -- does a run go on behind an instruction?
 unfoldable pub falls : Flow → Bool

@@ -9,7 +9,7 @@ use native.Mathlib.Omega.{arith}
 use Rattle.definition.specs.Res.{ok}
 use Rattle.definition.specs.Opcode.{Role, Sheet, opcode, dup, loadVar}
 use Rattle.definition.specs.Emit.{le16, Emitter, Last, other, loaded, stored, PendingPatch, added, add, folded, foldStore, loadAfter, withConstant, pooledIf, pooled, patched, labelled, settled, branch, act, acts, Call, createLabel, bindLabel, loadVariable, storeVariable, loadConstant, addConstant, emitOpcode, emitJmp, emitJmpIfNot, emitCmpBr, resetStackDepth, setPosition, refused}
-use Rattle.runs.proofs.Results.{never, ok-demand, ok-bind, ok-is}
+use Rattle.field.proofs.Results.{never, ok-demand, ok-bind, ok-is}
 use Rattle.runs.proofs.Emitted.{add-ok, fold-bytes}
 
 -- an emitter whose code, patches and constants start with these; a store that a load may fold stands behind that code

@@ -1,4 +1,3 @@
-pub mod Results
 pub mod Heights
 pub mod Emission
 pub mod Refusals

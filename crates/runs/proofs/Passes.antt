@@ -18,7 +18,7 @@ use Rattle.definition.specs.Emit.{le16}
 use Rattle.definition.specs.Rewrite.{Bytes, opcodeOf, decode, boundariesFrom, instruction, Matcher, actions, applied, output, OffsetMap, offsets, movedTo, applyPeephole}
 use Rattle.definition.specs.Optimize.{Pipeline, mapThrough, run, identity, optimize}
 use Rattle.rules.proofs.Pairs.{Pair, rewritten, read-accepted, matched, variable-size}
-use Rattle.runs.proofs.Results.{never, some-is}
+use Rattle.field.proofs.Results.{never, some-is}
 use Rattle.definition.specs.Claims.{unmoved, passMap, inTurn}
 use Rattle.runs.proofs.Decoding.{joined, Wholes, decode-joined}
 use Rattle.runs.proofs.Rows.{Row, bytes-of, place-at, place-first, row-of, height-at, first-height, patchesBy, Linked, finished, follows}

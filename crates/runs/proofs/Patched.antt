@@ -16,7 +16,7 @@ use Rattle.definition.specs.Rewrite.{OffsetMap, movedTo}
 use Rattle.definition.specs.Compile.{boundLabel, displacement, overwrite, patchJump, patchJumps}
 use Rattle.definition.specs.Runs.{target}
 use Rattle.definition.specs.Claims.{branches}
-use Rattle.runs.proofs.Results.{never, some-is}
+use Rattle.field.proofs.Results.{never, some-is}
 use Rattle.runs.proofs.Roles.{branch-size}
 use Rattle.runs.proofs.Rows.{Row, next-height, bytes-of, place-at, place-first, aim-at, row-of, height-at, first-height, patchHere, patchesBy, patches-same, Leads, nowhere, to, RowOk, Linked, finished, follows}
 

@@ -11,7 +11,7 @@ use Rattle.definition.specs.Rules.{Action, keep, remove, rewriteOperand, allowe
 use Rattle.definition.specs.Emit.{le16}
 use Rattle.definition.specs.Claims.{branches}
 use Rattle.rules.proofs.Pairs.{Pair, Keeps, neither, former, latter, both, keeps, rewritten, variable-size}
-use Rattle.runs.proofs.Results.{never, some-is}
+use Rattle.field.proofs.Results.{never, some-is}
 use Rattle.runs.proofs.Heights.{falls}
 use Rattle.runs.proofs.Rows.{Row, next-height, row-of, height-at, first-height, height-first, patchHere, patchesBy, leads-nowhere, RowOk, Linked, follows}
 

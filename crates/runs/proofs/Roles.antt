@@ -5,7 +5,7 @@ use mathlib.Core.Bool.{true}
 use native.Mathlib.Omega.{arith}
 use Rattle.definition.specs.Opcode.{Role, dup, pop, loadVar, storeVar, loadConst, loadTrue, loadFalse, arithmetic, logic, neg, boolNot, compare, jmp, jmpIfNot, cmpBr, ret, row, traits, size, flow}
 use Rattle.definition.specs.Claims.{branches}
-use Rattle.runs.proofs.Results.{never}
+use Rattle.field.proofs.Results.{never}
 
 -- a branch has two operand bytes at least
 pub branch-size : (r : Role) → branches (flow r) ≡ true → 3 ≤ size r

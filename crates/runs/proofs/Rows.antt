@@ -11,7 +11,7 @@ use native.Mathlib.Nat.{le-trans, le-of-suc-le-suc, not-suc-le-zero}
 use Rattle.definition.specs.Opcode.{Role, Sheet, opcode, size, needs, effect, flow, shift}
 use Rattle.definition.specs.Emit.{PendingPatch}
 use Rattle.definition.specs.Claims.{branches, Each, empty, _also_}
-use Rattle.runs.proofs.Results.{never, some-is}
+use Rattle.field.proofs.Results.{never, some-is}
 use Rattle.runs.proofs.Heights.{falls, Stops}
 
 pub record Row : Type 0 where

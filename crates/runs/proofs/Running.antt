@@ -16,7 +16,7 @@ use Rattle.definition.specs.Opcode.{Role, Sheet, opcode, roleOf, size, needs, e
 use Rattle.definition.specs.Emit.{PendingPatch}
 use Rattle.definition.specs.Rewrite.{opcodeOf, decode, startsFrom}
 use Rattle.definition.specs.Runs.{State, Break, offCode, emptyStack, Step, goes, finishes, waits, breaks, target, jump, branch, follow, outOfOutcomes, execute, executeIf, step, Stand, stand, run}
-use Rattle.runs.proofs.Results.{never}
+use Rattle.field.proofs.Results.{never}
 use Rattle.runs.proofs.Heights.{falls, Stops}
 use Rattle.runs.proofs.Rows.{Row, next-height, bytes-of, place-at, aim-at, height-at, height-first, height-end, place-first, place-end, patchHere, patchesBy, patches-same, Leads, nowhere, to, leads-to, RowOk, Linked, finished, follows}
 use Rattle.runs.proofs.Emitted.{Stands}
