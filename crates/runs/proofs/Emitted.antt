@@ -346,7 +346,7 @@ stays (resetStackDepth h) at ls l p = p
 stays (setPosition q) at ls l p = p
 stays (refused f) at ls l p = p
 
-count : (c : Call) (at : ℕ) (ls : List (Option ℕ)) → length (relabelled c at ls) ≡ next c (length ls)
+pub count : (c : Call) (at : ℕ) (ls : List (Option ℕ)) → length (relabelled c at ls) ≡ next c (length ls)
 unfolding relabelled next
 count (createLabel h) at ls = omega (arith, length-append ls (none ∷ []))
 count (bindLabel l) at ls = length-set ls l (some at)
