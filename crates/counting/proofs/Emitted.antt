@@ -17,6 +17,7 @@ use Rattle.definition.specs.Walk.{next, after}
 use Rattle.definition.specs.Count.{oneIf}
 use Rattle.counting.proofs.Once.{OneByte, OneBytes, closes, closed, isBind, binds}
 use Rattle.runs.proofs.Results.{never, ok-demand, ok-bind, ok-is}
+use Rattle.runs.proofs.Heights.{next-mono}
 use Rattle.runs.proofs.Emitted.{fold-bytes, relabelled, count}
 use Rattle.runs.proofs.Rows.{patchHere}
 use Rattle.runs.proofs.Conditions.{index-last}
@@ -415,24 +416,9 @@ changed-then c cs e u e′ x y = record {
   more = x .more ++ y .more;
   grows = y .grows ∙ (ap (λ ks. ks ++ y .more) (x .grows) ∙ append-assoc (e .constants) (x .more) (y .more));
   table = y .table ∙ ap (λ n. after n cs) (x .table);
-  kept = λ l h z. y .kept l (subst (λ n. l < n) (sym (x .table)) (longer c (length (e .labels)) l h)) (omega arith) ∙ x .kept l h (omega arith);
+  kept = λ l h z. y .kept l (subst (λ n. l < n) (sym (x .table)) (let m = next-mono c (length (e .labels)) in omega arith)) (omega arith) ∙ x .kept l h (omega arith);
   tracks = λ b f z. y .tracks (closes c b) (λ t. x .tracks b f t) z;
 }
-  where
-    longer : (c : Call) (n l : ℕ) → l < n → l < next c n
-    longer (createLabel h) n l h′ = omega arith
-    longer (bindLabel k) n l h = h
-    longer (loadVariable v) n l h = h
-    longer (storeVariable v) n l h = h
-    longer (loadConstant k) n l h = h
-    longer (addConstant k) n l h = h
-    longer (emitOpcode r) n l h = h
-    longer (emitJmp k) n l h = h
-    longer (emitJmpIfNot k) n l h = h
-    longer (emitCmpBr x v k m) n l h = h
-    longer (resetStackDepth x) n l h = h
-    longer (setPosition q) n l h = h
-    longer (refused f) n l h = h
 
 pub goes-all : (s : Sheet) (R : List Row) (cs : List Call) (e e′ : Emitter) → Within s R e → OneBytes cs → acts s cs e ≡ ok e′ → Goes s R cs e e′
 unfolding acts OneBytes

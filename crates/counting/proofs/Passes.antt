@@ -27,7 +27,7 @@ use Rattle.definition.specs.Count.{oneIf, AlwaysEnds, CountsUp, upCount, Makes}
 use Rattle.counting.proofs.Laid.{Opening, Laid}
 use Rattle.counting.proofs.Numbers.{IsWidth, counts}
 use Rattle.counting.proofs.Counting.{counted, first-ends}
-use Rattle.counting.proofs.Once.{OneBytes, below, binds, program-once}
+use Rattle.counting.proofs.Once.{OneBytes, below, binds, program-once, program-bytes}
 use Rattle.rules.proofs.File.{no-rules}
 use Rattle.runs.proofs.Results.{ok-bind, ok-is, ok-given, some-is}
 use Rattle.counting.proofs.ForCalls.{for-calls}
@@ -108,7 +108,7 @@ in-files place sheet program s p c sheetRead programRead compiled f o u x a b d 
     let calls = calls-are p f o (counts-up (f .step) (counts width (f .step) (u .up) .1 .1)) in
     let em : Emission s p f n (o .before) body (o .behind) e = emission s p f n (o .before) body (o .behind) e (subst (λ cs. acts s cs (emitterAt (p .pos)) ≡ ok e) calls (q .1)) in
     let laid = laid-out s (λ r. role-of-opcode g r) (comparison-of-byte g Gt) p f (o .before) (o .behind) (o .loops) e
-    (λ l. subst (λ cs. binds l cs ≤ 1) calls (at-most-once p l)) (subst (λ cs. OneBytes cs) calls (program-once (p .body) .bytes 0)) em in
+    (λ l. subst (λ cs. binds l cs ≤ 1) calls (at-most-once p l)) (subst (λ cs. OneBytes cs) calls (program-bytes (p .body))) em in
     concludes (imageOf s c) (placesOf s p f o) (f .control) (f .from) (f .to) (f .step)
     (carried _ (imageOf s c) _ (placesOf s p f o) (f .control) (f .from) (f .to) (f .step) (ap (λ k. imageOf s k) same) (sym (places-are s p f o e em)) laid)
     valueWidth u x a b d

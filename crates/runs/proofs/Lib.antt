@@ -10,7 +10,6 @@ pub mod Decoding
 pub mod Emitted
 pub mod Later
 pub mod Rewritten
-pub mod Decoding
 pub mod Passes
 pub mod Patched
 pub mod Running
