@@ -214,10 +214,10 @@ through m f v x₀ x c a b d (later {y = y} lo hi n g t) r more =
 
 -- ---- the FOR's own instructions
 
-abbrev standing : ℕ → List ℕ → (ℕ → ℕ) → State
+abbrev pub standing : ℕ → List ℕ → (ℕ → ℕ) → State
 standing p st vs = record { place = p; stack = st; variables = vs }
 
-as-standing : (x : State) (p : ℕ) (st : List ℕ) → x .place ≡ p → x .stack ≡ st → x ≡ standing p st (x .variables)
+pub as-standing : (x : State) (p : ℕ) (st : List ℕ) → x .place ≡ p → x .stack ≡ st → x ≡ standing p st (x .variables)
 as-standing x p st a b = ap (λ q. standing q (x .stack) (x .variables)) a ∙ ap (λ s. standing p s (x .variables)) b
 
 module _ (m : Image) (p : ℕ) (st : List ℕ) (vs : ℕ → ℕ) where

@@ -17,9 +17,11 @@ use Rattle.definition.specs.Walk.{next, after}
 use Rattle.definition.specs.Count.{oneIf}
 use Rattle.counting.proofs.Once.{OneByte, OneBytes, closes, closed, isBind, binds}
 use Rattle.field.proofs.Results.{never, ok-demand, ok-bind, ok-is}
-use Rattle.runs.proofs.Emitted.{fold-bytes}
+use Rattle.runs.proofs.Heights.{next-mono}
+use Rattle.runs.proofs.Emitted.{fold-bytes, relabelled, count}
+use Rattle.runs.proofs.Rows.{patchHere}
 use Rattle.runs.proofs.Conditions.{index-last}
-use Rattle.counting.proofs.Rows.{Row, rowOf, unpatched, bytesOf, codeOf, patchOf, patchesOf, Sized, code-append, patches-append, sized-append, sized-left, Formed, FormedBy, Adds, add-adds, branch-adds}
+use Rattle.counting.proofs.Rows.{Row, rowOf, unpatched, operandOf, bytesOf, codeOf, patchesOf, Sized, code-append, patches-append, sized-append, sized-left, Formed, FormedBy, Adds, add-adds, branch-adds}
 
 -- ---- the pool
 
@@ -92,21 +94,6 @@ lastOf (resetStackDepth h) l = l
 lastOf (setPosition p) l = l
 lastOf (refused f) l = other
 
-unfoldable pub labelsOf : Call → ℕ → List (Option ℕ) → List (Option ℕ)
-labelsOf (createLabel h) p ls = ls ++ (none ∷ [])
-labelsOf (bindLabel k) p ls = set ls k (some p)
-labelsOf (loadVariable v) p ls = ls
-labelsOf (storeVariable v) p ls = ls
-labelsOf (loadConstant k) p ls = ls
-labelsOf (addConstant k) p ls = ls
-labelsOf (emitOpcode r) p ls = ls
-labelsOf (emitJmp k) p ls = ls
-labelsOf (emitJmpIfNot k) p ls = ls
-labelsOf (emitCmpBr c v k m) p ls = ls
-labelsOf (resetStackDepth h) p ls = ls
-labelsOf (setPosition p′) p ls = ls
-labelsOf (refused f) p ls = ls
-
 -- the constant that a call names stands in the pool
 unfoldable pub Names : Call → List ℕ → Type 0
 Names (createLabel h) ks = Unit {0}
@@ -150,10 +137,10 @@ pub record Acts (s : Sheet) (rows : List Row) (c : Call) (l : Last) (e e′ : Em
   pub more : List ℕ
   pub grows : e′ .constants ≡ e .constants ++ more
   pub names : Names c (e′ .constants)
-  pub labels : e′ .labels ≡ labelsOf c (length (e .bytecode)) (e .labels)
+  pub labels : e′ .labels ≡ relabelled c (length (e .bytecode)) (e .labels)
 
 -- an instruction that names no constant
-plainly : {s : Sheet} {rows : List Row} {c : Call} {l : Last} {e e′ : Emitter} → Names c (e′ .constants) → labelsOf c (length (e .bytecode)) (e .labels) ≡ e .labels → Adds s rows l e e′ → Acts s rows c l e e′
+plainly : {s : Sheet} {rows : List Row} {c : Call} {l : Last} {e e′ : Emitter} → Names c (e′ .constants) → relabelled c (length (e .bytecode)) (e .labels) ≡ e .labels → Adds s rows l e e′ → Acts s rows c l e e′
 plainly {e = e} n q a = record {
   formed = a .formed;
   last = a .last;
@@ -164,7 +151,7 @@ plainly {e = e} n q a = record {
 }
 
 -- an instruction after its constant entered the pool
-pooled-then : {s : Sheet} {rows : List Row} {c : Call} {l : Last} {e e′ : Emitter} (k : ℕ) (u : Emitter) → (indexOf k (e′ .constants) < length (e′ .constants) → Names c (e′ .constants)) → labelsOf c (length (e .bytecode)) (e .labels) ≡ e .labels
+pooled-then : {s : Sheet} {rows : List Row} {c : Call} {l : Last} {e e′ : Emitter} (k : ℕ) (u : Emitter) → (indexOf k (e′ .constants) < length (e′ .constants) → Names c (e′ .constants)) → relabelled c (length (e .bytecode)) (e .labels) ≡ e .labels
     → Pools k e u → Adds s rows l u e′ → Acts s rows c l e e′
 pooled-then {e = e} k u n q p a = record {
   formed = a .formed;
@@ -180,7 +167,7 @@ unpooled {s = s} {rows = rows} {e = e} {u = u} p f = subst (λ c. Formed s rows 
 
 -- nothing but labels or position
 still : {s : Sheet} {rows : List Row} (c : Call) (l : Last) (e e′ u : Emitter) → rowsOf s c (u .constants) ≡ [] → FormedBy s rows u → u .last ≡ l → u .constants ≡ e .constants → Names c (u .constants)
-    → u .labels ≡ labelsOf c (length (e .bytecode)) (e .labels) → ok u ≡ ok e′ → Acts s (rows ++ rowsOf s c (e′ .constants)) c l e e′
+    → u .labels ≡ relabelled c (length (e .bytecode)) (e .labels) → ok u ≡ ok e′ → Acts s (rows ++ rowsOf s c (e′ .constants)) c l e e′
 still {s = s} {rows = rows} c l e e′ u r f h k n q p = subst (λ x. Acts s (rows ++ rowsOf s c (x .constants)) c l e x) (sym (ok-is p)) (record {
   formed = subst (λ rs. FormedBy s rs u) (sym (ap (λ t. rows ++ t) r ∙ append-nil rows)) f;
   last = h;
@@ -199,7 +186,7 @@ load-plain s rows v (stored w) e e′ f n p =
     add-adds s rows loadVar (le16 v) (loaded v) e e′ f refl (sym (ap (λ b. elim b [ true ↦ foldStore s e | false ↦ add s loadVar (le16 v) (loaded v) e ]) n) ∙ p)
 
 pub acted : (s : Sheet) (rows : List Row) (c : Call) (e e′ : Emitter) → FormedBy s rows e → OneByte c → folds c (e .last) ≡ false → act s c e ≡ ok e′ → Acts s (rows ++ rowsOf s c (e′ .constants)) c (lastOf c (e .last)) e e′
-unfolding act rowsOf lastOf labelsOf Names folds OneByte size traits row labelled settled le16
+unfolding act rowsOf lastOf relabelled Names folds OneByte size traits row labelled settled le16
 acted s rows (createLabel h) e e′ f o n p = still (createLabel h) (e .last) e e′ _ refl f refl refl tt refl (ok-demand _ _ _ _ e′ p .1)
 acted s rows (bindLabel k) e e′ f o n p = still (bindLabel k) other e e′ _ refl f refl refl tt refl p
 acted s rows (loadVariable v) e e′ f o n p = plainly tt refl (load-plain s rows v (e .last) e e′ f n p)
@@ -259,28 +246,12 @@ pub record Changed (cs : List Call) (e e′ : Emitter) : Type 0 where
   pub tracks : (b : Bool) → (b ≡ true → NotLoaded (e .last)) → closed b cs ≡ true → NotLoaded (e′ .last)
 
 -- the labels of one call
-labels-length : (c : Call) (p : ℕ) (ls : List (Option ℕ)) → length (labelsOf c p ls) ≡ next c (length ls)
-unfolding labelsOf next
-labels-length (createLabel h) p ls = length-append ls (none ∷ []) ∙ omega arith
-labels-length (bindLabel k) p ls = length-set ls k (some p)
-labels-length (loadVariable v) p ls = refl
-labels-length (storeVariable v) p ls = refl
-labels-length (loadConstant k) p ls = refl
-labels-length (addConstant k) p ls = refl
-labels-length (emitOpcode r) p ls = refl
-labels-length (emitJmp k) p ls = refl
-labels-length (emitJmpIfNot k) p ls = refl
-labels-length (emitCmpBr c v k m) p ls = refl
-labels-length (resetStackDepth h) p ls = refl
-labels-length (setPosition q) p ls = refl
-labels-length (refused f) p ls = refl
-
 not-bound : (k l : ℕ) → oneIf (eqb k l) ≡ 0 → l ≡ k → ⊥
 unfolding oneIf
 not-bound k l e q = let z = sym (ap oneIf (eq-eqb k l (sym q))) ∙ e in omega arith
 
-labels-kept : (c : Call) (p l : ℕ) (ls : List (Option ℕ)) → l < length ls → isBind l c ≡ 0 → getD (labelsOf c p ls) l none ≡ getD ls l none
-unfolding labelsOf isBind
+labels-kept : (c : Call) (p l : ℕ) (ls : List (Option ℕ)) → l < length ls → isBind l c ≡ 0 → getD (relabelled c p ls) l none ≡ getD ls l none
+unfolding relabelled isBind
 labels-kept (createLabel h) p l ls b n = List·getD-append ls (none ∷ []) none l b
 labels-kept (bindLabel k) p l ls b n = getD-set-other ls k l (some p) none (not-bound k l n)
 labels-kept (loadVariable v) p l ls b n = refl
@@ -347,7 +318,7 @@ goes-plain s R c e e′ w o n p =
       changed = record {
         more = a .more;
         grows = a .grows;
-        table = ap length (a .labels) ∙ labels-length c (length (e .bytecode)) (e .labels);
+        table = ap length (a .labels) ∙ count c (length (e .bytecode)) (e .labels);
         kept = λ l h z. ap (λ ls. getD ls l none) (a .labels) ∙ labels-kept c (length (e .bytecode)) l (e .labels) h (omega arith);
         tracks = λ b f z. subst (λ l. NotLoaded l) (sym (a .last)) (last-closed c (e .last) b f z);
       };
@@ -356,7 +327,7 @@ goes-plain s R c e e′ w o n p =
 -- a DUP put before the store that is last
 pub folded-formed : (s : Sheet) (v : ℕ) (front : List Row) (code : List ℕ) (ps : List PendingPatch) → Formed s (front ++ (rowOf storeVar (le16 v) none ∷ [])) code ps → length code < maxCode
     → Formed s (front ++ (rowOf dup [] none ∷ rowOf storeVar (le16 v) none ∷ [])) (take (length code - 3) code ++ (opcode s dup ∷ drop (length code - 3) code)) ps
-unfolding codeOf patchesOf patchOf bytesOf unpatched rowOf Sized size traits row le16
+unfolding codeOf patchesOf patchHere bytesOf operandOf unpatched rowOf Sized size traits row le16
 folded-formed s v front code ps f m =
     let w : List Row = rowOf storeVar (le16 v) none ∷ [] in
     let d : List Row = rowOf dup [] none ∷ w in
@@ -445,24 +416,9 @@ changed-then c cs e u e′ x y = record {
   more = x .more ++ y .more;
   grows = y .grows ∙ (ap (λ ks. ks ++ y .more) (x .grows) ∙ append-assoc (e .constants) (x .more) (y .more));
   table = y .table ∙ ap (λ n. after n cs) (x .table);
-  kept = λ l h z. y .kept l (subst (λ n. l < n) (sym (x .table)) (longer c (length (e .labels)) l h)) (omega arith) ∙ x .kept l h (omega arith);
+  kept = λ l h z. y .kept l (subst (λ n. l < n) (sym (x .table)) (let m = next-mono c (length (e .labels)) in omega arith)) (omega arith) ∙ x .kept l h (omega arith);
   tracks = λ b f z. y .tracks (closes c b) (λ t. x .tracks b f t) z;
 }
-  where
-    longer : (c : Call) (n l : ℕ) → l < n → l < next c n
-    longer (createLabel h) n l h′ = omega arith
-    longer (bindLabel k) n l h = h
-    longer (loadVariable v) n l h = h
-    longer (storeVariable v) n l h = h
-    longer (loadConstant k) n l h = h
-    longer (addConstant k) n l h = h
-    longer (emitOpcode r) n l h = h
-    longer (emitJmp k) n l h = h
-    longer (emitJmpIfNot k) n l h = h
-    longer (emitCmpBr x v k m) n l h = h
-    longer (resetStackDepth x) n l h = h
-    longer (setPosition q) n l h = h
-    longer (refused f) n l h = h
 
 pub goes-all : (s : Sheet) (R : List Row) (cs : List Call) (e e′ : Emitter) → Within s R e → OneBytes cs → acts s cs e ≡ ok e′ → Goes s R cs e e′
 unfolding acts OneBytes

@@ -17,62 +17,10 @@ use Rattle.definition.specs.Rewrite.{Bytes, ends, sizeOr1, cut, decode, boundar
 use Rattle.definition.specs.Optimize.{Pipeline, mapThrough, run, identity, optimize}
 use Rattle.definition.specs.Compile.{boundLabel, displacement, overwrite, patchJump, patchJumps}
 use Rattle.field.proofs.Lists.{has-here}
-use Rattle.counting.proofs.Rows.{Row, unpatched, bytesOf, codeOf, patchOf, patchesOf, Sized}
-
--- ---- decoding
-
-unfoldable pub joined : List Bytes → List ℕ
-joined [] = []
-joined (i ∷ is) = i ++ joined is
-
--- an instruction as long as its opcode says
-pub record Whole (s : Sheet) (i : Bytes) : Type 0 where
-  pub role : Role
-  pub first : ℕ
-  pub rest : List ℕ
-  pub is : i ≡ first ∷ rest
-  pub known : roleOf s first ≡ some role
-  pub sized : suc (length rest) ≡ size role
-
-unfoldable pub Wholes : Sheet → List Bytes → Type 0
-Wholes s [] = Unit {0}
-Wholes s (i ∷ is) = Whole s i × Wholes s is
-
-put : List ℕ → List Bytes → List Bytes
-put [] y = y
-put (b ∷ bs) y = onto b (put bs y)
-
-put-nil : (o : List ℕ) (ys : List Bytes) → put o ([] ∷ ys) ≡ o ∷ ys
-unfolding put onto
-put-nil [] ys = refl
-put-nil (b ∷ bs) ys = ap (λ x. onto b x) (put-nil bs ys)
-
-cut-operand : (s : Sheet) (o rest : List ℕ) → cut s (o ++ rest) (length o) ≡ put o (cut s rest 0)
-unfolding cut put
-cut-operand s [] rest = refl
-cut-operand s (b ∷ bs) rest = ap (λ x. onto b x) (cut-operand s bs rest)
-
-cut-one : (s : Sheet) (b : ℕ) (o rest : List ℕ) (r : Role) → roleOf s b ≡ some r → suc (length o) ≡ size r → cut s ((b ∷ o) ++ rest) 0 ≡ [] ∷ put (b ∷ o) (cut s rest 0)
-unfolding cut put ends sizeOr1
-cut-one s b o rest r k z =
-    let e : ends (roleOf s b) (length (o ++ rest)) ≡ true =
-    ap (λ t. ends t (length (o ++ rest))) k ∙ le-leb (size r) (suc (length (o ++ rest))) (omega (arith, length-append o rest)) in
-    let n : sizeOr1 (roleOf s b) - 1 ≡ length o = ap (λ t. sizeOr1 t - 1) k ∙ omega arith in
-    ap (λ t. elim t [ true ↦ [] ∷ onto b (cut s (o ++ rest) (sizeOr1 (roleOf s b) - 1)) | false ↦ [] ∷ [] ]) e
-    ∙ (ap (λ m. [] ∷ onto b (cut s (o ++ rest) m)) n ∙ ap (λ t. [] ∷ onto b t) (cut-operand s o rest))
-
-cut-joined : (s : Sheet) (is : List Bytes) → Wholes s is → cut s (joined is) 0 ≡ [] ∷ is
-unfolding joined Wholes cut
-cut-joined s [] w = refl
-cut-joined s (i ∷ is) w =
-    let h = w .0 in
-    ap (λ t. cut s (t ++ joined is) 0) (h .is)
-    ∙ (cut-one s (h .first) (h .rest) (joined is) (h .role) (h .known) (h .sized)
-    ∙ (ap (λ t. [] ∷ put (h .first ∷ h .rest) t) (cut-joined s is (w .1)) ∙ (ap (λ t. [] ∷ t) (put-nil (h .first ∷ h .rest) is) ∙ ap (λ t. [] ∷ t ∷ is) (sym (h .is)))))
-
-pub decode-joined : (s : Sheet) (is : List Bytes) → Wholes s is → decode s (joined is) ≡ is
-unfolding decode
-decode-joined s is w = ap (λ x. drop 1 x) (cut-joined s is w)
+use Rattle.runs.proofs.Decoding.{joined, Whole, Wholes, decode-joined}
+use Rattle.runs.proofs.Rows.{patchHere, to}
+use Rattle.runs.proofs.Patched.{aimedOperand, aimed-length, patchWith, patch-one}
+use Rattle.counting.proofs.Rows.{Row, unpatched, operandOf, bytesOf, codeOf, patchesOf, Sized}
 
 -- ---- no rules: every instruction is kept at its place
 
@@ -182,33 +130,21 @@ optimize-same s is protected w =
 
 -- ---- patching
 
--- operand and offset of a row at place p, whose label's goal is known
-unfoldable pub patchedWith : (ℕ → ℕ) → ℕ → Option ℕ → List ℕ → List ℕ
-patchedWith goal p none o = o
-patchedWith goal p (some l) o = o ++ le16 (displacement (goal l) (p + suc (length o) + 2))
-
+-- the bytes of a row at place p, whose label's goal is known
 unfoldable pub finalBytes : Sheet → (ℕ → ℕ) → ℕ → Row → Bytes
-finalBytes s goal p r = opcode s (r .role) ∷ patchedWith goal p (r .aim) (r .operand)
+finalBytes s goal p r = opcode s (r .role) ∷ aimedOperand goal (p + suc (length (operandOf r))) (r .aim) (operandOf r)
 
 unfoldable pub finalRows : Sheet → (ℕ → ℕ) → ℕ → List Row → List Bytes
 finalRows s goal p [] = []
 finalRows s goal p (r ∷ rs) = finalBytes s goal p r ∷ finalRows s goal (p + length (bytesOf s r)) rs
 
 pub final-length : (s : Sheet) (goal : ℕ → ℕ) (p : ℕ) (r : Row) → length (finalBytes s goal p r) ≡ length (bytesOf s r)
-unfolding finalBytes bytesOf patchedWith unpatched le16
+unfolding finalBytes bytesOf operandOf unpatched aimedOperand
 final-length s goal p r = ap suc (go (r .aim) (r .operand))
   where
-    go : (a : Option ℕ) (o : List ℕ) → length (patchedWith goal p a o) ≡ length (unpatched a o)
+    go : (a : Option ℕ) (o : List ℕ) → length (aimedOperand goal (p + suc (length (unpatched a o))) a (unpatched a o)) ≡ length (unpatched a o)
     go none o = refl
-    go (some l) o = length-append o _ ∙ sym (length-append o (0 ∷ 0 ∷ []))
-
--- two bytes written where two stand
-overwritten : (at : ℕ) (A two rest : List ℕ) (x y : ℕ) → at ≡ length A → overwrite at two (A ++ (x ∷ y ∷ rest)) ≡ A ++ (two ++ rest)
-unfolding overwrite
-overwritten at A two rest x y e =
-    let c = A ++ (x ∷ y ∷ rest) in
-    ap (λ n. take n c ++ (two ++ drop (n + 2) c)) e
-    ∙ (ap (λ t. t ++ (two ++ drop (length A + 2) c)) (take-append-seam A (x ∷ y ∷ rest)) ∙ ap (λ t. A ++ (two ++ t)) (drop-append-add A (x ∷ y ∷ rest) 2))
+    go (some l) o = aimed-length {Λ = λ x. 0} {g = 0} goal _ (o ++ (0 ∷ 0 ∷ [])) (to {l = l} refl) (λ b. omega (arith, length-append o (0 ∷ 0 ∷ [])))
 
 unfoldable pub instructionsOf : Sheet → List Row → List Bytes
 instructionsOf s [] = []
@@ -225,28 +161,22 @@ module _ (s : Sheet) (labels : List (Option ℕ)) (places : List ℕ) where
   goalIn l = movedTo (diagonal places) (boundLabel labels l)
 
   patch-row : (pre rest : List ℕ) (at : ℕ) (r : Row) (ps : List PendingPatch) → at ≡ length pre → has places at ≡ true
-      → patchJumps labels (diagonal places) (patchOf (r .aim) at (r .operand) ++ ps) (pre ++ (bytesOf s r ++ rest)) ≡ patchJumps labels (diagonal places) ps ((pre ++ finalBytes s goalIn at r) ++ rest)
-  unfolding bytesOf finalBytes patchOf unpatched patchedWith patchJumps patchJump goalIn
+      → patchJumps labels (diagonal places) (patchHere (r .aim) at (operandOf r) ++ ps) (pre ++ (bytesOf s r ++ rest)) ≡ patchJumps labels (diagonal places) ps ((pre ++ finalBytes s goalIn at r) ++ rest)
+  unfolding bytesOf operandOf finalBytes patchHere unpatched aimedOperand patchJumps patchJump patchWith goalIn
   patch-row pre rest at r ps e h = go (r .aim) (r .operand)
     where
       op : ℕ
       op = opcode s (r .role)
 
       go : (a : Option ℕ) (o : List ℕ)
-          → patchJumps labels (diagonal places) (patchOf a at o ++ ps) (pre ++ ((op ∷ unpatched a o) ++ rest)) ≡ patchJumps labels (diagonal places) ps ((pre ++ (op ∷ patchedWith goalIn at a o)) ++ rest)
+          → patchJumps labels (diagonal places) (patchHere a at (unpatched a o) ++ ps) (pre ++ ((op ∷ unpatched a o) ++ rest)) ≡ patchJumps labels (diagonal places) ps ((pre ++ (op ∷ aimedOperand goalIn (at + suc (length (unpatched a o))) a (unpatched a o))) ++ rest)
       go none o = ap (λ c. patchJumps labels (diagonal places) ps c) (sym (append-assoc pre (op ∷ o) rest))
       go (some l) o =
-          let A = pre ++ (op ∷ o) in
-          let two = le16 (displacement (goalIn l) (at + suc (length o) + 2)) in
-          let m = moved-diagonal places at h in
-          let n : at + suc (length o) ≡ length A = omega (arith, length-append pre (op ∷ o)) in
-          let c : pre ++ ((op ∷ (o ++ (0 ∷ 0 ∷ []))) ++ rest) ≡ A ++ (0 ∷ 0 ∷ rest) =
-          ap (λ t. pre ++ (op ∷ t)) (append-assoc o (0 ∷ 0 ∷ []) rest) ∙ sym (append-assoc pre (op ∷ o) (0 ∷ 0 ∷ rest)) in
-          let d : A ++ (two ++ rest) ≡ (pre ++ (op ∷ (o ++ two))) ++ rest =
-          sym (append-assoc A two rest) ∙ ap (λ t. t ++ rest) (append-assoc pre (op ∷ o) two) in
-          ap (λ k. patchJumps labels (diagonal places) ps (overwrite (k + suc (length o)) (le16 (displacement (goalIn l) (k + suc (length o) + 2))) (pre ++ ((op ∷ (o ++ (0 ∷ 0 ∷ []))) ++ rest)))) m
-          ∙ (ap (λ t. patchJumps labels (diagonal places) ps (overwrite (at + suc (length o)) two t)) c
-          ∙ (ap (λ t. patchJumps labels (diagonal places) ps t) (overwritten (at + suc (length o)) A two rest 0 0 n ∙ d)))
+          let two : List ℕ = o ++ (0 ∷ 0 ∷ []) in
+          let m : movedTo (diagonal places) at ≡ length pre + 0 = moved-diagonal places at h ∙ omega arith in
+          ap (λ k. patchJumps labels (diagonal places) ps (overwrite (k + (length two - 1)) (le16 (displacement (goalIn l) (k + (length two - 1) + 2))) (pre ++ ((op ∷ two) ++ rest)))) m
+          ∙ (ap (λ c. patchJumps labels (diagonal places) ps c) (patch-one {Λ = λ x. 0} {g = 0} goalIn pre op two rest (to {l = l} refl) (λ b. omega (arith, length-append o (0 ∷ 0 ∷ []))))
+          ∙ ap (λ k. patchJumps labels (diagonal places) ps ((pre ++ (op ∷ aimedOperand goalIn (k + suc (length two)) (some l) two)) ++ rest)) (sym e))
 
   patch-rows : (pre : List ℕ) (at : ℕ) (rs : List Row) → at ≡ length pre → Among (boundariesFrom at (instructionsOf s rs)) places
       → patchJumps labels (diagonal places) (patchesOf s at rs) (pre ++ codeOf s rs) ≡ pre ++ joined (finalRows s goalIn at rs)
@@ -266,7 +196,7 @@ module _ (s : Sheet) (known : (r : Role) → roleOf s (opcode s r) ≡ some r) w
   pub wholes : (rs : List Row) → Sized s rs → Wholes s (instructionsOf s rs)
   unfolding Wholes instructionsOf Sized bytesOf
   wholes [] z = tt
-  wholes (r ∷ rs) z = (record { role = r .role; first = opcode s (r .role); rest = unpatched (r .aim) (r .operand); is = refl; known = known (r .role); sized = z .0 }, wholes rs (z .1))
+  wholes (r ∷ rs) z = (record { role = r .role; first = opcode s (r .role); rest = operandOf r; is = refl; known = known (r .role); sized = z .0 }, wholes rs (z .1))
 
   pub final-wholes : (goal : ℕ → ℕ) (p : ℕ) (rs : List Row) → Sized s rs → Wholes s (finalRows s goal p rs)
   unfolding Wholes finalRows Sized finalBytes
@@ -275,7 +205,7 @@ module _ (s : Sheet) (known : (r : Role) → roleOf s (opcode s r) ≡ some r) w
     record {
       role = r .role;
       first = opcode s (r .role);
-      rest = patchedWith goal p (r .aim) (r .operand);
+      rest = aimedOperand goal (p + suc (length (operandOf r))) (r .aim) (operandOf r);
       is = refl;
       known = known (r .role);
       sized = final-length s goal p r ∙ z .0;

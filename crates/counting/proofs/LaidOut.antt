@@ -31,10 +31,13 @@ use Rattle.counting.proofs.Laid.{Opening, Laid}
 use Rattle.counting.proofs.Once.{OneByte, OneBytes, bytes-left, bytes-right, binds, isBind, binds-append}
 use Rattle.field.proofs.Results.{ok-demand, ok-bind, ok-is}
 use Rattle.runs.proofs.Heights.{after-mono}
+use Rattle.runs.proofs.Decoding.{joined}
+use Rattle.runs.proofs.Emitted.{relabelled}
+use Rattle.runs.proofs.Patched.{aimedOperand}
 use Rattle.runs.proofs.Conditions.{indexed}
-use Rattle.counting.proofs.Rows.{Row, rowOf, unpatched, bytesOf, codeOf, patchesOf, Sized, code-append, FormedBy}
-use Rattle.counting.proofs.Emitted.{rowsOf, lastOf, labelsOf, Names, foldsInto, folds, acted, folded-formed, Tail, NotLoaded, Within, Goes, goes-all, acts-append}
-use Rattle.counting.proofs.Finished.{joined, optimize-same, diagonal, moved-diagonal, among-self, finalBytes, finalRows, patchedWith, instructionsOf, code-joined, goalIn, patched-all, wholes}
+use Rattle.counting.proofs.Rows.{Row, rowOf, unpatched, operandOf, bytesOf, codeOf, patchesOf, Sized, code-append, FormedBy}
+use Rattle.counting.proofs.Emitted.{rowsOf, lastOf, Names, foldsInto, folds, acted, folded-formed, Tail, NotLoaded, Within, Goes, goes-all, acts-append}
+use Rattle.counting.proofs.Finished.{optimize-same, diagonal, moved-diagonal, among-self, finalBytes, finalRows, instructionsOf, code-joined, goalIn, patched-all, wholes}
 use Rattle.counting.proofs.ForCalls.{body-closed}
 use Rattle.counting.proofs.Placed.{Placed, placed, no-start, operand-at, target-at, boundary-between}
 
@@ -68,7 +71,7 @@ record At (s : Sheet) (rows : List Row) (l : Last) (e : Emitter) : Type 0 where
 record Next (s : Sheet) (rows : List Row) (c : Call) (l : Last) (e e′ : Emitter) : Type 0 where
   at : At s (rows ++ rowsOf s c (e′ .constants)) (lastOf c l) e′
   names : Names c (e′ .constants)
-  labels : e′ .labels ≡ labelsOf c (length (e .bytecode)) (e .labels)
+  labels : e′ .labels ≡ relabelled c (length (e .bytecode)) (e .labels)
 
 next-at : {s : Sheet} {rows : List Row} {l : Last} {e : Emitter} (c : Call) (e′ : Emitter) → At s rows l e → OneByte c → folds c l ≡ false → act s c e ≡ ok e′ → Next s rows c l e e′
 next-at {s = s} {rows = rows} {l = l} {e = e} c e′ h o n p =
@@ -144,7 +147,7 @@ module _ (s : Sheet) (f : For) (n : ℕ) (R : List Row) (l : Last) (u₀ u₁ u�
     labels : length (u₆ .labels) ≡ suc (suc n)
 
   opened : Opened
-  unfolding constRow storeRow testRow rowsOf lastOf labelsOf Names folds OneByte bytesOf unpatched rowOf le16
+  unfolding constRow storeRow testRow rowsOf lastOf relabelled Names folds OneByte bytesOf operandOf unpatched rowOf le16
   opened =
       let a₁ = next-at (loadConstant (f .from)) u₁ start tt refl p₁ in
       let a₂ = next-at (storeVariable (f .control)) u₂ (a₁ .at) tt refl p₂ in
@@ -200,7 +203,7 @@ module _ (s : Sheet) (f : For) (n : ℕ) (G : List Row) (l : Last) (u₇ v₁ v�
     long₆ : suc n < length (v₆ .labels)
 
   counted-up : CountedUp
-  unfolding loadRow constRow addRow storeRow jumpRow rowsOf lastOf labelsOf Names folds OneByte size traits row bytesOf unpatched rowOf le16
+  unfolding loadRow constRow addRow storeRow jumpRow rowsOf lastOf relabelled Names folds OneByte size traits row bytesOf operandOf unpatched rowOf le16
   counted-up =
       let a₁ = next-at (loadVariable (f .control)) v₁ here tt unfolded q₁ in
       let a₂ = next-at (loadConstant (f .step)) v₂ (a₁ .at) tt refl q₂ in
@@ -279,7 +282,7 @@ sixteen n = omega arith
 
 module _ (m : Image) (s : Sheet) (goal : ℕ → ℕ) (p : ℕ) where
   variable-read : (r : Role) (v : ℕ) → Placed m p r (finalBytes s goal p (rowOf r (le16 v) none)) → operandAt (m .bytecode) (p + 1) ≡ v
-  unfolding finalBytes patchedWith rowOf le16
+  unfolding finalBytes aimedOperand operandOf unpatched rowOf le16
   variable-read r v h = operand-at m p r _ h 1 (omega arith) ∙ sixteen v
 
   constant-read : (k : ℕ) (ks : List ℕ) → Placed m p loadConst (finalBytes s goal p (constRow k ks)) → getD (m .constants) (indexOf k ks) 0 ≡ k → constantAt m (p + 1) ≡ k
@@ -287,28 +290,28 @@ module _ (m : Image) (s : Sheet) (goal : ℕ → ℕ) (p : ℕ) where
   constant-read k ks h e = ap (λ i. getD (m .constants) i 0) (variable-read loadConst (indexOf k ks) h) ∙ e
 
   jump-read : (l t : ℕ) → Placed m p jmp (finalBytes s goal p (jumpRow l)) → goal l ≡ t → t ≤ maxCode → p + 3 ≤ maxCode → target (m .bytecode) (p + 3) ≡ some t
-  unfolding finalBytes patchedWith jumpRow rowOf le16
+  unfolding finalBytes aimedOperand operandOf unpatched jumpRow rowOf le16
   jump-read l t h g a b =
-      let d : displacement (goal l) (p + 1 + 2) ≡ displacement t (p + 3) = ap (λ x. displacement x (p + 1 + 2)) g ∙ ap (λ x. displacement t x) (omega arith) in
+      let d : displacement (goal l) (p + 3) ≡ displacement t (p + 3) = ap (λ x. displacement x (p + 3)) g in
       target-at m p jmp _ 1 (p + 3) t h (omega arith) (omega arith) (ap (λ x. x % 256) d) (ap (λ x. x / 256) d) a b
 
   module _ (v k l t : ℕ) (ks : List ℕ) (h : Placed m p cmpBr (finalBytes s goal p (testRow s v k l ks))) where
     test-comparison : getD (m .bytecode) (p + 1) 0 ≡ comparisonByte s Gt
-    unfolding finalBytes patchedWith testRow rowOf le16
+    unfolding finalBytes aimedOperand operandOf unpatched testRow rowOf le16
     test-comparison = h .bytes 1 (omega arith)
 
     test-variable : operandAt (m .bytecode) (p + 2) ≡ v
-    unfolding finalBytes patchedWith testRow rowOf le16
+    unfolding finalBytes aimedOperand operandOf unpatched testRow rowOf le16
     test-variable = operand-at m p cmpBr _ h 2 (omega arith) ∙ sixteen v
 
     test-constant : getD (m .constants) (indexOf k ks) 0 ≡ k → constantAt m (p + 4) ≡ k
-    unfolding finalBytes patchedWith testRow rowOf le16 constantAt
+    unfolding finalBytes aimedOperand operandOf unpatched testRow rowOf le16 constantAt
     test-constant e = ap (λ i. getD (m .constants) i 0) (operand-at m p cmpBr _ h 4 (omega arith) ∙ sixteen (indexOf k ks)) ∙ e
 
     test-target : goal l ≡ t → t ≤ maxCode → p + 8 ≤ maxCode → target (m .bytecode) (p + 8) ≡ some t
-    unfolding finalBytes patchedWith testRow rowOf le16
+    unfolding finalBytes aimedOperand operandOf unpatched testRow rowOf le16
     test-target g a b =
-        let d : displacement (goal l) (p + 6 + 2) ≡ displacement t (p + 8) = ap (λ x. displacement x (p + 6 + 2)) g ∙ ap (λ x. displacement t x) (omega arith) in
+        let d : displacement (goal l) (p + 8) ≡ displacement t (p + 8) = ap (λ x. displacement x (p + 8)) g in
         target-at m p cmpBr _ 6 (p + 8) t h (omega arith) (omega arith) (ap (λ x. x % 256) d) (ap (λ x. x / 256) d) a b
 
 -- ---- the whole emission
@@ -544,7 +547,7 @@ module _ (s : Sheet) (known : (r : Role) → roleOf s (opcode s r) ≡ some r) (
 
   -- up to the body the FOR is laid out, whatever the rows behind it
   opening : (rows Z : List Row) → rows ≡ R₂ ++ Z → FormedBy s rows e → Opening image places (f .control) (f .from) (f .to)
-  unfolding imageOf finalizeFunction rowOf bytesOf unpatched le16 constRow storeRow testRow
+  unfolding imageOf finalizeFunction rowOf bytesOf operandOf unpatched le16 constRow storeRow testRow
   opening rows Z q formed =
       let v = f .control in
       let goal = goalOf s rows e in
@@ -581,7 +584,7 @@ module _ (s : Sheet) (known : (r : Role) → roleOf s (opcode s r) ≡ some r) (
 
   -- where the load is folded into a store that ends the body, nothing starts behind the body
   hidden : (w : ℕ) → x .u₇ .last ≡ stored w → eqb w (f .control) ≡ true → Opening image places (f .control) (f .from) (f .to) × (isStart image (places .increment) ≡ false)
-  unfolding Tail imageOf rowOf bytesOf unpatched le16 size traits row
+  unfolding Tail imageOf rowOf bytesOf operandOf unpatched le16 size traits row
   hidden w q t =
       let st : Row = rowOf storeVar (le16 w) none in
       let du : Row = rowOf dup [] none in
@@ -602,7 +605,7 @@ module _ (s : Sheet) (known : (r : Role) → roleOf s (opcode s r) ≡ some r) (
 
   -- where it is not, the FOR is laid out
   shown : foldsInto (x .u₇ .last) (f .control) ≡ false → Laid image places (f .control) (f .from) (f .to) (f .step)
-  unfolding imageOf finalizeFunction rowOf bytesOf unpatched le16 constRow loadRow storeRow testRow addRow jumpRow OneBytes
+  unfolding imageOf finalizeFunction rowOf bytesOf operandOf unpatched le16 constRow loadRow storeRow testRow addRow jumpRow OneBytes
   shown h =
       let v = f .control in
       let B = middle .within .more in

@@ -11,7 +11,7 @@ use Rattle.definition.specs.Limits.{width, badSheet}
 use Rattle.definition.specs.Res.{ok, given}
 use Rattle.definition.specs.Rules.{readRules}
 use Rattle.definition.specs.Program.{readProgram}
-use Rattle.definition.specs.Opcode.{Role, Sheet, opcode, roleOf, comparisonByte, comparisonOf, Gt}
+use Rattle.definition.specs.Opcode.{Sheet, Gt}
 use Rattle.definition.specs.Sheet.{readSheet}
 use Rattle.definition.specs.Tree.{Program}
 use Rattle.definition.specs.Emit.{loadConstant, Emitter, emitterAt, acts}
@@ -22,16 +22,15 @@ use Rattle.definition.specs.Claims.{Either, left, right}
 use Rattle.opcode.proofs.Faults.{good}
 use Rattle.opcode.proofs.Sheets.{role-of-opcode, comparison-of-byte}
 use Rattle.definition.specs.Machine.{Image, State, isStart, imageOf}
-use Rattle.definition.specs.For.{Places, In, Emits, For, forStmt, settingOf, testingOf, bodyOf, countingOf, placesOf}
+use Rattle.definition.specs.For.{Places, Emits, For, forStmt, settingOf, testingOf, bodyOf, countingOf, placesOf}
 use Rattle.definition.specs.Count.{oneIf, AlwaysEnds, CountsUp, upCount, Makes}
 use Rattle.counting.proofs.Laid.{Opening, Laid}
 use Rattle.counting.proofs.Numbers.{IsWidth, counts}
 use Rattle.counting.proofs.Counting.{counted, first-ends}
-use Rattle.counting.proofs.Once.{OneBytes, below, binds, program-once}
+use Rattle.counting.proofs.Once.{OneBytes, below, binds, program-once, program-bytes}
 use Rattle.rules.proofs.File.{no-rules}
-use Rattle.field.proofs.Results.{ok-bind, ok-is, ok-given}
+use Rattle.field.proofs.Results.{ok-bind, ok-is, ok-given, some-is}
 use Rattle.counting.proofs.ForCalls.{for-calls}
-use Rattle.counting.proofs.Found.{found}
 use Rattle.counting.proofs.LaidOut.{rest₀, rest₁, rest₂, rest₅, Emission, emission, laid-out, places-are}
 
 valueWidth : IsWidth width
@@ -76,68 +75,40 @@ carried m m′ g g′ v from to by p q l =
     subst (λ x. Either (Laid m′ x v from to by) (Opening m′ x v from to × (isStart m′ (x .increment) ≡ false))) q
     (subst (λ x. Either (Laid x g v from to by) (Opening x g v from to × (isStart x (g .increment) ≡ false))) p l)
 
-module _ (s : Sheet) (known : (r : Role) → roleOf s (opcode s r) ≡ some r) (greater : comparisonOf s (comparisonByte s Gt) ≡ some Gt) where
-  -- In a program compiled with no rules, a FOR over constants that counts up by 1 or more, from ≤ to, with to plus step still a signed
-  -- 32-bit number, makes (to − from) ÷ step + 1 passes from any state at its first place with an empty stack, if its body always ends, never
-  -- jumps out or returns and never stores to its control.
-  pub for-passes : (p : Program) (c : FinalizedFunction) → compileProgram s [] p ≡ ok c → (f : For) (o : Emits p (forStmt f)) → CountsUp width (f .from) (f .to) (f .step)
-      → (x : State) → x .place ≡ placesOf s p f o .first → x .stack ≡ [] → AlwaysEnds (imageOf s c) (placesOf s p f o) (f .control) x
-      → Makes (imageOf s c) (placesOf s p f o) x (upCount width (f .from) (f .to) (f .step))
-  unfolding compileProgram emitProgram imageOf
-  for-passes p c h f o u x a b d =
-      let q = ok-bind (emitProgram s p) _ c h in
-      let e : Emitter = q .0 in
-      let same : finalizeFunction s [] e ≡ c = sym (ok-is (q .2)) in
-      let n = after 0 (o .before) in
-      let body = bodyOf f (o .loops) n in
-      let calls = calls-are p f o (counts-up (f .step) (counts width (f .step) (u .up) .1 .1)) in
-      let em : Emission s p f n (o .before) body (o .behind) e = emission s p f n (o .before) body (o .behind) e (subst (λ cs. acts s cs (emitterAt (p .pos)) ≡ ok e) calls (q .1)) in
-      let laid = laid-out s known greater p f (o .before) (o .behind) (o .loops) e (λ l. subst (λ cs. binds l cs ≤ 1) calls (at-most-once p l)) (subst (λ cs. OneBytes cs) calls (program-once (p .body) .bytes 0)) em in
-      concludes (imageOf s c) (placesOf s p f o) (f .control) (f .from) (f .to) (f .step)
-      (carried _ (imageOf s c) _ (placesOf s p f o) (f .control) (f .from) (f .to) (f .step) (ap (λ k. imageOf s k) same) (sym (places-are s p f o e em)) laid)
-      valueWidth u x a b d
+-- ---- from the three files on: an empty rule file has no rules
 
--- The same from the sheet's text on.
-pub for-passes-of : (sheet : List ℕ) (s : Sheet) → readSheet sheet ≡ some s → (p : Program) (c : FinalizedFunction) → compileProgram s [] p ≡ ok c
+compiled-from : (place : ℕ) (sheet program : List ℕ) (s : Sheet) (p : Program) (c : FinalizedFunction) → readSheet sheet ≡ some s → readProgram program ≡ ok p
+    → compileFiles place sheet [] program ≡ ok c → compileProgram s [] p ≡ ok c
+unfolding compileFiles
+compiled-from place sheet program s p c a b h =
+    let x = ok-bind (given (readSheet sheet) badSheet place) _ c h in
+    let y = ok-bind (readRules []) _ c (x .2) in
+    let z = ok-bind (readProgram program) _ c (y .2) in
+    let sheetIs : x .0 ≡ s = some-is (sym (ok-given (readSheet sheet) badSheet place (x .0) (x .1)) ∙ a) in
+    let rulesAre : y .0 ≡ [] = ok-is (sym no-rules ∙ y .1) in
+    let programIs : z .0 ≡ p = ok-is (sym b ∙ z .1) in
+    subst (λ t. compileProgram t [] p ≡ ok c) sheetIs (subst (λ rs. compileProgram (x .0) rs p ≡ ok c) rulesAre (subst (λ q. compileProgram (x .0) (y .0) q ≡ ok c) programIs (z .2)))
+
+-- In what was compiled with an empty rule file, a FOR over constants that counts up by 1 or more, from ≤ to, with to plus step still a signed
+-- number of the values' width, makes (to − from) ÷ step + 1 passes from any state at its first place with an empty stack, if its body always ends,
+-- never jumps out or returns and never stores to its control. Every FOR of the program's tree is among its calls (`Found.found`), but those in arms
+-- without labels, which are not emitted.
+pub in-files : (place : ℕ) (sheet program : List ℕ) (s : Sheet) (p : Program) (c : FinalizedFunction) → readSheet sheet ≡ some s → readProgram program ≡ ok p → compileFiles place sheet [] program ≡ ok c
     → (f : For) (o : Emits p (forStmt f)) → CountsUp width (f .from) (f .to) (f .step)
     → (x : State) → x .place ≡ placesOf s p f o .first → x .stack ≡ [] → AlwaysEnds (imageOf s c) (placesOf s p f o) (f .control) x
     → Makes (imageOf s c) (placesOf s p f o) x (upCount width (f .from) (f .to) (f .step))
-for-passes-of sheet s h = let g = good sheet s h in for-passes s (λ r. role-of-opcode g r) (comparison-of-byte g Gt)
-
--- And for every FOR of the program's tree, outside arms without labels, which are not emitted.
-pub every-for : (sheet : List ℕ) (s : Sheet) → readSheet sheet ≡ some s → (p : Program) (c : FinalizedFunction) → compileProgram s [] p ≡ ok c
-    → (f : For) (i : In (forStmt f) (p .body)) → CountsUp width (f .from) (f .to) (f .step)
-    → (x : State) → x .place ≡ placesOf s p f (found f p i) .first → x .stack ≡ [] → AlwaysEnds (imageOf s c) (placesOf s p f (found f p i)) (f .control) x
-    → Makes (imageOf s c) (placesOf s p f (found f p i)) x (upCount width (f .from) (f .to) (f .step))
-every-for sheet s h p c k f i = for-passes-of sheet s h p c k f (found f p i)
-
--- ---- from the three files on: an empty rule file has no rules
-
--- what a call that is not refused read and compiled
-pub record Compiled (sheet program : List ℕ) (c : FinalizedFunction) : Type 0 where
-  pub s : Sheet
-  pub sheetRead : readSheet sheet ≡ some s
-  pub p : Program
-  pub programRead : readProgram program ≡ ok p
-  pub made : compileProgram s [] p ≡ ok c
-
-pub compiled-from : (place : ℕ) (sheet program : List ℕ) (c : FinalizedFunction) → compileFiles place sheet [] program ≡ ok c → Compiled sheet program c
-unfolding compileFiles
-compiled-from place sheet program c h =
-    let a = ok-bind (given (readSheet sheet) badSheet place) _ c h in
-    let b = ok-bind (readRules []) _ c (a .2) in
-    let d = ok-bind (readProgram program) _ c (b .2) in
-    let e : b .0 ≡ [] = ok-is (sym no-rules ∙ b .1) in
-    record {
-      s = a .0;
-      sheetRead = ok-given (readSheet sheet) badSheet place (a .0) (a .1);
-      p = d .0;
-      programRead = d .1;
-      made = subst (λ rs. compileProgram (a .0) rs (d .0) ≡ ok c) e (d .2);
-    }
-
--- The theorem for what such a call gave back.
-pub in-files : {sheet program : List ℕ} {c : FinalizedFunction} (k : Compiled sheet program c) (f : For) (i : In (forStmt f) (k .p .body)) → CountsUp width (f .from) (f .to) (f .step)
-    → (x : State) → x .place ≡ placesOf (k .s) (k .p) f (found f (k .p) i) .first → x .stack ≡ [] → AlwaysEnds (imageOf (k .s) c) (placesOf (k .s) (k .p) f (found f (k .p) i)) (f .control) x
-    → Makes (imageOf (k .s) c) (placesOf (k .s) (k .p) f (found f (k .p) i)) x (upCount width (f .from) (f .to) (f .step))
-in-files {sheet = sheet} {c = c} k f i = every-for sheet (k .s) (k .sheetRead) (k .p) c (k .made) f i
+unfolding compileProgram emitProgram imageOf
+in-files place sheet program s p c sheetRead programRead compiled f o u x a b d =
+    let g = good sheet s sheetRead in
+    let q = ok-bind (emitProgram s p) _ c (compiled-from place sheet program s p c sheetRead programRead compiled) in
+    let e : Emitter = q .0 in
+    let same : finalizeFunction s [] e ≡ c = sym (ok-is (q .2)) in
+    let n = after 0 (o .before) in
+    let body = bodyOf f (o .loops) n in
+    let calls = calls-are p f o (counts-up (f .step) (counts width (f .step) (u .up) .1 .1)) in
+    let em : Emission s p f n (o .before) body (o .behind) e = emission s p f n (o .before) body (o .behind) e (subst (λ cs. acts s cs (emitterAt (p .pos)) ≡ ok e) calls (q .1)) in
+    let laid = laid-out s (λ r. role-of-opcode g r) (comparison-of-byte g Gt) p f (o .before) (o .behind) (o .loops) e
+    (λ l. subst (λ cs. binds l cs ≤ 1) calls (at-most-once p l)) (subst (λ cs. OneBytes cs) calls (program-bytes (p .body))) em in
+    concludes (imageOf s c) (placesOf s p f o) (f .control) (f .from) (f .to) (f .step)
+    (carried _ (imageOf s c) _ (placesOf s p f o) (f .control) (f .from) (f .to) (f .step) (ap (λ k. imageOf s k) same) (sym (places-are s p f o e em)) laid)
+    valueWidth u x a b d

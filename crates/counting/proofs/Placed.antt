@@ -15,11 +15,12 @@ use Rattle.definition.specs.Opcode.{Role, Sheet, opcode, roleOf, size}
 use Rattle.definition.specs.Rewrite.{Bytes, decode, startsFrom, boundariesFrom}
 use Rattle.definition.specs.Compile.{displacement}
 use Rattle.definition.specs.Runs.{target}
-use Rattle.runs.proofs.Patched.{reached, reached-back}
+use Rattle.runs.proofs.Decoding.{joined, Whole, Wholes, decode-joined}
+use Rattle.runs.proofs.Patched.{reached, reached-back, aimedOperand}
 use Rattle.definition.specs.Machine.{Image, operandAt, isStart, roleAt}
 use Rattle.counting.proofs.Laid.{Stands}
-use Rattle.counting.proofs.Rows.{Row, bytesOf, codeOf, Sized, sized-left, sized-right}
-use Rattle.counting.proofs.Finished.{joined, Whole, Wholes, decode-joined, patchedWith, finalBytes, finalRows, final-length, final-wholes}
+use Rattle.counting.proofs.Rows.{Row, operandOf, bytesOf, codeOf, Sized, sized-left, sized-right}
+use Rattle.counting.proofs.Finished.{finalBytes, finalRows, final-length, final-wholes}
 
 -- ---- lists of instructions
 
@@ -154,7 +155,7 @@ module _ (s : Sheet) (known : (r : Role) → roleOf s (opcode s r) ≡ some r) (
       let parts : List Bytes = finalRows s goal 0 A ++ (finalBytes s goal p r ∷ finalRows s goal (p + length (bytesOf s r)) C) in
       placed-between m (finalRows s goal 0 A) (finalBytes s goal p r) (finalRows s goal (p + length (bytesOf s r)) C) p (code ∙ ap joined cut)
       (subst (λ x. Wholes x parts) sheet (subst (λ x. Wholes s x) cut (final-wholes s known goal 0 rows sized)))
-      (record { role = r .role; first = opcode s (r .role); rest = patchedWith goal p (r .aim) (r .operand); is = refl; known = in-sheet (r .role); sized = row-whole A r C p e })
+      (record { role = r .role; first = opcode s (r .role); rest = aimedOperand goal (p + suc (length (operandOf r))) (r .aim) (operandOf r); is = refl; known = in-sheet (r .role); sized = row-whole A r C p e })
       (q ∙ sym (final-joined s goal 0 A))
 
   pub no-start : (A : List Row) (r : Row) (C : List Row) (p : ℕ) → rows ≡ A ++ (r ∷ C) → length (codeOf s A) < p → p < length (codeOf s A) + size (r .role) → isStart m p ≡ false

@@ -11,6 +11,7 @@ use Rattle.definition.specs.Opcode.{Role, Sheet, opcode, size}
 use Rattle.definition.specs.Emit.{le16, Emitter, Last, other, PendingPatch, added, add, patched, branch}
 use Rattle.field.proofs.Results.{ok-bind, ok-is}
 use Rattle.runs.proofs.Emitted.{add-ok}
+use Rattle.runs.proofs.Rows.{patchHere}
 
 -- ---- rows
 
@@ -27,20 +28,19 @@ unfoldable pub unpatched : Option ℕ → List ℕ → List ℕ
 unpatched none o = o
 unpatched (some l) o = o ++ (0 ∷ 0 ∷ [])
 
+unfoldable pub operandOf : Row → List ℕ
+operandOf r = unpatched (r .aim) (r .operand)
+
 unfoldable pub bytesOf : Sheet → Row → List ℕ
-bytesOf s r = opcode s (r .role) ∷ unpatched (r .aim) (r .operand)
+bytesOf s r = opcode s (r .role) ∷ operandOf r
 
 unfoldable pub codeOf : Sheet → List Row → List ℕ
 codeOf s [] = []
 codeOf s (r ∷ rs) = bytesOf s r ++ codeOf s rs
 
-unfoldable pub patchOf : Option ℕ → ℕ → List ℕ → List PendingPatch
-patchOf none at o = []
-patchOf (some l) at o = record { instructionOffset = at; operandDelta = suc (length o); label = l } ∷ []
-
 unfoldable pub patchesOf : Sheet → ℕ → List Row → List PendingPatch
 patchesOf s at [] = []
-patchesOf s at (r ∷ rs) = patchOf (r .aim) at (r .operand) ++ patchesOf s (at + length (bytesOf s r)) rs
+patchesOf s at (r ∷ rs) = patchHere (r .aim) at (operandOf r) ++ patchesOf s (at + length (bytesOf s r)) rs
 
 unfoldable pub Sized : Sheet → List Row → Type 0
 Sized s [] = Unit {0}
@@ -60,13 +60,13 @@ unfolding patchesOf codeOf
 patches-append s at [] ys = ap (λ n. patchesOf s n ys) (omega arith)
 patches-append s at (x ∷ xs) ys =
     let n : at + length (bytesOf s x) + length (codeOf s xs) ≡ at + length (bytesOf s x ++ codeOf s xs) = omega (arith, length-append (bytesOf s x) (codeOf s xs)) in
-    ap (λ t. patchOf (x .aim) at (x .operand) ++ t) (patches-append s (at + length (bytesOf s x)) xs ys ∙ ap (λ m. patchesOf s (at + length (bytesOf s x)) xs ++ patchesOf s m ys) n)
-    ∙ sym (append-assoc (patchOf (x .aim) at (x .operand)) (patchesOf s (at + length (bytesOf s x)) xs) (patchesOf s (at + length (bytesOf s x ++ codeOf s xs)) ys))
+    ap (λ t. patchHere (x .aim) at (operandOf x) ++ t) (patches-append s (at + length (bytesOf s x)) xs ys ∙ ap (λ m. patchesOf s (at + length (bytesOf s x)) xs ++ patchesOf s m ys) n)
+    ∙ sym (append-assoc (patchHere (x .aim) at (operandOf x)) (patchesOf s (at + length (bytesOf s x)) xs) (patchesOf s (at + length (bytesOf s x ++ codeOf s xs)) ys))
 
-patches-snoc : (s : Sheet) (xs : List Row) (r : Row) → patchesOf s 0 (xs ++ (r ∷ [])) ≡ patchesOf s 0 xs ++ patchOf (r .aim) (length (codeOf s xs)) (r .operand)
+patches-snoc : (s : Sheet) (xs : List Row) (r : Row) → patchesOf s 0 (xs ++ (r ∷ [])) ≡ patchesOf s 0 xs ++ patchHere (r .aim) (length (codeOf s xs)) (operandOf r)
 unfolding patchesOf
 patches-snoc s xs r =
-    patches-append s 0 xs (r ∷ []) ∙ ap (λ t. patchesOf s 0 xs ++ t) (append-nil _ ∙ ap (λ n. patchOf (r .aim) n (r .operand)) (omega arith))
+    patches-append s 0 xs (r ∷ []) ∙ ap (λ t. patchesOf s 0 xs ++ t) (append-nil _ ∙ ap (λ n. patchHere (r .aim) n (operandOf r)) (omega arith))
 
 pub sized-append : (s : Sheet) (xs ys : List Row) → Sized s xs → Sized s ys → Sized s (xs ++ ys)
 unfolding Sized
@@ -96,12 +96,12 @@ FormedBy s rows e = Formed s rows (e .bytecode) (e .patches)
 -- ---- one instruction more
 
 grown : (s : Sheet) (rows : List Row) (code : List ℕ) (ps : List PendingPatch) (r : Row) → Formed s rows code ps → length (bytesOf s r) ≡ size (r .role) → length code + length (bytesOf s r) ≤ maxCode
-    → Formed s (rows ++ (r ∷ [])) (code ++ bytesOf s r) (ps ++ patchOf (r .aim) (length code) (r .operand))
+    → Formed s (rows ++ (r ∷ [])) (code ++ bytesOf s r) (ps ++ patchHere (r .aim) (length code) (operandOf r))
 unfolding Sized
 grown s rows code ps r f z m = record {
   is = ap (λ c. c ++ bytesOf s r) (f .is) ∙ sym (code-snoc s rows r);
-  patches = ap (λ p. p ++ patchOf (r .aim) (length code) (r .operand)) (f .patches)
-      ∙ (ap (λ c. patchesOf s 0 rows ++ patchOf (r .aim) (length c) (r .operand)) (f .is) ∙ sym (patches-snoc s rows r));
+  patches = ap (λ p. p ++ patchHere (r .aim) (length code) (operandOf r)) (f .patches)
+      ∙ (ap (λ c. patchesOf s 0 rows ++ patchHere (r .aim) (length c) (operandOf r)) (f .is) ∙ sym (patches-snoc s rows r));
   sized = sized-append s rows (r ∷ []) (f .sized) (z, tt);
   short = omega (arith, length-append code (bytesOf s r));
 }
@@ -115,7 +115,7 @@ pub record Adds (s : Sheet) (rows : List Row) (l : Last) (e e′ : Emitter) : Ty
 
 pub add-adds : (s : Sheet) (rows : List Row) (r : Role) (o : List ℕ) (l : Last) (e e′ : Emitter) → FormedBy s rows e → suc (length o) ≡ size r → add s r o l e ≡ ok e′
     → Adds s (rows ++ (rowOf r o none ∷ [])) l e e′
-unfolding added rowOf bytesOf unpatched patchOf
+unfolding added rowOf bytesOf operandOf unpatched patchHere
 add-adds s rows r o l e e′ f z p =
     let q = add-ok s r o l e e′ p in
     subst (λ x. Adds s (rows ++ (rowOf r o none ∷ [])) l e x) (sym (q .1)) (record {
@@ -125,9 +125,9 @@ add-adds s rows r o l e e′ f z p =
       labels = refl;
     })
 
-pub branch-adds : (s : Sheet) (rows : List Row) (r : Role) (o : List ℕ) (delta l : ℕ) (e e′ : Emitter) → FormedBy s rows e → suc (length (o ++ (0 ∷ 0 ∷ []))) ≡ size r → delta ≡ suc (length o) → branch s r o delta l e ≡ ok e′
+pub branch-adds : (s : Sheet) (rows : List Row) (r : Role) (o : List ℕ) (delta l : ℕ) (e e′ : Emitter) → FormedBy s rows e → suc (length (o ++ (0 ∷ 0 ∷ []))) ≡ size r → delta ≡ length (o ++ (0 ∷ 0 ∷ [])) - 1 → branch s r o delta l e ≡ ok e′
     → Adds s (rows ++ (rowOf r o (some l) ∷ [])) other e e′
-unfolding branch added patched rowOf bytesOf unpatched patchOf le16
+unfolding branch added patched rowOf bytesOf operandOf unpatched patchHere le16
 branch-adds s rows r o delta l e e′ f z d p =
     let a = ok-bind _ _ e′ p in
     let q = add-ok s r (o ++ (0 ∷ 0 ∷ [])) other e (a .0) (a .1) in

@@ -346,7 +346,7 @@ stays (resetStackDepth h) at ls l p = p
 stays (setPosition q) at ls l p = p
 stays (refused f) at ls l p = p
 
-count : (c : Call) (at : ℕ) (ls : List (Option ℕ)) → length (relabelled c at ls) ≡ next c (length ls)
+pub count : (c : Call) (at : ℕ) (ls : List (Option ℕ)) → length (relabelled c at ls) ≡ next c (length ls)
 unfolding relabelled next
 count (createLabel h) at ls = omega (arith, length-append ls (none ∷ []))
 count (bindLabel l) at ls = length-set ls l (some at)
@@ -422,16 +422,21 @@ created-holds (resetStackDepth x ∷ cs) n Λ f = (tt, created-holds cs n Λ f)
 created-holds (setPosition x ∷ cs) n Λ f = (tt, created-holds cs n Λ f)
 created-holds (refused x ∷ cs) n Λ f = (tt, created-holds cs n Λ f)
 
+program-holds : (b : Block) → Holds (created (emitStmts b 0 .1)) 0 (emitStmts b 0 .1)
+program-holds b = let cs : List Call = emitStmts b 0 .1 in created-holds cs 0 (created cs) (λ l. ap (created cs) (let z : 0 + l ≡ l = omega arith in z))
+
+-- a program's calls are safe from height 0 to height 0
+pub program-safe : (b : Block) → Safe (created (emitStmts b 0 .1)) (emitStmts b 0 .1) 0 0 0 0
+program-safe b = program-sound b .safe 0 (program-holds b)
+
 -- every program that is emitted is linked rows that end at height 0
 pub emitted : (s : Sheet) (b : Block) (p : Pos) (e : Emitter) → acts s (emitStmts b 0 .1) (emitterAt p) ≡ ok e
     → Acted (created (emitStmts b 0 .1)) (λ l. Bound l 0 (emitStmts b 0 .1)) s (emitStmts b 0 .1) 0 [] e
 unfolding emitterAt bytes-of patchesBy first-height Nobody
 emitted s b p e q =
-    let cs : List Call = emitStmts b 0 .1 in
-    let H = created-holds cs 0 (created cs) (λ l. ap (created cs) (let z : 0 + l ≡ l = omega arith in z)) in
-    acts-kept (emitterAt p) e (λ l j. elim (program-sound b .closed 0 l H j) [ left x ↦ absurd x | right x ↦ x ]) (record {
+    acts-kept (emitterAt p) e (λ l j. elim (program-sound b .closed 0 l (program-holds b) j) [ left x ↦ absurd x | right x ↦ x ]) (record {
       inv = record { rows = []; bytes = refl; linked = finished; labels = record { stands = λ m x y. never (cc) }; track = free; patches = refl; short = zero-le; first = refl };
       depth = refl;
       table = refl;
       jumps = empty;
-    }) (program-sound b .safe 0 H) q
+    }) (program-safe b) q

@@ -127,7 +127,7 @@ unfolding after
 behind n [] q = q
 behind n (x ∷ xs) q = there (behind (next x n) xs q)
 
-next-mono : (c : Call) (n : ℕ) → n ≤ next c n
+pub next-mono : (c : Call) (n : ℕ) → n ≤ next c n
 unfolding next
 next-mono (createLabel h) n = omega arith
 next-mono (bindLabel l) n = omega arith

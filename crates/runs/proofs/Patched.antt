@@ -70,7 +70,7 @@ unfoldable pub aimedRows : (ℕ → ℕ) → ℕ → List Row → List Row
 aimedRows T at [] = []
 aimedRows T at (r ∷ rs) = aimedRow T (at + suc (length (r .operand))) r ∷ aimedRows T (at + suc (length (r .operand))) rs
 
-aimed-length : {Λ : ℕ → ℕ} {g : ℕ} {b : Bool} {a : Option ℕ} (T : ℕ → ℕ) (next : ℕ) (o : List ℕ) → Leads Λ g b a → (b ≡ true → 2 ≤ length o) → length (aimedOperand T next a o) ≡ length o
+pub aimed-length : {Λ : ℕ → ℕ} {g : ℕ} {b : Bool} {a : Option ℕ} (T : ℕ → ℕ) (next : ℕ) (o : List ℕ) → Leads Λ g b a → (b ≡ true → 2 ≤ length o) → length (aimedOperand T next a o) ≡ length o
 unfolding aimedOperand le16
 aimed-length T next o nowhere two = refl
 aimed-length T next o (to {l = l} p) two =
@@ -169,7 +169,7 @@ overwritten front op o rest two le =
     ∙ (append-assoc front (op ∷ take k o) (two ++ rest) ∙ (ap (λ x. front ++ (op ∷ x)) (sym (append-assoc (take k o) two rest)) ∙ sym (append-assoc front (op ∷ (take k o ++ two)) rest))))
 
 -- one branch
-patch-one : {Λ : ℕ → ℕ} {g : ℕ} {b : Bool} {a : Option ℕ} (T : ℕ → ℕ) (front : List ℕ) (op : ℕ) (o rest : List ℕ) → Leads Λ g b a → (b ≡ true → 2 ≤ length o)
+pub patch-one : {Λ : ℕ → ℕ} {g : ℕ} {b : Bool} {a : Option ℕ} (T : ℕ → ℕ) (front : List ℕ) (op : ℕ) (o rest : List ℕ) → Leads Λ g b a → (b ≡ true → 2 ≤ length o)
     → patchWith T (patchHere a (length front + 0) o) (front ++ ((op ∷ o) ++ rest)) ≡ (front ++ (op ∷ aimedOperand T (length front + suc (length o)) a o)) ++ rest
 unfolding patchWith patchHere aimedOperand
 patch-one T front op o rest nowhere two = sym (append-assoc front (op ∷ o) rest)
