@@ -21,7 +21,7 @@ use Rattle.definition.specs.For.{Places, Emits, For, forStmt, placesOf}
 use Rattle.definition.specs.Count.{storesTo, Ends, ended, later, AlwaysEnds, IsValue, CountsUp, upCount, Makes}
 use Rattle.definition.specs.Cases.{bytes, plainSheet, open-Definition}
 use Rattle.field.proofs.Tests.{and-left, and-right}
-use Rattle.runs.proofs.Results.{never}
+use Rattle.field.proofs.Results.{never}
 use Rattle.counting.proofs.Counting.{standing, as-standing}
 use Rattle.counting.proofs.Passes.{in-files}
 

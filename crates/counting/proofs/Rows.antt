@@ -9,7 +9,7 @@ use Rattle.definition.specs.Limits.{maxCode}
 use Rattle.definition.specs.Res.{ok}
 use Rattle.definition.specs.Opcode.{Role, Sheet, opcode, size}
 use Rattle.definition.specs.Emit.{le16, Emitter, Last, other, PendingPatch, added, add, patched, branch}
-use Rattle.runs.proofs.Results.{ok-bind, ok-is}
+use Rattle.field.proofs.Results.{ok-bind, ok-is}
 use Rattle.runs.proofs.Emitted.{add-ok}
 use Rattle.runs.proofs.Rows.{patchHere}
 
