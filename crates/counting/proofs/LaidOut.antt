@@ -32,6 +32,7 @@ use Rattle.counting.proofs.Once.{OneByte, OneBytes, bytes-left, bytes-r
 use Rattle.field.proofs.Results.{ok-demand, ok-bind, ok-is}
 use Rattle.runs.proofs.Heights.{after-mono}
 use Rattle.runs.proofs.Decoding.{joined}
+use Rattle.runs.proofs.Later.{grown-here, acts-grown}
 use Rattle.runs.proofs.Emitted.{relabelled}
 use Rattle.runs.proofs.Patched.{aimedOperand}
 use Rattle.runs.proofs.Conditions.{indexed}
@@ -534,16 +535,16 @@ module _ (s : Sheet) (known : (r : Role) → roleOf s (opcode s r) ≡ some r) (
   -- what was entered and bound stays
   from-stays : getD (e .constants) (indexOf (f .from) (x .u₁ .constants)) 0 ≡ f .from
   from-stays =
-      let g = goes-all s [] (rest₁ f n body behind) (x .u₁) e (any-within (op .one)) bytes₁ (x .t₁) .changed in
-      constant-stays (f .from) (x .u₁ .constants) (e .constants) (g .more) (g .grows) (op .from)
+      let g = acts-grown s (rest₁ f n body behind) (x .u₁) e (grown-here (x .u₁) (op .one .last)) (x .t₁) in
+      constant-stays (f .from) (x .u₁ .constants) (e .constants) (g .moreConstants) (g .constants) (op .from)
 
   head-stays : getD (e .labels) n none ≡ some (length (x .u₂ .bytecode))
   head-stays = goes-all s [] (rest₅ f n body behind) (x .u₅) e (any-within (op .two)) bytes₅ (x .t₅) .changed .kept n (op .long) head-once ∙ op .head
 
   to-stays : getD (e .constants) (indexOf (f .to) (x .u₆ .constants)) 0 ≡ f .to
   to-stays =
-      let g = goes-all s [] (body ++ rest₀ f n behind) (x .u₆) e (any-within (op .three)) bytes₆ (x .t₆) .changed in
-      constant-stays (f .to) (x .u₆ .constants) (e .constants) (g .more) (g .grows) (op .to)
+      let g = acts-grown s (body ++ rest₀ f n behind) (x .u₆) e (grown-here (x .u₆) (op .three .last)) (x .t₆) in
+      constant-stays (f .to) (x .u₆ .constants) (e .constants) (g .moreConstants) (g .constants) (op .to)
 
   -- up to the body the FOR is laid out, whatever the rows behind it
   opening : (rows Z : List Row) → rows ≡ R₂ ++ Z → FormedBy s rows e → Opening image places (f .control) (f .from) (f .to)
@@ -663,8 +664,8 @@ module _ (s : Sheet) (known : (r : Role) → roleOf s (opcode s r) ≡ some r) (
       let head : goal n ≡ places .endTest = goal-is s known rows e formed n (places .endTest) Y₂ (test ∷ Z) e₃ head-stays (omega arith) in
       let end-stays : getD (e .labels) (suc n) none ≡ some (places .end) = g .changed .kept (suc n) (cu .long₆) end-once ∙ cu .end in
       let end : goal (suc n) ≡ places .end = goal-is s known rows e formed (suc n) (places .end) X₅ P refl end-stays (bytes-length (cu .all)) in
-      let w = goes-all s [] (rest₂ f n behind) (x .v₂) e (any-within (cu .two)) (bytes₂ .1) (x .w₂) .changed in
-      let by-stays : getD (e .constants) (indexOf (f .step) (x .v₂ .constants)) 0 ≡ f .step = constant-stays (f .step) (x .v₂ .constants) (e .constants) (w .more) (w .grows) (cu .by) in
+      let w = acts-grown s (rest₂ f n behind) (x .v₂) e (grown-here (x .v₂) (cu .two .last)) (x .w₂) in
+      let by-stays : getD (e .constants) (indexOf (f .step) (x .v₂ .constants)) 0 ≡ f .step = constant-stays (f .step) (x .v₂ .constants) (e .constants) (w .moreConstants) (w .constants) (cu .by) in
       record {
         opening = opening rows Z e₀ formed;
         leaves = test-target image s goal (places .endTest) v (f .to) (suc n) (places .end) (x .u₆ .constants) k₃ end short (omega arith);
