@@ -11,7 +11,7 @@ use Rattle.definition.specs.Limits.{maxRules}
 use Rattle.definition.specs.Lent.{zeros, filled}
 use Rattle.definition.specs.Opcode.{number}
 use Rattle.definition.specs.Rules.{Rule}
-use Rattle.rules.specs.View.{rowSize, tableSize, rowOf, rowsOf, tableOf, rulesIn, Each, IsRules, RowAt}
+use Rattle.rules.specs.View.{rowSize, firstAt, secondAt, tableSize, rowOf, rowsOf, tableOf, rulesIn, Each, IsRules, RowAt}
 use Rattle.rules.proofs.Rows.{rule-back, number-small}
 
 -- ---- clearing
@@ -148,11 +148,11 @@ table-row : (rs : List Rule) (i : ℕ) → i < length rs → (r : Rule) × (y : 
 unfolding tableOf filled
 table-row rs i h = row-there rs (zeros (tableSize - length (rowsOf rs))) i h
 
-first-is : (r : Rule) (y : List ℕ) → getD (rowOf r ++ y) 1 0 ≡ number (r .first)
+first-is : (r : Rule) (y : List ℕ) → getD (rowOf r ++ y) firstAt 0 ≡ number (r .first)
 unfolding rowOf
 first-is r y = refl
 
-second-is : (r : Rule) (y : List ℕ) → getD (rowOf r ++ y) 2 0 ≡ number (r .second)
+second-is : (r : Rule) (y : List ℕ) → getD (rowOf r ++ y) secondAt 0 ≡ number (r .second)
 unfolding rowOf
 second-is r y = refl
 
@@ -164,11 +164,11 @@ row-at {table} {count} {i} t h =
     let rs = rulesIn table count in
     let many : length rs ≡ count = rules-many table count in
     let (r, y, e) = table-row rs i (omega arith) in
-    let at-1 : getD table (i * rowSize + 1) 0 ≡ number (r .first) = sym (getD-drop (i * rowSize) table 1 0) ∙ ap (λ (l : List ℕ). getD l 1 0) (ap (drop (i * rowSize)) (t .is) ∙ e) ∙ first-is r y in
-    let at-2 : getD table (i * rowSize + 2) 0 ≡ number (r .second) = sym (getD-drop (i * rowSize) table 2 0) ∙ ap (λ (l : List ℕ). getD l 2 0) (ap (drop (i * rowSize)) (t .is) ∙ e) ∙ second-is r y in
+    let one : getD table (i * rowSize + firstAt) 0 ≡ number (r .first) = sym (getD-drop (i * rowSize) table firstAt 0) ∙ ap (λ (l : List ℕ). getD l firstAt 0) (ap (drop (i * rowSize)) (t .is) ∙ e) ∙ first-is r y in
+    let two : getD table (i * rowSize + secondAt) 0 ≡ number (r .second) = sym (getD-drop (i * rowSize) table secondAt 0) ∙ ap (λ (l : List ℕ). getD l secondAt 0) (ap (drop (i * rowSize)) (t .is) ∙ e) ∙ second-is r y in
     record {
       there = omega (arith, t .few);
       long = rules-long t;
-      first = rw at-1 (number-small (r .first));
-      second = rw at-2 (number-small (r .second));
+      first = rw one (number-small (r .first));
+      second = rw two (number-small (r .second));
     }

@@ -4,6 +4,7 @@ use Prim.Native.Nat.{_-_}
 use native.Mathlib.Omega.{arith}
 use lib.ListN.{length}
 use borrow.Rule.Slice.PartMut.{take-put}
+use Rattle.definition.specs.Sheet.{fieldCount}
 use Rattle.opcode.proofs.Tables.{Listing, listing-starts, listing-goes, listing-ends}
 use Rattle.opcode.proofs.sheet.list_roles.Statement.{statement}
 use Rattle.opcode.proofs.sheet.list_roles.Tie as tie
@@ -35,4 +36,4 @@ list-roles-spec =
     (λ c. search needs)  -- loop-less
     (λ c. listing-goes (c .before .before .loop .inv) (c .before .loop-test .taken) _ _ refl refl (omega (arith, c .slice-known3 .given (c .before .before .loop .i - 1))))  -- loop-again
     (λ c. c .before .loop .inv .long ∙ sym (c .before .before .before .before .before .before .before .pre))  -- same-length
-    (λ c. record { front = c .before .loop .inv .front ∙ take-put 33 (length (c .before .before .before .before .before .before .before .args .sheet .now) - 33) (c .before .before .before .before .before .before .before .args .sheet .now) (c .before .before .before .before .fill .last .0) (omega (arith, c .before .before .before .before .before .before .before .pre)); table = listing-ends (c .before .loop .inv) (omega (arith, c .loop-test .left)) }))  -- returns
+    (λ c. record { front = c .before .loop .inv .front ∙ take-put fieldCount (length (c .before .before .before .before .before .before .before .args .sheet .now) - fieldCount) (c .before .before .before .before .before .before .before .args .sheet .now) (c .before .before .before .before .fill .last .0) (omega (arith, c .before .before .before .before .before .before .before .pre)); table = listing-ends (c .before .loop .inv) (omega (arith, c .loop-test .left)) }))  -- returns
