@@ -6,18 +6,17 @@ use mathlib.Core.Bool.{Bool, true, false, _||_}
 use mathlib.Core.Option.{Option, some, none}
 use native.Mathlib.Omega.{arith}
 use lib.Dec.{eqb}
-use lib.ListN.{length, take, drop, length-append}
-use lib.Seq.{take-append-seam, drop-append-add}
-use borrow.Author.Tests.{eq-eqb, eqb-true, le-leb}
-use Rattle.definition.specs.Field.{onto, has}
-use Rattle.definition.specs.Opcode.{Role, Sheet, opcode, roleOf, size}
+use lib.ListN.{length, length-append}
+use borrow.Author.Tests.{eq-eqb, eqb-true}
+use Rattle.definition.specs.Field.{has}
+use Rattle.definition.specs.Opcode.{Role, Sheet, opcode, roleOf}
 use Rattle.definition.specs.Rules.{Action, keep, matches}
 use Rattle.definition.specs.Emit.{le16, PendingPatch}
-use Rattle.definition.specs.Rewrite.{Bytes, ends, sizeOr1, cut, decode, boundariesFrom, instruction, actions, applied, output, OffsetMap, offsets, movedTo, applyPeephole}
+use Rattle.definition.specs.Rewrite.{Bytes, boundariesFrom, actions, applied, output, OffsetMap, offsets, movedTo, applyPeephole}
 use Rattle.definition.specs.Optimize.{Pipeline, mapThrough, run, identity, optimize}
 use Rattle.definition.specs.Compile.{boundLabel, displacement, overwrite, patchJump, patchJumps}
 use Rattle.field.proofs.Lists.{has-here}
-use Rattle.runs.proofs.Decoding.{joined, Whole, Wholes, decode-joined}
+use Rattle.runs.proofs.Decoding.{joined, Wholes, decode-joined}
 use Rattle.runs.proofs.Rows.{patchHere, to}
 use Rattle.runs.proofs.Patched.{aimedOperand, aimed-length, patchWith, patch-one}
 use Rattle.counting.proofs.Rows.{Row, unpatched, operandOf, bytesOf, codeOf, patchesOf, Sized}

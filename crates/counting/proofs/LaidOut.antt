@@ -16,9 +16,8 @@ use Rattle.definition.specs.Res.{ok, _>>=_}
 use Rattle.definition.specs.Opcode.{Role, Sheet, opcode, roleOf, comparisonByte, comparisonOf, Gt, loadVar, storeVar, loadConst, dup, arithmetic, Add, jmp, cmpBr, size, traits, row}
 use Rattle.definition.specs.Tree.{Program}
 use Rattle.definition.specs.Emit.{le16, Call, createLabel, bindLabel, loadVariable, storeVariable, loadConstant, emitOpcode, emitJmp, emitCmpBr, Last, other, loaded, stored, Emitter, emitterAt, indexOf, loadAfter, foldStore, folded, add, act, acts}
-use Rattle.definition.specs.Walk as walk
-use Rattle.definition.specs.Walk.{after, say, nothing}
-use Rattle.definition.specs.Stmt.{Loops, bound}
+use Rattle.definition.specs.Walk.{after}
+use Rattle.definition.specs.Stmt.{Loops}
 use Rattle.definition.specs.Rewrite.{boundariesFrom, movedTo}
 use Rattle.definition.specs.Optimize.{optimize}
 use Rattle.definition.specs.Compile.{boundOr0, boundLabel, displacement, patchJumps, jumpTargets, finalizeFunction}
