@@ -67,10 +67,6 @@ unfolding setFrom zeroedFrom
 zero-is from l e = e ∙ ap (λ (r : List ℕ). take from l ++ r) (zeros-replicate (length l - from))
 
 -- all of it
-pub set-all : {out : List ℕ} (x : ℕ) (l : List ℕ) → out ≡ setFrom 0 x l → out ≡ replicate (length l) x
-unfolding setFrom
-set-all x l e = let z : length l - 0 ≡ length l = omega arith in e ∙ rw z
-
 pub zero-all : {out : List ℕ} (l : List ℕ) → out ≡ zeroedFrom 0 l → out ≡ zeros (length l)
 unfolding zeroedFrom
 zero-all l e = let z : length l - 0 ≡ length l = omega arith in e ∙ rw z
