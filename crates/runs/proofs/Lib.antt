@@ -14,4 +14,6 @@ pub mod Patched
 pub mod Running
 pub mod Finished
 pub mod Conditions
+pub mod Decided
+pub mod Safe
 pub mod Values
