@@ -6,11 +6,13 @@ use mathlib.Core.Bool.{Bool, true, false, not}
 use mathlib.Core.Option.{some}
 use Rattle.definition.specs.Opcode.{size, cmpBr}
 use Rattle.definition.specs.Iec.{signedOf, iec}
-use Rattle.definition.specs.Tree.{Expr, const, bool, read, binary, unary, compare, shortCircuit, bad}
+use Rattle.definition.specs.Tree.{Source, Expr, const, bool, read, binary, unary, compare, shortCircuit, bad, Stmt, if, for, loop, Block, Program}
 use Rattle.definition.specs.Emit.{Call}
 use Rattle.definition.specs.Walk.{after}
 use Rattle.definition.specs.CompileExpr.{ClassifiedCmp, classify, emitClassifiedCmpBr}
+use Rattle.definition.specs.Stmt.{while, repeat, shape, countsDown, bound, emitStmts}
 use Rattle.definition.specs.Machine.{Image, at, step}
+use Rattle.definition.specs.For.{Emits}
 
 -- the bits of a side that is a variable or a constant, where the variables hold these
 unfoldable pub side : (ℕ → ℕ) → Expr → ℕ
@@ -39,8 +41,15 @@ unfoldable pub goes : Bool → Bool → Bool
 goes true says = says
 goes false says = not says
 
--- a branch that some calls emit for a condition that is fused, on true or on false, to a label. (A FOR's end test is the comparison of its
--- control with its end.)
+-- the tests of a statement that may be fused, each the condition as it is written and whether its branch is on true: of an IF; of a WHILE,
+-- which leaves on false and goes back on true; of a REPEAT; of a FOR, whose end test is the comparison of its control with its end
+pub data Tests : Stmt → Expr → Bool → Type 0 where
+  ofIf : {s : Source} {c : Expr} {t e : Block} → Tests (if s c t e) c false
+  ofWhile : {s : Source} {i : ℕ} {b k : Block} {c : Expr} (on : Bool) → shape i b k ≡ while c → Tests (loop s i b k) c on
+  ofRepeat : {s : Source} {i : ℕ} {b k : Block} {c : Expr} → shape i b k ≡ repeat c → Tests (loop s i b k) c false
+  ofFor : {s : Source} {i v step : ℕ} {from to : Expr} {b : Block} → Tests (for s i v step from to b) (compare (bound (countsDown step)) (read v) to) false
+
+-- a branch that some calls emit for a condition that is fused, on true or on false, to a label
 pub record FusedBranch (calls : List Call) : Type 0 where
   pub condition : Expr
   pub classified : ClassifiedCmp
@@ -50,6 +59,15 @@ pub record FusedBranch (calls : List Call) : Type 0 where
   pub before : List Call
   pub behind : List Call
   pub emitted : calls ≡ before ++ (emitClassifiedCmpBr classified on label (after 0 before) .1 ++ behind)
+
+-- it is one of a statement of the program, among the calls that emit that statement
+pub record BranchOf (p : Program) {t : Stmt} (o : Emits p t) (c : Expr) (on : Bool) (b : FusedBranch (emitStmts (p .body) 0 .1)) : Type 0 where
+  pub its : b .condition ≡ c
+  pub way : b .on ≡ on
+  pub first : List Call
+  pub last : List Call
+  pub before : b .before ≡ o .before ++ first
+  pub behind : b .behind ≡ last ++ o .behind
 
 unfoldable pub led : Bool → ℕ → ℕ → ℕ
 led true goal next = goal

@@ -19,8 +19,8 @@ pub mod Compile
 pub mod Alone
 pub mod Runs
 pub mod Machine
-pub mod Fused
 pub mod For
+pub mod Fused
 pub mod Claims
 pub mod Count
 pub mod Listing

@@ -1,5 +1,5 @@
--- Fused comparisons: a condition that is fused branches exactly as IEC 61131-3's comparison of it, as it is written, says. One law over the
--- condition, `fused`; then where each of the four places, IF, WHILE, REPEAT and FOR's end test, emits it.
+-- Fused comparisons: a condition that is fused branches exactly as IEC 61131-3's comparison of it, as it is written, says (`fused`); and the
+-- bytes that are emitted for it.
 use Prim.Native.Nat.{ℕ, suc, _<_, zero-le, suc-le-suc}
 use mathlib.Core.Path.{_≡_, refl, sym, _∙_, ap, subst}
 use mathlib.Core.List.{List, [], _∷_, _++_}
@@ -13,10 +13,9 @@ use Rattle.definition.specs.Res.{ok}
 use Rattle.definition.specs.Opcode.{CompareOp, negate, commute, cmpBr, Sheet, opcode, comparisonByte}
 use Rattle.definition.specs.Iec.{signedOf, iec, taken}
 use Rattle.definition.specs.Tree.{Expr, const, bool, read, binary, unary, compare, shortCircuit, bad}
-use Rattle.definition.specs.Emit.{Emitter, PendingPatch, cmpBrOperandDelta, other, le16, indexOf, withConstant, pooledIf, pooled, added, patched, branch, act, emitCmpBr, addConstant, bindLabel}
-use Rattle.definition.specs.Walk.{Calls, _>>=_, _>>_, say, newLabel}
+use Rattle.definition.specs.Emit.{Emitter, PendingPatch, cmpBrOperandDelta, other, le16, indexOf, withConstant, pooledIf, pooled, added, patched, branch, act, emitCmpBr}
+use Rattle.definition.specs.Walk.{say}
 use Rattle.definition.specs.CompileExpr.{ClassifiedCmp, readOf, constantOf, zip, orClassified, classify, emitClassifiedCmpBr}
-use Rattle.definition.specs.Stmt.{Loops, branchUnlessBy, branchUnless, loopBody, endTestBy, whileBy, repeatBy}
 use Rattle.opcode.specs.Table.{Good}
 use Rattle.opcode.proofs.Branches.{iec-negate, iec-commute, taken-iec}
 use Rattle.definition.specs.Fused.{side, holds, goes}
@@ -177,30 +176,3 @@ coded s op v k l e e′ p =
           ∙ ap (λ x. e .patches ++ (record { instructionOffset = length x; operandDelta = cmpBrOperandDelta; label = l } ∷ [])) (i .code));
       last = ap (λ (x : Emitter). x .last) w;
     }
-
--- ---- the four places
-
--- IF: next is jumped to unless the condition holds
-pub in-if : (c : Expr) (f : ClassifiedCmp) (next : ℕ) → classify c ≡ some f → branchUnless c next ≡ emitClassifiedCmpBr f false next
-unfolding branchUnless branchUnlessBy
-in-if c f next e = ap (λ x. branchUnlessBy x c next) e
-
--- WHILE: out of the loop unless the condition holds, and back to its start if it does
-pub in-while : (i : ℕ) (c : Expr) (f : ClassifiedCmp) (end : ℕ) (nextUsed : Bool) (body : Loops → Calls) (loops : Loops) → classify c ≡ some f
-    → whileBy (classify c) i c end nextUsed body loops ≡ (say (addConstant (f .constant)) >> (newLabel 0 >>= λ start.
-    emitClassifiedCmpBr f false end >> (say (bindLabel start) >> (loopBody i end nextUsed body loops >> emitClassifiedCmpBr f true start))))
-unfolding whileBy
-in-while i c f end nextUsed body loops e = ap (λ x. whileBy x i c end nextUsed body loops) e
-
--- REPEAT: back to the head unless the condition holds
-pub in-repeat : (i : ℕ) (c : Expr) (f : ClassifiedCmp) (head end : ℕ) (nextUsed : Bool) (body : Loops → Calls) (loops : Loops) → classify c ≡ some f
-    → repeatBy (classify c) i c head end nextUsed body loops ≡ (say (addConstant (f .constant)) >> (say (bindLabel head) >> (loopBody i end nextUsed body loops >> emitClassifiedCmpBr f false head)))
-unfolding repeatBy
-in-repeat i c f head end nextUsed body loops e = ap (λ x. repeatBy x i c head end nextUsed body loops) e
-
--- FOR: out of the loop unless the control is within the end; the condition is that comparison, the control on the left
-pub in-for : (within : CompareOp) (v k : ℕ) (to : Expr) (end : ℕ) → constantOf to ≡ some k
-    → (classify (compare within (read v) to) ≡ some (record { op = within; variable = v; constant = k }))
-    × (endTestBy (constantOf to) within v to end ≡ emitClassifiedCmpBr (record { op = within; variable = v; constant = k }) false end)
-unfolding classify readOf constantOf orClassified zip endTestBy
-in-for within v k to end e = (ap (λ x. orClassified (zip within (some v) x) (zip (commute within) (readOf to) none)) e, ap (λ x. endTestBy x within v to end) e)

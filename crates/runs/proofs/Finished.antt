@@ -71,11 +71,13 @@ each-has B ps = go ps (λ x e. e)
     go [] f = empty
     go (q ∷ qs) f = f _ (has-first _ _ _ refl) also go qs (λ x e. f x (has-later _ _ _ e))
 
--- Each place of some code has one height, `heightAt`, reached or not: a run from a start or the end at its height, if that is not over the
--- depth, is fine, and stands at its place's height after any number of steps.
+-- Each place of some code has one height, `heightAt`: a run that stands there, over whatever outcomes and after however many steps, has it
+-- (`runs`). So has one that begins at any start or the end, reached or not, at that place's height, if that is not over the depth, and it is
+-- fine (`from`).
 pub record OneHeight (s : Sheet) (code : List ℕ) (depth : ℕ) : Type 0 where
   pub heightAt : ℕ → ℕ
   pub first : heightAt 0 ≡ 0
+  pub runs : (outcomes : List Bool) (n : ℕ) → run s code n (start outcomes) .state .height ≡ heightAt (run s code n (start outcomes) .state .place)
   pub from : (x : State) → Either (has (startsFrom 0 (decode s code)) (x .place) ≡ true) (x .place ≡ length code) → x .height ≡ heightAt (x .place) → x .height ≤ depth → (n : ℕ)
       → Fine s code depth (run s code n x) × (run s code n x .state .height ≡ heightAt (run s code n x .state .place))
 
@@ -320,6 +322,7 @@ module _ (s : Sheet) (back : Reads s) (rules : List Rule) (fine : (pass : ℕ) �
   rows-heights = record {
     heightAt = λ p. height-of rows 0 p;
     first = sym (height-is 0 0 (begins []));
+    runs = λ os n. height-is _ _ (run-fine s rows linked T leads back n (start os) (begins os) zero-le .stands);
     from = λ x w h le n. let f = run-fine s rows linked T leads back n x (stands-at x w h) le in (row-fine s rows linked T leads back f, height-is _ _ (f .stands));
   }
 
