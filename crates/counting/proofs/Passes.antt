@@ -29,7 +29,7 @@ use Rattle.counting.proofs.Counting.{counted, first-ends}
 use Rattle.counting.proofs.Once.{OneBytes, below, binds, program-once, program-bytes}
 use Rattle.rules.proofs.File.{no-rules}
 use Rattle.field.proofs.Results.{ok-is, some-is}
-use Rattle.runs.proofs.Finished.{compiled}
+use Rattle.runs.proofs.Safe.{compiled}
 use Rattle.counting.proofs.ForCalls.{for-calls}
 use Rattle.counting.proofs.LaidOut.{rest₀, rest₁, rest₂, rest₅, Emission, emission, laid-out, places-are}
 
