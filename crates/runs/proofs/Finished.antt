@@ -1,5 +1,5 @@
 -- Finished code of one program: every run of it over any outcomes is fine, every branch of it, reached or not, leads where the three maps
--- move its label's place, and each place of it has one height. Then what a call read and emitted.
+-- move its label's place, and each place of it has one height.
 use Prim.Native.Nat.{ℕ, _+_, _-_, suc, zero, _≤_, _<_, zero-le}
 use mathlib.Core.Path.{_≡_, refl, sym, _∙_, ap, subst}
 use mathlib.Core.List.{List, [], _∷_, _++_, map, map-map, map-append}
@@ -12,19 +12,17 @@ use Rattle.definition.specs.Limits.{maxCode}
 use Rattle.definition.specs.Res.{ok}
 use Rattle.definition.specs.Field.{has}
 use Rattle.definition.specs.Opcode.{Sheet, opcode}
-use Rattle.definition.specs.Sheet.{readSheet}
-use Rattle.definition.specs.Rules.{Rule, readRules, matches}
+use Rattle.definition.specs.Rules.{Rule, matches}
 use Rattle.definition.specs.Tree.{Program}
-use Rattle.definition.specs.Program.{readProgram}
 use Rattle.definition.specs.Emit.{Emitter, PendingPatch, Call}
 use Rattle.definition.specs.Stmt.{emitStmts}
 use Rattle.definition.specs.Rewrite.{decode, startsFrom, OffsetMap, movedTo}
 use Rattle.definition.specs.Optimize.{optimize}
-use Rattle.definition.specs.Compile.{boundOr0, boundLabel, jumpTargets, FinalizedFunction, finalizeFunction, emitProgram, compileProgram, compileFiles}
+use Rattle.definition.specs.Compile.{boundOr0, boundLabel, jumpTargets, finalizeFunction, emitProgram}
 use Rattle.definition.specs.Runs.{State, target, run, start}
-use Rattle.field.proofs.Results.{never, ok-bind, ok-is, ok-given}
+use Rattle.field.proofs.Results.{never}
 use Rattle.runs.proofs.Heights.{Bound}
-use Rattle.definition.specs.Claims.{Either, left, right, Fine, branchPlaces, inTurn, LeadsTo, Each, empty, _also_, BranchLeads, Branches}
+use Rattle.definition.specs.Claims.{Either, left, right, Fine, branchPlaces, inTurn, LeadsTo, Each, empty, _also_, BranchLeads, Branches, OneHeight}
 use Rattle.runs.proofs.Rows.{Row, bytes-of, place-at, aim-at, row-of, row-inside, row-aim, row-bytes, height-first, place-first, place-end, place-within, patchHere, patchesBy, patches-same, each-patch, Linked}
 use Rattle.runs.proofs.Emitted.{Stands, Placed, Acted, created, emitted}
 use Rattle.runs.proofs.Passes.{Reads, Fine as FineMatcher, decode-rows, looked-moved, Piped, optimize-piped, moved-in-turn}
@@ -72,16 +70,6 @@ each-has B ps = go ps (λ x e. e)
     go : (qs : List PendingPatch) → ((x : ℕ) → has (map (λ (p : PendingPatch). B (p .label)) qs) x ≡ true → has targets x ≡ true) → Each (λ (p : PendingPatch). has targets (B (p .label)) ≡ true) qs
     go [] f = empty
     go (q ∷ qs) f = f _ (has-first _ _ _ refl) also go qs (λ x e. f x (has-later _ _ _ e))
-
--- Each place of some code has one height, `heightAt`: a run that stands there, over whatever outcomes and after however many steps, has it
--- (`runs`). So has one that begins at any start or the end, reached or not, at that place's height, if that is not over the depth, and it is
--- fine (`from`).
-pub record OneHeight (s : Sheet) (code : List ℕ) (depth : ℕ) : Type 0 where
-  pub heightAt : ℕ → ℕ
-  pub first : heightAt 0 ≡ 0
-  pub runs : (outcomes : List Bool) (n : ℕ) → run s code n (start outcomes) .state .height ≡ heightAt (run s code n (start outcomes) .state .place)
-  pub from : (x : State) → Either (has (startsFrom 0 (decode s code)) (x .place) ≡ true) (x .place ≡ length code) → x .height ≡ heightAt (x .place) → x .height ≤ depth → (n : ℕ)
-      → Fine s code depth (run s code n x) × (run s code n x .state .height ≡ heightAt (run s code n x .state .place))
 
 -- ---- the rows of finished code
 
@@ -324,43 +312,10 @@ module _ (s : Sheet) (back : Reads s) (rules : List Rule) (fine : (pass : ℕ) �
   rows-heights = record {
     heightAt = λ p. height-of rows 0 p;
     first = sym (height-is 0 0 (begins []));
-    runs = λ os n. height-is _ _ (run-fine s rows linked T leads back n (start os) (begins os) zero-le .stands);
+    held = λ os n. height-is _ _ (run-fine s rows linked T leads back n (start os) (begins os) zero-le .stands);
     from = λ x w h le n. let f = run-fine s rows linked T leads back n x (stands-at x w h) le in (row-fine s rows linked T leads back f, height-is _ _ (f .stands));
   }
 
   pub program-heights : OneHeight s (finalizeFunction s rules e .bytecode) (finalizeFunction s rules e .depth)
   unfolding finalizeFunction
   program-heights = subst (λ c. OneHeight s c (e .maxDepth)) (sym code-rows) rows-heights
-
--- ---- from the three files on
-
--- what the call read and emitted, where it gave back f
-pub record Compiled (sheet rules program : List ℕ) (f : FinalizedFunction) : Type 0 where
-  pub s : Sheet
-  pub rs : List Rule
-  pub p : Program
-  pub e : Emitter
-  pub sheetRead : readSheet sheet ≡ some s
-  pub rulesRead : readRules rules ≡ ok rs
-  pub programRead : readProgram program ≡ ok p
-  pub emission : emitProgram s p ≡ ok e
-  pub finish : f ≡ finalizeFunction s rs e
-
-pub compiled : (place : ℕ) (sheet rules program : List ℕ) (f : FinalizedFunction) → compileFiles place sheet rules program ≡ ok f → Compiled sheet rules program f
-unfolding compileFiles compileProgram
-compiled place sheet rules program f q =
-    let a = ok-bind _ _ f q in
-    let b = ok-bind _ _ f (a .2) in
-    let c = ok-bind _ _ f (b .2) in
-    let d = ok-bind _ _ f (c .2) in
-    record {
-      s = a .0;
-      rs = b .0;
-      p = c .0;
-      e = d .0;
-      sheetRead = ok-given (readSheet sheet) _ _ (a .0) (a .1);
-      rulesRead = b .1;
-      programRead = c .1;
-      emission = d .1;
-      finish = ok-is (d .2);
-    }

@@ -10,17 +10,51 @@ use Rattle.definition.specs.Limits.{maxCode}
 use Rattle.definition.specs.Res.{ok}
 use Rattle.definition.specs.Opcode.{Sheet}
 use Rattle.definition.specs.Sheet.{readSheet}
-use Rattle.definition.specs.Rules.{matches}
+use Rattle.definition.specs.Rules.{Rule, readRules, matches}
+use Rattle.definition.specs.Tree.{Program}
+use Rattle.definition.specs.Program.{readProgram}
+use Rattle.definition.specs.Emit.{Emitter}
 use Rattle.definition.specs.Lent.{zeros, filled}
-use Rattle.definition.specs.Compile.{FinalizedFunction, finalizeFunction, Room, compileInto, Answer, answer, Compiles}
-use Rattle.definition.specs.Claims.{SafeCode, Safe}
+use Rattle.definition.specs.Compile.{FinalizedFunction, finalizeFunction, emitProgram, compileProgram, compileFiles, Room, compileInto, Answer, answer, Compiles}
+use Rattle.definition.specs.Claims.{SafeCode, Safe, OneHeight}
 use Rattle.opcode.proofs.Faults.{good}
 use Rattle.opcode.proofs.Sheets.{role-of-opcode}
-use Rattle.field.proofs.Results.{ok-demand}
+use Rattle.field.proofs.Results.{ok-demand, ok-bind, ok-is, ok-given}
 use Rattle.runs.proofs.Answers.{call-numbered, finished}
 use Rattle.runs.proofs.Passes.{Reads, Fine as FineMatcher, rules-fine}
-use Rattle.runs.proofs.Finished.{OneHeight, Compiled, compiled, program-runs, program-branches, program-short, program-heights}
+use Rattle.runs.proofs.Finished.{program-runs, program-branches, program-short, program-heights}
 use Rattle.runs.proofs.Decided.{program-fused}
+
+-- what the call read and emitted, where it gave back f
+pub record Compiled (sheet rules program : List ℕ) (f : FinalizedFunction) : Type 0 where
+  pub s : Sheet
+  pub rs : List Rule
+  pub p : Program
+  pub e : Emitter
+  pub sheetRead : readSheet sheet ≡ some s
+  pub rulesRead : readRules rules ≡ ok rs
+  pub programRead : readProgram program ≡ ok p
+  pub emission : emitProgram s p ≡ ok e
+  pub finish : f ≡ finalizeFunction s rs e
+
+pub compiled : (place : ℕ) (sheet rules program : List ℕ) (f : FinalizedFunction) → compileFiles place sheet rules program ≡ ok f → Compiled sheet rules program f
+unfolding compileFiles compileProgram
+compiled place sheet rules program f q =
+    let a = ok-bind _ _ f q in
+    let b = ok-bind _ _ f (a .2) in
+    let c = ok-bind _ _ f (b .2) in
+    let d = ok-bind _ _ f (c .2) in
+    record {
+      s = a .0;
+      rs = b .0;
+      p = c .0;
+      e = d .0;
+      sheetRead = ok-given (readSheet sheet) _ _ (a .0) (a .1);
+      rulesRead = b .1;
+      programRead = c .1;
+      emission = d .1;
+      finish = ok-is (d .2);
+    }
 
 -- an output starts with what it holds
 lent : (room : ℕ) (xs : List ℕ) → take (length xs) (filled room xs) ≡ xs
