@@ -2,6 +2,8 @@
 use Prim.Native.Nat.{ℕ}
 use lib.ListN.{length-replicate}
 use Rattle.text.proofs.Lines.{sheet-ready, put-by-sheet, put-no-sheet}
+use Rattle.opcode.specs.Table.{tableSize}
+use Rattle.opcode.proofs.Readings.{read-whole}
 use borrow.Author.Needs.{needs}
 use Rattle.text.proofs.put_instructions.Statement.{statement}
 use Rattle.text.proofs.put_instructions.Tie as tie
@@ -15,7 +17,7 @@ put-instructions-spec =
     (λ c. search needs)  -- enum-told
     (λ c. search needs)  -- enum-told-2
     (λ c. search needs)  -- slice-aggregate-put-decoded
-    (λ c κs. sheet-ready (c .before .before .before .before .before .before .before .before .before .before .args .text .now) (c .before .before .before .before .before .read-sheet .last .1 .0) (c .before .before .before .before .before .read-sheet .result) (c .before .before .before .before .before .read-sheet .ensures .fit (length-replicate {A = ℕ} 289 0)) (c .before .before .enum-told2 .given .1))  -- put-decoded-requires
-    (λ c. put-no-sheet (c .before .before .before .before .before .before .before .before .args .text .now) (c .before .before .before .read-sheet .last .1 .0) (c .before .before .before .read-sheet .result) (c .before .before .before .read-sheet .ensures .fit (length-replicate {A = ℕ} 289 0)) _ _ (c .enum-told .given .1))  -- returns
+    (λ c κs. sheet-ready (c .before .before .before .before .before .before .before .before .before .before .args .text .now) (c .before .before .before .before .before .read-sheet .last .1 .0) (c .before .before .before .before .before .read-sheet .result) (read-whole (length-replicate {A = ℕ} tableSize 0) (c .before .before .before .before .before .read-sheet .ensures)) (c .before .before .enum-told2 .given .1))  -- put-decoded-requires
+    (λ c. put-no-sheet (c .before .before .before .before .before .before .before .before .args .text .now) (c .before .before .before .read-sheet .last .1 .0) (c .before .before .before .read-sheet .result) (read-whole (length-replicate {A = ℕ} tableSize 0) (c .before .before .before .read-sheet .ensures)) _ _ (c .enum-told .given .1))  -- returns
     (λ c. search needs)  -- same-length
-    (λ c. put-by-sheet (c .before .before .before .before .before .before .before .before .before .before .before .before .before .args .text .now) (c .before .before .before .before .before .before .before .before .read-sheet .last .1 .0) (c .before .before .before .before .before .before .before .before .read-sheet .result) (c .before .before .before .before .before .before .before .before .read-sheet .ensures .fit (length-replicate {A = ℕ} 289 0)) _ _ (c .before .before .before .before .before .enum-told2 .given .1) (c .before .before .put-decoded .ensures)))  -- returns-2
+    (λ c. put-by-sheet (c .before .before .before .before .before .before .before .before .before .before .before .before .before .args .text .now) (c .before .before .before .before .before .before .before .before .read-sheet .last .1 .0) (c .before .before .before .before .before .before .before .before .read-sheet .result) (read-whole (length-replicate {A = ℕ} tableSize 0) (c .before .before .before .before .before .before .before .before .read-sheet .ensures)) _ _ (c .before .before .before .before .before .enum-told2 .given .1) (c .before .before .put-decoded .ensures)))  -- returns-2
