@@ -7,7 +7,7 @@ use Prim.Native.Nat.{ℕ, zero, suc, _+_, _<_, min}
 use native.Mathlib.Omega.{arith}
 use borrow.Author.Tests.{eqb-true, eqb-false, eq-eqb, ne-eqb}
 use lib.Dec.{eqb, leb, ltb}
-use lib.ListN.{length, getD, take, drop, length-take, length-map, List·getD-map}
+use lib.ListN.{length, getD, take, length-take, length-map, List·getD-map}
 use lib.Seq.{take-all}
 use Rattle.field.proofs.Lists.{take-map, drop-map}
 use Rattle.definition.specs.Field.{lf, comma, split, Field, field, Read, malformed, outside, is, Numbers, wrong, far, are, numbers}
