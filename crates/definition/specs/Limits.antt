@@ -1,11 +1,15 @@
 -- Document 01's limits, field ranges and refusal numbers. Each stands here and nowhere else.
-use Prim.Native.Nat.{ℕ}
+use Prim.Native.Nat.{ℕ, _/_}
 
 -- ---- limits of emission, and of what is lent for its results
 
 -- bytes of code, emitted and finished
 abbrev pub maxCode : ℕ
 maxCode = 16384
+
+-- branches in the code: the smallest has three bytes
+abbrev pub maxBranches : ℕ
+maxBranches = maxCode / 3
 
 -- labels created, used or not
 abbrev pub maxLabels : ℕ

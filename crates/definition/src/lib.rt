@@ -1,10 +1,12 @@
 // The limits and refusal numbers of document 01 for code, each shown to be the definition's (specs/Limits.antt).
 ghost use mathlib.Core.Path.{_≡_};
 ghost use Prim.Native.Nat.{_*_};
-ghost use Rattle.definition.specs.Limits.{maxCode, maxLabels, maxProtected, maxLines, maxConstants, entrySize, maxProgram, maxNesting, maxVariables, maxField, maxRules, passCount, width, badText, badForm, badRange, noLoop, tooDeep, wrongLines, badSheet, badCode, badRule, codeFull, labelsFull, linesFull, constantsFull, outputShort};
+ghost use Rattle.definition.specs.Limits.{maxCode, maxBranches, maxLabels, maxProtected, maxLines, maxConstants, entrySize, maxProgram, maxNesting, maxVariables, maxField, maxRules, passCount, width, badText, badForm, badRange, noLoop, tooDeep, wrongLines, badSheet, badCode, badRule, codeFull, labelsFull, linesFull, constantsFull, outputShort};
 
 // Bytes of code, emitted and finished.
 pub const MAX_CODE: usize = 16384;
+// Branches in the code: the smallest has three bytes.
+pub const MAX_BRANCHES: usize = MAX_CODE / 3;
 // Labels created, used or not.
 pub const MAX_LABELS: usize = 4096;
 // Protected offsets of rewriting called alone.
@@ -63,6 +65,12 @@ pub fn max_code() -> usize
     ensures { λ r. ⌜ r ≡ maxCode ⌝ }
 {
     MAX_CODE
+}
+
+pub fn max_branches() -> usize
+    ensures { λ r. ⌜ r ≡ maxBranches ⌝ }
+{
+    MAX_BRANCHES
 }
 
 pub fn max_labels() -> usize

@@ -18,7 +18,7 @@ pub length-one : (x : LineEntry) → length (oneEntry x) ≡ entrySize
 unfolding oneEntry posNumbers
 length-one x = refl
 
-one-back : (x : LineEntry) (ns : List ℕ) → entryIn (oneEntry x ++ ns) ≡ x
+pub one-back : (x : LineEntry) (ns : List ℕ) → entryIn (oneEntry x ++ ns) ≡ x
 unfolding oneEntry entryIn posNumbers posIn
 one-back x ns = refl
 

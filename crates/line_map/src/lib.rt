@@ -2,14 +2,29 @@
 // lies in a list of numbers: nothing else in code knows it.
 ghost use mathlib.Core.Path.{_≡_};
 ghost use lib.ListN.{getD, drop};
+ghost use Rattle.definition.specs.Emit.{samePos};
 ghost use Rattle.definition.specs.Lent.{oneEntry, entryIn};
 ghost use Rattle.store.specs.Store.{at, pushAll};
-ghost use Rattle.line_map.specs.View.{entryView};
+ghost use Rattle.line_map.specs.View.{posView, entryView};
 
 // A source position.
 pub struct Pos {
     pub line: u16,
     pub column: u16,
+}
+
+impl Pos {
+    pub fn same(self, other: Pos) -> bool
+        ensures { λ r. ⌜ r ≡ samePos (posView self) (posView other) ⌝ }
+    {
+        if self.line != other.line {
+            return false;
+        }
+        if self.column != other.column {
+            return false;
+        }
+        true
+    }
 }
 
 // A line entry: the instructions from this offset on stand at this position.

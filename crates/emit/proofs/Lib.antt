@@ -1,0 +1,9 @@
+pub mod Tables
+pub mod Steps
+pub mod Calls
+pub mod State
+pub mod Labels
+pub mod Instructions
+pub mod Loads
+pub mod Constants
+pub mod Branches

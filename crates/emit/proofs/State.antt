@@ -1,0 +1,70 @@
+-- An emitter to begin with; refusal, position and depth.
+use mathlib.Core.Path.{_≡_, refl, sym}
+use mathlib.Core.List.{List}
+use Prim.Native.Nat.{ℕ, zero, suc, _+_, _*_, _≤_, _<_, max}
+use native.Mathlib.Omega.{arith}
+use Rattle.definition.specs.Limits.{maxCode}
+use Rattle.definition.specs.Res.{ok, refuse, _>>=_}
+use Rattle.definition.specs.Opcode.{Effect, up, down, same, shift}
+use Rattle.definition.specs.Emit as def
+use Rattle.definition.specs.Emit.{Call, resetStackDepth, setPosition, refused, act, settled, emitterAt}
+use Rattle.line_map.specs.View.{posView}
+use Rattle.line_map.specs.declared.Pos.{Pos}
+use Rattle.emit.specs.declared.Emitter.{Emitter}
+use Rattle.emit.specs.declared.Last.{Last}
+use Rattle.emit.specs.declared.Last.the-variants.{Other}
+use Rattle.emit.specs.Book.{rows}
+use Rattle.emit.specs.View.{World, world, state, standing, view}
+use Rattle.emit.specs.Steps.{Step, Did, LastAt, maxHeight, Fine, Bare, Begun}
+use Rattle.emit.specs.Parts.{altered, stopped, placed, counted}
+use Rattle.emit.proofs.Steps.{stays, goes}
+
+-- ---- what stays fine
+
+pub fine-altered : {e : Emitter} (size : ℕ) (last : Last) (depth deepest : ℕ) → Fine e → e .size ≤ size → size ≤ maxCode → LastAt last size → depth ≤ maxHeight + size → deepest ≤ maxHeight + size + 1 → Fine (altered e size last depth deepest)
+fine-altered size last depth deepest h more fits at d m =
+    record { size = fits; labels = h .labels; patches = omega (arith, h .patches); lines = h .lines; constants = h .constants; last = at; depth = d; deepest = m }
+
+pub shift-most : (x : Effect) (d : ℕ) → shift x d ≤ d + 1
+unfolding shift
+shift-most up d = omega arith
+shift-most down zero = omega arith
+shift-most down (suc d) = omega arith
+shift-most same d = omega arith
+
+-- ---- methods with nothing lent
+
+pub begins : (p : Pos) → Begun (posView p) (record { size = 0; labels = 0; patches = 0; lines = 0; constants = 0; last = Other; depth = 0; deepest = 0; position = p; refused = 0; place = 0 })
+unfolding standing rows emitterAt
+begins p = record {
+  fine = record { size = omega arith; labels = omega arith; patches = omega arith; lines = omega arith; constants = omega arith; last = tt; depth = omega arith; deepest = omega arith };
+  is = λ code book pool. refl;
+}
+
+pub bare-stays : {e : Emitter} (c : Call) → Fine e → (e .refused ≡ 0 → ⊥) → Bare c e e
+bare-stays c h off = record { fine = h; did = λ s code book pool. stays (act s c) off }
+
+pub refuses : {e : Emitter} (n p : ℕ) → Fine e → e .refused ≡ 0 → 0 < n → Bare (refused (record { number = n; place = p })) e (stopped e n p)
+unfolding act standing _>>=_
+refuses {e} n p h on more = record {
+  fine = record { size = h .size; labels = h .labels; patches = h .patches; lines = h .lines; constants = h .constants; last = h .last; depth = h .depth; deepest = h .deepest };
+  did = λ s code book pool. record { is = rw on (go n (state (world (stopped e n p) code book pool)) more) };
+}
+  where
+    go : (n : ℕ) (x : def.Emitter) → 0 < n → standing n p x ≡ refuse n p
+    go zero x k = absurd (omega arith)
+    go (suc n) x k = refl
+
+pub resets : {e : Emitter} (d : ℕ) {d′ : ℕ} → Fine e → e .refused ≡ 0 → d′ ≡ d → d ≤ maxHeight → Bare (resetStackDepth d) e (altered e (e .size) (e .last) d′ (e .deepest))
+unfolding act settled
+resets {e} d h on is small = rw is (record {
+  fine = fine-altered (e .size) (e .last) d (e .deepest) h (omega arith) (h .size) (h .last) (omega arith) (h .deepest);
+  did = λ s code book pool. goes (act s (resetStackDepth d)) (world e code book pool) (world (altered e (e .size) (e .last) d (e .deepest)) code book pool) on on refl;
+})
+
+pub places : {e : Emitter} (p : Pos) → Fine e → e .refused ≡ 0 → Bare (setPosition (posView p)) e (placed e p)
+unfolding act settled
+places {e} p h on = record {
+  fine = record { size = h .size; labels = h .labels; patches = h .patches; lines = h .lines; constants = h .constants; last = h .last; depth = h .depth; deepest = h .deepest };
+  did = λ s code book pool. goes (act s (setPosition (posView p))) (world e code book pool) (world (placed e p) code book pool) on on refl;
+}

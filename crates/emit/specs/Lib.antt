@@ -1,0 +1,5 @@
+pub mod Book
+pub mod View
+pub mod Steps
+pub mod Load
+pub mod Parts

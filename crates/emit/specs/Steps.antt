@@ -1,0 +1,102 @@
+-- What the contracts of emission say. A step takes one state of the definition's emitter to the next, or refuses: the `act` of a call, or the calls of a walk.
+use Prim.Native.Nat.{ℕ, _+_, _*_, _≤_}
+use mathlib.Core.Path.{_≡_}
+use mathlib.Core.List.{List}
+use lib.ListN.{length}
+use Rattle.definition.specs.Limits.{maxCode, maxLabels, maxLines, maxConstants}
+use Rattle.definition.specs.Res.{Res, ok, _>>=_}
+use Rattle.definition.specs.Opcode.{Sheet}
+use Rattle.definition.specs.Tree.{Pos}
+use Rattle.definition.specs.Emit as def
+use Rattle.definition.specs.Emit.{Call, createLabel, act, acts, emitterAt}
+use Rattle.definition.specs.Walk.{Calls}
+use Rattle.emit.specs.declared.Emitter.{Emitter}
+use Rattle.emit.specs.declared.Last.{Last}
+use Rattle.emit.specs.declared.Last.the-variants.{Other, Loaded, Stored}
+use Rattle.emit.specs.Book.{bookSize}
+use Rattle.emit.specs.View.{World, world, view}
+
+abbrev pub Step : Type 0
+Step = def.Emitter → Res def.Emitter
+
+-- the step f leads from w to v; where w is refused, v is refused alike
+pub record Did (f : Step) (w v : World) : Type 0 where
+  pub is : view v ≡ view w >>= f
+
+-- the calls of a walk as one step, its labels numbered from those that there are
+unfoldable pub run : Sheet → Calls → Step
+run s m e = acts s (m (length (e .labels)) .1) e
+
+-- ---- what holds between any two calls, refused or not
+
+-- a store that a load may fold into has three bytes
+abbrev pub LastAt : Last → ℕ → Type 0
+LastAt Other n = Unit
+LastAt (Loaded v) n = Unit
+LastAt (Stored v) n = 3 ≤ n
+
+-- the greatest height that a depth is reset to: the heights of code are u16
+abbrev pub maxHeight : ℕ
+maxHeight = 65535
+
+pub record Fine (e : Emitter) : Type 0 where
+  pub size : e .size ≤ maxCode
+  pub labels : e .labels ≤ maxLabels
+  -- a branch has three bytes or more, so no more than maxBranches patches are pending
+  pub patches : 3 * e .patches ≤ e .size
+  pub lines : e .lines ≤ maxLines
+  pub constants : e .constants ≤ maxConstants
+  pub last : LastAt (e .last) (e .size)
+  -- an instruction adds a byte and at most one value; folding a store adds a byte and passes the depth that it leaves by one
+  pub depth : e .depth ≤ maxHeight + e .size
+  pub deepest : e .deepest ≤ maxHeight + e .size + 1
+
+-- what is lent is exactly as long as its limit
+pub record Ready (w : World) : Type 0 where
+  pub fine : Fine (w .e)
+  pub room : length (w .code) ≡ maxCode
+  pub slots : length (w .book) ≡ bookSize
+  pub long : length (w .pool) ≡ maxConstants
+
+-- ---- what a method does, by what is lent to it: whatever is not lent stays as it is, whatever that is
+
+-- nothing
+pub record Bare (c : Call) (e r : Emitter) : Type 0 where
+  pub fine : Fine r
+  pub did : (s : Sheet) (code book pool : List ℕ) → Did (act s c) (world e code book pool) (world r code book pool)
+
+-- the book
+pub record Booked (c : Call) (e : Emitter) (book : List ℕ) (r : Emitter) (book′ : List ℕ) : Type 0 where
+  pub fine : Fine r
+  pub slots : length book′ ≡ bookSize
+  pub did : (s : Sheet) (code pool : List ℕ) → length code ≡ maxCode → Did (act s c) (world e code book pool) (world r code book′ pool)
+
+-- the book, for a new label: its number, whatever height it is to be bound at
+pub record Created (e : Emitter) (book : List ℕ) (r : Emitter) (book′ : List ℕ) (l : ℕ) : Type 0 where
+  pub fine : Fine r
+  pub slots : length book′ ≡ bookSize
+  pub label : l ≡ e .labels
+  pub did : (s : Sheet) (h : ℕ) (code pool : List ℕ) → Did (act s (createLabel h)) (world e code book pool) (world r code book′ pool)
+
+-- the pool
+pub record Pooled (c : Call) (e : Emitter) (pool : List ℕ) (r : Emitter) (pool′ : List ℕ) : Type 0 where
+  pub fine : Fine r
+  pub long : length pool′ ≡ maxConstants
+  pub did : (s : Sheet) (code book : List ℕ) → Did (act s c) (world e code book pool) (world r code book pool′)
+
+-- code and book, and the sheet that the step goes by
+pub record Coded (f : Step) (e : Emitter) (code book : List ℕ) (r : Emitter) (code′ book′ : List ℕ) : Type 0 where
+  pub fine : Fine r
+  pub room : length code′ ≡ maxCode
+  pub slots : length book′ ≡ bookSize
+  pub did : (pool : List ℕ) → Did f (world e code book pool) (world r code′ book′ pool)
+
+-- code, book and pool
+pub record Filled (f : Step) (w v : World) : Type 0 where
+  pub ready : Ready v
+  pub did : Did f w v
+
+-- an emitter to begin with: empty, whatever the lists hold
+pub record Begun (p : Pos) (r : Emitter) : Type 0 where
+  pub fine : Fine r
+  pub is : (code book pool : List ℕ) → view (world r code book pool) ≡ ok (emitterAt p)
