@@ -1,4 +1,4 @@
--- What calls do to rows, pool and labels; and that code before an instruction other than a store never changes again.
+-- What calls do to rows and labels; and that rows before an instruction other than a store never change again.
 use Prim.Native.Nat.{ℕ, _+_, _-_, _<_}
 use mathlib.Core.Path.{_≡_, refl, sym, _∙_, ap, subst}
 use mathlib.Core.List.{List, [], _∷_, _++_, append-assoc, append-nil}
@@ -6,7 +6,7 @@ use mathlib.Core.Bool.{Bool, true, false}
 use mathlib.Core.Option.{Option, some, none}
 use native.Mathlib.Omega.{arith}
 use lib.Dec.{eqb, ltb}
-use lib.ListN.{length, getD, take, drop, set, length-append, length-set, List·getD-append}
+use lib.ListN.{length, getD, take, drop, length-append, List·getD-append}
 use lib.Seq.{getD-set-other}
 use borrow.Author.Tests.{ltb-true, eq-eqb}
 use Rattle.definition.specs.Limits.{maxCode}
@@ -25,10 +25,8 @@ use Rattle.counting.proofs.Rows.{Row, rowOf, unpatched, operandOf, byte
 
 -- ---- the pool
 
--- entering a constant: the pool grows at its end alone, and holds the constant
+-- entering a constant: the pool holds it
 pub record Pools (k : ℕ) (e e′ : Emitter) : Type 0 where
-  pub more : List ℕ
-  pub grows : e′ .constants ≡ e .constants ++ more
   pub found : indexOf k (e′ .constants) < length (e′ .constants)
   pub bytecode : e′ .bytecode ≡ e .bytecode
   pub patches : e′ .patches ≡ e .patches
@@ -38,8 +36,6 @@ pub record Pools (k : ℕ) (e e′ : Emitter) : Type 0 where
 pools-if : (b : Bool) (k : ℕ) (e e′ : Emitter) → ltb (indexOf k (e .constants)) (length (e .constants)) ≡ b → pooledIf b k e ≡ ok e′ → Pools k e e′
 unfolding pooledIf withConstant
 pools-if true k e e′ t p = subst (λ x. Pools k e x) (sym (ok-is p)) (record {
-  more = [];
-  grows = sym (append-nil (e .constants));
   found = ltb-true _ _ t;
   bytecode = refl;
   patches = refl;
@@ -49,8 +45,6 @@ pools-if true k e e′ t p = subst (λ x. Pools k e x) (sym (ok-is p)) (record {
 pools-if false k e e′ t p =
     let d = ok-demand _ _ _ _ e′ p in
     subst (λ x. Pools k e x) (sym (ok-is (d .1))) (record {
-      more = k ∷ [];
-      grows = refl;
       found = index-last k (e .constants);
       bytecode = refl;
       patches = refl;
@@ -134,18 +128,14 @@ folds (refused f) l = false
 pub record Acts (s : Sheet) (rows : List Row) (c : Call) (l : Last) (e e′ : Emitter) : Type 0 where
   pub formed : FormedBy s rows e′
   pub last : e′ .last ≡ l
-  pub more : List ℕ
-  pub grows : e′ .constants ≡ e .constants ++ more
   pub names : Names c (e′ .constants)
   pub labels : e′ .labels ≡ relabelled c (length (e .bytecode)) (e .labels)
 
 -- an instruction that names no constant
 plainly : {s : Sheet} {rows : List Row} {c : Call} {l : Last} {e e′ : Emitter} → Names c (e′ .constants) → relabelled c (length (e .bytecode)) (e .labels) ≡ e .labels → Adds s rows l e e′ → Acts s rows c l e e′
-plainly {e = e} n q a = record {
+plainly n q a = record {
   formed = a .formed;
   last = a .last;
-  more = [];
-  grows = a .constants ∙ sym (append-nil (e .constants));
   names = n;
   labels = a .labels ∙ sym q;
 }
@@ -153,11 +143,9 @@ plainly {e = e} n q a = record {
 -- an instruction after its constant entered the pool
 pooled-then : {s : Sheet} {rows : List Row} {c : Call} {l : Last} {e e′ : Emitter} (k : ℕ) (u : Emitter) → (indexOf k (e′ .constants) < length (e′ .constants) → Names c (e′ .constants)) → relabelled c (length (e .bytecode)) (e .labels) ≡ e .labels
     → Pools k e u → Adds s rows l u e′ → Acts s rows c l e e′
-pooled-then {e = e} k u n q p a = record {
+pooled-then k u n q p a = record {
   formed = a .formed;
   last = a .last;
-  more = p .more;
-  grows = a .constants ∙ p .grows;
   names = n (subst (λ ks. indexOf k ks < length ks) (sym (a .constants)) (p .found));
   labels = a .labels ∙ (p .labels ∙ sym q);
 }
@@ -166,13 +154,11 @@ unpooled : {s : Sheet} {rows : List Row} {k : ℕ} {e u : Emitter} → Pools k e
 unpooled {s = s} {rows = rows} {e = e} {u = u} p f = subst (λ c. Formed s rows c (u .patches)) (sym (p .bytecode)) (subst (λ ps. Formed s rows (e .bytecode) ps) (sym (p .patches)) f)
 
 -- nothing but labels or position
-still : {s : Sheet} {rows : List Row} (c : Call) (l : Last) (e e′ u : Emitter) → rowsOf s c (u .constants) ≡ [] → FormedBy s rows u → u .last ≡ l → u .constants ≡ e .constants → Names c (u .constants)
+still : {s : Sheet} {rows : List Row} (c : Call) (l : Last) (e e′ u : Emitter) → rowsOf s c (u .constants) ≡ [] → FormedBy s rows u → u .last ≡ l → Names c (u .constants)
     → u .labels ≡ relabelled c (length (e .bytecode)) (e .labels) → ok u ≡ ok e′ → Acts s (rows ++ rowsOf s c (e′ .constants)) c l e e′
-still {s = s} {rows = rows} c l e e′ u r f h k n q p = subst (λ x. Acts s (rows ++ rowsOf s c (x .constants)) c l e x) (sym (ok-is p)) (record {
+still {s = s} {rows = rows} c l e e′ u r f h n q p = subst (λ x. Acts s (rows ++ rowsOf s c (x .constants)) c l e x) (sym (ok-is p)) (record {
   formed = subst (λ rs. FormedBy s rs u) (sym (ap (λ t. rows ++ t) r ∙ append-nil rows)) f;
   last = h;
-  more = [];
-  grows = k ∙ sym (append-nil (e .constants));
   names = n;
   labels = q;
 })
@@ -187,8 +173,8 @@ load-plain s rows v (stored w) e e′ f n p =
 
 pub acted : (s : Sheet) (rows : List Row) (c : Call) (e e′ : Emitter) → FormedBy s rows e → OneByte c → folds c (e .last) ≡ false → act s c e ≡ ok e′ → Acts s (rows ++ rowsOf s c (e′ .constants)) c (lastOf c (e .last)) e e′
 unfolding act rowsOf lastOf relabelled Names folds OneByte size traits row labelled settled le16
-acted s rows (createLabel h) e e′ f o n p = still (createLabel h) (e .last) e e′ _ refl f refl refl tt refl (ok-demand _ _ _ _ e′ p .1)
-acted s rows (bindLabel k) e e′ f o n p = still (bindLabel k) other e e′ _ refl f refl refl tt refl p
+acted s rows (createLabel h) e e′ f o n p = still (createLabel h) (e .last) e e′ _ refl f refl tt refl (ok-demand _ _ _ _ e′ p .1)
+acted s rows (bindLabel k) e e′ f o n p = still (bindLabel k) other e e′ _ refl f refl tt refl p
 acted s rows (loadVariable v) e e′ f o n p = plainly tt refl (load-plain s rows v (e .last) e e′ f n p)
 acted s rows (storeVariable v) e e′ f o n p = plainly tt refl (add-adds s rows storeVar (le16 v) (stored v) e e′ f refl p)
 acted s rows (loadConstant k) e e′ f o n p =
@@ -201,8 +187,6 @@ acted s rows (addConstant k) e e′ f o n p =
     record {
       formed = subst (λ rs. FormedBy s rs e′) (sym (append-nil rows)) (unpooled u f);
       last = u .last;
-      more = u .more;
-      grows = u .grows;
       names = tt;
       labels = u .labels;
     }
@@ -215,8 +199,8 @@ acted s rows (emitCmpBr c v k l) e e′ f o n p =
     let operand : List ℕ → List ℕ = λ ks. comparisonByte s c ∷ le16 v ++ le16 (indexOf k ks) in
     let a = branch-adds s rows cmpBr (operand (q .0 .constants)) 6 l (q .0) e′ (unpooled u f) refl refl (q .2) in
     subst (λ ks. Acts s (rows ++ (rowOf cmpBr (operand ks) (some l) ∷ [])) (emitCmpBr c v k l) other e e′) (sym (a .constants)) (pooled-then k (q .0) (λ h. h) refl u a)
-acted s rows (resetStackDepth h) e e′ f o n p = still (resetStackDepth h) (e .last) e e′ _ refl f refl refl tt refl p
-acted s rows (setPosition p′) e e′ f o n p = still (setPosition p′) (e .last) e e′ _ refl f refl refl tt refl p
+acted s rows (resetStackDepth h) e e′ f o n p = still (resetStackDepth h) (e .last) e e′ _ refl f refl tt refl p
+acted s rows (setPosition p′) e e′ f o n p = still (setPosition p′) (e .last) e e′ _ refl f refl tt refl p
 acted s rows (refused x) e e′ f o n p = never (cc)
 
 -- ---- any call: rows R at the front stay
@@ -237,10 +221,8 @@ pub record Within (s : Sheet) (R : List Row) (e : Emitter) : Type 0 where
   pub formed : FormedBy s (R ++ more) e
   pub tail : Tail (e .last) more
 
--- what calls leave of pool and labels
+-- what calls leave of labels and tracker
 pub record Changed (cs : List Call) (e e′ : Emitter) : Type 0 where
-  pub more : List ℕ
-  pub grows : e′ .constants ≡ e .constants ++ more
   pub table : length (e′ .labels) ≡ after (length (e .labels)) cs
   pub kept : (l : ℕ) → l < length (e .labels) → binds l cs ≡ 0 → getD (e′ .labels) l none ≡ getD (e .labels) l none
   pub tracks : (b : Bool) → (b ≡ true → NotLoaded (e .last)) → closed b cs ≡ true → NotLoaded (e′ .last)
@@ -316,8 +298,6 @@ goes-plain s R c e e′ w o n p =
         tail = subst (λ l. Tail l (w .more ++ rows)) (sym (a .last)) (last-tail s c (e .last) (e′ .constants) (w .more) (w .tail));
       };
       changed = record {
-        more = a .more;
-        grows = a .grows;
         table = ap length (a .labels) ∙ count c (length (e .bytecode)) (e .labels);
         kept = λ l h z. ap (λ ls. getD ls l none) (a .labels) ∙ labels-kept c (length (e .bytecode)) l (e .labels) h (omega arith);
         tracks = λ b f z. subst (λ l. NotLoaded l) (sym (a .last)) (last-closed c (e .last) b f z);
@@ -342,10 +322,8 @@ folded-formed s v front code ps f m =
       short = omega (arith, ap length new, length-append F (opcode s dup ∷ W), ap length c, length-append F W);
     }
 
-same-state : (cs : List Call) (e e′ : Emitter) → e′ .constants ≡ e .constants → e′ .labels ≡ e .labels → after (length (e .labels)) cs ≡ length (e .labels) → NotLoaded (e′ .last) → Changed cs e e′
-same-state cs e e′ k l n t = record {
-  more = [];
-  grows = k ∙ sym (append-nil (e .constants));
+same-state : (cs : List Call) (e e′ : Emitter) → e′ .labels ≡ e .labels → after (length (e .labels)) cs ≡ length (e .labels) → NotLoaded (e′ .last) → Changed cs e e′
+same-state cs e e′ l n t = record {
   table = ap length l ∙ sym n;
   kept = λ j h z. ap (λ ls. getD ls j none) l;
   tracks = λ b f z. t;
@@ -362,7 +340,7 @@ goes-folded s R v (loaded w′) e e′ w t n p =
         formed = subst (λ rs. FormedBy s rs e′) (append-assoc R (w .more) (rowOf dup [] none ∷ [])) (a .formed);
         tail = subst (λ l. Tail l (w .more ++ (rowOf dup [] none ∷ []))) (sym (a .last)) tt;
       };
-      changed = same-state (loadVariable v ∷ []) e e′ (a .constants) (a .labels) refl (subst (λ l. NotLoaded l) (sym (a .last)) tt);
+      changed = same-state (loadVariable v ∷ []) e e′ (a .labels) refl (subst (λ l. NotLoaded l) (sym (a .last)) tt);
     }
 goes-folded s R v (stored w′) e e′ w t n p =
     let d = ok-demand _ _ _ _ e′ (sym (ap (λ b. elim b [ true ↦ foldStore s e | false ↦ add s loadVar (le16 v) (loaded v) e ]) n) ∙ p) in
@@ -372,7 +350,7 @@ goes-folded s R v (stored w′) e e′ w t n p =
     let f = folded-formed s w′ (R ++ t .0) (e .bytecode) (e .patches) (subst (λ rs. FormedBy s rs e) same (w .formed)) (ltb-true _ _ (d .0)) in
     subst (λ x. Goes s R (loadVariable v ∷ []) e x) (sym (ok-is (d .1))) (record {
       within = record { more = t .0 ++ two; formed = subst (λ rs. FormedBy s rs (folded s e)) (append-assoc R (t .0) two) f; tail = tt };
-      changed = same-state (loadVariable v ∷ []) e (folded s e) refl refl refl tt;
+      changed = same-state (loadVariable v ∷ []) e (folded s e) refl refl tt;
     })
 
 pub goes-one : (s : Sheet) (R : List Row) (c : Call) (e e′ : Emitter) → Within s R e → OneByte c → act s c e ≡ ok e′ → Goes s R (c ∷ []) e e′
@@ -403,8 +381,6 @@ goes-one s R c e e′ w o p = go (folds c (e .last)) refl
 changed-none : (e : Emitter) → Changed [] e e
 unfolding after closed
 changed-none e = record {
-  more = [];
-  grows = sym (append-nil (e .constants));
   table = refl;
   kept = λ l h z. refl;
   tracks = λ b f z. f z;
@@ -413,8 +389,6 @@ changed-none e = record {
 changed-then : (c : Call) (cs : List Call) (e u e′ : Emitter) → Changed (c ∷ []) e u → Changed cs u e′ → Changed (c ∷ cs) e e′
 unfolding after binds closed next
 changed-then c cs e u e′ x y = record {
-  more = x .more ++ y .more;
-  grows = y .grows ∙ (ap (λ ks. ks ++ y .more) (x .grows) ∙ append-assoc (e .constants) (x .more) (y .more));
   table = y .table ∙ ap (λ n. after n cs) (x .table);
   kept = λ l h z. y .kept l (subst (λ n. l < n) (sym (x .table)) (let m = next-mono c (length (e .labels)) in omega arith)) (omega arith) ∙ x .kept l h (omega arith);
   tracks = λ b f z. y .tracks (closes c b) (λ t. x .tracks b f t) z;

@@ -1,7 +1,7 @@
 -- The theorem applied, from the text of the files on: FOR v0 := -5 TO 7 BY 3, whose body has an IF, on a variable of any value, and an
 -- inner FOR. No premise of the theorem is empty.
 use Prim.Native.Nat.{ℕ, _-_, _^_, suc, zero}
-use mathlib.Core.Path.{_≡_, refl, sym, _∙_, ap, subst}
+use mathlib.Core.Path.{_≡_, refl, sym, subst}
 use mathlib.Core.List.{List, [], _∷_}
 use mathlib.Core.Bool.{Bool, true, false, not, _&&_}
 use mathlib.Core.Option.{some}
@@ -18,7 +18,7 @@ use Rattle.definition.specs.Program.{readProgram}
 use Rattle.definition.specs.Compile.{FinalizedFunction, compileFiles}
 use Rattle.definition.specs.Machine.{Image, imageOf, State, Step, goes, finishes, stops, breaks, branchIf, compares, isStart, step, andThen}
 use Rattle.definition.specs.For.{Places, Emits, For, forStmt, placesOf}
-use Rattle.definition.specs.Count.{storesTo, Ends, ended, later, AlwaysEnds, IsValue, CountsUp, upCount, Makes}
+use Rattle.definition.specs.Count.{storesTo, Ends, ended, later, AlwaysEnds, CountsUp, Makes}
 use Rattle.definition.specs.Cases.{bytes, plainSheet, open-Definition}
 use Rattle.field.proofs.Tests.{and-left, and-right}
 use Rattle.field.proofs.Results.{never}

@@ -13,12 +13,11 @@ use borrow.Author.Tests.{ltb-true, eq-eqb}
 use Rattle.definition.specs.Limits.{maxCode}
 use Rattle.definition.specs.Field.{has}
 use Rattle.definition.specs.Res.{ok, _>>=_}
-use Rattle.definition.specs.Opcode.{Role, Sheet, opcode, roleOf, comparisonByte, comparisonOf, Gt, loadVar, storeVar, loadConst, dup, arithmetic, Add, jmp, cmpBr, size, traits, row}
+use Rattle.definition.specs.Opcode.{Role, Sheet, comparisonByte, comparisonOf, Gt, loadVar, storeVar, loadConst, dup, arithmetic, Add, jmp, cmpBr, size, traits, row}
 use Rattle.definition.specs.Tree.{Program}
 use Rattle.definition.specs.Emit.{le16, Call, createLabel, bindLabel, loadVariable, storeVariable, loadConstant, emitOpcode, emitJmp, emitCmpBr, Last, other, loaded, stored, Emitter, emitterAt, indexOf, loadAfter, foldStore, folded, add, act, acts}
-use Rattle.definition.specs.Walk as walk
-use Rattle.definition.specs.Walk.{after, say, nothing}
-use Rattle.definition.specs.Stmt.{Loops, bound}
+use Rattle.definition.specs.Walk.{after}
+use Rattle.definition.specs.Stmt.{Loops}
 use Rattle.definition.specs.Rewrite.{boundariesFrom, movedTo}
 use Rattle.definition.specs.Optimize.{optimize}
 use Rattle.definition.specs.Compile.{boundOr0, boundLabel, displacement, patchJumps, jumpTargets, finalizeFunction}
@@ -31,7 +30,9 @@ use Rattle.counting.proofs.Laid.{Opening, Laid}
 use Rattle.counting.proofs.Once.{OneByte, OneBytes, bytes-left, bytes-right, binds, isBind, binds-append}
 use Rattle.field.proofs.Results.{ok-demand, ok-bind, ok-is}
 use Rattle.runs.proofs.Heights.{after-mono}
+use Rattle.runs.proofs.Passes.{Reads}
 use Rattle.runs.proofs.Decoding.{joined}
+use Rattle.runs.proofs.Later.{grown-here, acts-grown}
 use Rattle.runs.proofs.Emitted.{relabelled}
 use Rattle.runs.proofs.Patched.{aimedOperand}
 use Rattle.runs.proofs.Conditions.{indexed}
@@ -252,7 +253,7 @@ rows-append s (r ∷ A) B = ap (λ x. bytesOf s r ∷ x) (rows-append s A B)
 abbrev goalOf : Sheet → List Row → Emitter → ℕ → ℕ
 goalOf s rows e = goalIn s (e .labels) (boundariesFrom 0 (instructionsOf s rows))
 
-module _ (s : Sheet) (known : (r : Role) → roleOf s (opcode s r) ≡ some r) (rows : List Row) (e : Emitter) (formed : FormedBy s rows e) where
+module _ (s : Sheet) (known : Reads s) (rows : List Row) (e : Emitter) (formed : FormedBy s rows e) where
   finished : finalizeFunction s [] e .bytecode ≡ joined (finalRows s (goalOf s rows e) 0 rows)
   unfolding finalizeFunction
   finished =
@@ -429,7 +430,7 @@ begin-within : (s : Sheet) (p : Program) → Within s [] (emitterAt (p .pos))
 unfolding emitterAt codeOf patchesOf Sized Tail
 begin-within s p = record { more = []; formed = record { is = refl; patches = refl; sized = tt; short = omega arith }; tail = tt }
 
-module _ (s : Sheet) (known : (r : Role) → roleOf s (opcode s r) ≡ some r) (greater : comparisonOf s (comparisonByte s Gt) ≡ some Gt) (p : Program) (f : For) (before behind : List Call) (loops : Loops) (e : Emitter)
+module _ (s : Sheet) (known : Reads s) (greater : comparisonOf s (comparisonByte s Gt) ≡ some Gt) (p : Program) (f : For) (before behind : List Call) (loops : Loops) (e : Emitter)
     (once : (l : ℕ) → binds l (before ++ (loadConstant (f .from) ∷ rest₁ f (after 0 before) (bodyOf f loops (after 0 before)) behind)) ≤ 1)
     (bytes : OneBytes (before ++ (loadConstant (f .from) ∷ rest₁ f (after 0 before) (bodyOf f loops (after 0 before)) behind)))
     (x : Emission s p f (after 0 before) before (bodyOf f loops (after 0 before)) behind e) where
@@ -534,16 +535,16 @@ module _ (s : Sheet) (known : (r : Role) → roleOf s (opcode s r) ≡ some r) (
   -- what was entered and bound stays
   from-stays : getD (e .constants) (indexOf (f .from) (x .u₁ .constants)) 0 ≡ f .from
   from-stays =
-      let g = goes-all s [] (rest₁ f n body behind) (x .u₁) e (any-within (op .one)) bytes₁ (x .t₁) .changed in
-      constant-stays (f .from) (x .u₁ .constants) (e .constants) (g .more) (g .grows) (op .from)
+      let g = acts-grown s (rest₁ f n body behind) (x .u₁) e (grown-here (x .u₁) (op .one .last)) (x .t₁) in
+      constant-stays (f .from) (x .u₁ .constants) (e .constants) (g .moreConstants) (g .constants) (op .from)
 
   head-stays : getD (e .labels) n none ≡ some (length (x .u₂ .bytecode))
   head-stays = goes-all s [] (rest₅ f n body behind) (x .u₅) e (any-within (op .two)) bytes₅ (x .t₅) .changed .kept n (op .long) head-once ∙ op .head
 
   to-stays : getD (e .constants) (indexOf (f .to) (x .u₆ .constants)) 0 ≡ f .to
   to-stays =
-      let g = goes-all s [] (body ++ rest₀ f n behind) (x .u₆) e (any-within (op .three)) bytes₆ (x .t₆) .changed in
-      constant-stays (f .to) (x .u₆ .constants) (e .constants) (g .more) (g .grows) (op .to)
+      let g = acts-grown s (body ++ rest₀ f n behind) (x .u₆) e (grown-here (x .u₆) (op .three .last)) (x .t₆) in
+      constant-stays (f .to) (x .u₆ .constants) (e .constants) (g .moreConstants) (g .constants) (op .to)
 
   -- up to the body the FOR is laid out, whatever the rows behind it
   opening : (rows Z : List Row) → rows ≡ R₂ ++ Z → FormedBy s rows e → Opening image places (f .control) (f .from) (f .to)
@@ -663,8 +664,8 @@ module _ (s : Sheet) (known : (r : Role) → roleOf s (opcode s r) ≡ some r) (
       let head : goal n ≡ places .endTest = goal-is s known rows e formed n (places .endTest) Y₂ (test ∷ Z) e₃ head-stays (omega arith) in
       let end-stays : getD (e .labels) (suc n) none ≡ some (places .end) = g .changed .kept (suc n) (cu .long₆) end-once ∙ cu .end in
       let end : goal (suc n) ≡ places .end = goal-is s known rows e formed (suc n) (places .end) X₅ P refl end-stays (bytes-length (cu .all)) in
-      let w = goes-all s [] (rest₂ f n behind) (x .v₂) e (any-within (cu .two)) (bytes₂ .1) (x .w₂) .changed in
-      let by-stays : getD (e .constants) (indexOf (f .step) (x .v₂ .constants)) 0 ≡ f .step = constant-stays (f .step) (x .v₂ .constants) (e .constants) (w .more) (w .grows) (cu .by) in
+      let w = acts-grown s (rest₂ f n behind) (x .v₂) e (grown-here (x .v₂) (cu .two .last)) (x .w₂) in
+      let by-stays : getD (e .constants) (indexOf (f .step) (x .v₂ .constants)) 0 ≡ f .step = constant-stays (f .step) (x .v₂ .constants) (e .constants) (w .moreConstants) (w .constants) (cu .by) in
       record {
         opening = opening rows Z e₀ formed;
         leaves = test-target image s goal (places .endTest) v (f .to) (suc n) (places .end) (x .u₆ .constants) k₃ end short (omega arith);

@@ -35,7 +35,7 @@ pub data CompareOp : Type 0 where
 pub data ShortCircuitOp : Type 0 where
   AndThen OrElse : ShortCircuitOp
 
--- the 27 roles, by class
+-- the roles, by class
 pub data Role : Type 0 where
   dup pop loadVar storeVar loadConst loadTrue loadFalse : Role
   arithmetic : ArithmeticOp → Role
@@ -59,6 +59,14 @@ roles = dup ∷ pop ∷ loadVar ∷ storeVar ∷ loadConst ∷ loadTrue ∷ load
     ∷ arithmetic Add ∷ arithmetic Sub ∷ arithmetic Mul ∷ arithmetic Div ∷ arithmetic Mod ∷ neg ∷ logic BoolAnd ∷ logic BoolOr ∷ logic BoolXor ∷ boolNot
     ∷ compare Eq ∷ compare Ne ∷ compare Lt ∷ compare Le ∷ compare Gt ∷ compare Ge
     ∷ jmp ∷ jmpIfNot ∷ cmpBr ∷ ret ∷ []
+
+-- how many they are
+abbrev pub roleCount : ℕ
+roleCount = 27
+
+-- and how many comparisons there are
+abbrev pub comparisonCount : ℕ
+comparisonCount = 6
 
 unfoldable pub compareIndex : CompareOp → ℕ
 compareIndex Eq = 0
@@ -169,7 +177,7 @@ commute Le = Ge
 commute Gt = Lt
 commute Ge = Le
 
--- a sheet that was accepted: 27 opcodes by role, six comparison bytes
+-- a sheet that was accepted: opcodes by role, comparison bytes
 pub record Sheet : Type 0 where
   pub opcodes : List ℕ
   pub comparisons : List ℕ

@@ -36,8 +36,15 @@ pub record Rule : Type 0 where
 abbrev pub nameable : ℕ
 nameable = 23
 
+-- the last test and the last action by number
+abbrev pub lastTest : ℕ
+lastTest = 3
+
+abbrev pub lastAction : ℕ
+lastAction = 2
+
 unfoldable pub ruleFields : List Field
-ruleFields = upTo passCount ∷ below nameable ∷ below nameable ∷ upTo 3 ∷ upTo maxField ∷ upTo 2 ∷ upTo maxField ∷ upTo 2 ∷ upTo maxField ∷ []
+ruleFields = upTo passCount ∷ below nameable ∷ below nameable ∷ upTo lastTest ∷ upTo maxField ∷ upTo lastAction ∷ upTo maxField ∷ upTo lastAction ∷ upTo maxField ∷ []
 
 unfoldable pub roleNumbered : ℕ → Role
 roleNumbered n = getD roles n ret
@@ -152,14 +159,14 @@ unfoldable pub hasRole : Role → Option Role → Bool
 hasRole r none = false
 hasRole r (some q) = eqb (number r) (number q)
 
-unfoldable pub passes : Test → ℕ → ℕ → Bool
-passes always a b = true
-passes operandsEqual a b = eqb a b
-passes (firstIs n) a b = eqb a n
-passes (secondIs n) a b = eqb b n
+unfoldable pub testHolds : Test → ℕ → ℕ → Bool
+testHolds always a b = true
+testHolds operandsEqual a b = eqb a b
+testHolds (firstIs n) a b = eqb a n
+testHolds (secondIs n) a b = eqb b n
 
 unfoldable pub fits : ℕ → Rule → Instruction → Instruction → Bool
-fits pass r a b = eqb (r .pass) pass && (hasRole (r .first) (a .role) && (hasRole (r .second) (b .role) && passes (r .test) (a .operand) (b .operand)))
+fits pass r a b = eqb (r .pass) pass && (hasRole (r .first) (a .role) && (hasRole (r .second) (b .role) && testHolds (r .test) (a .operand) (b .operand)))
 
 -- the pair of actions of the first line of the pass that fits
 unfoldable pub matches : ℕ → List Rule → Instruction → Instruction → Option (Action × Action)
@@ -168,5 +175,5 @@ matches pass (r ∷ rs) a b = elim (fits pass r a b) [ true ↦ some (r .one, r 
 
 -- `unfolding open-Rules` names all of this module's definitions at once
 unfoldable pub open-Rules : Unit {0}
-unfolding ruleFields roleNumbered testNumbered actionNumbered ruleOf hasOperand testable isVariable allowed removed cancel goodRule goodOnly ruleFrom readRule isEmpty rulesFrom readRules hasRole passes fits matches
+unfolding ruleFields roleNumbered testNumbered actionNumbered ruleOf hasOperand testable isVariable allowed removed cancel goodRule goodOnly ruleFrom readRule isEmpty rulesFrom readRules hasRole testHolds fits matches
 open-Rules = tt

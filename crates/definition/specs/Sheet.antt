@@ -6,21 +6,24 @@ use mathlib.Core.Option.{Option, some, none}
 use lib.Dec.{eqb, leb, ltb}
 use lib.ListN.{length, getD, take, drop}
 use Rattle.definition.specs.Field.{lf, comma, split, Field, upTo, field, Read, malformed, outside, is, Numbers, wrong, far, are, numbers, has}
-use Rattle.definition.specs.Opcode.{Sheet}
+use Rattle.definition.specs.Opcode.{Sheet, roleCount, comparisonCount}
 
--- opcodes, comparison bytes, and both
-abbrev pub opcodeCount : ℕ
-opcodeCount = 27
-
-abbrev pub comparisonCount : ℕ
-comparisonCount = 6
-
+-- fields of a sheet: the opcodes by role, then the comparison bytes
 abbrev pub fieldCount : ℕ
-fieldCount = 33
+fieldCount = roleCount + comparisonCount
+
+abbrev pub opcodesOf : {A : Type 0} → List A → List A
+opcodesOf fields = take roleCount fields
+
+abbrev pub comparisonsOf : {A : Type 0} → List A → List A
+comparisonsOf fields = drop roleCount fields
 
 -- every field is a byte
+abbrev pub maxByte : ℕ
+maxByte = 255
+
 abbrev pub byte : Field
-byte = upTo 255
+byte = upTo maxByte
 
 -- the fields of a file that is one line: one LF, at its end
 unfoldable pub onlyLine : List (List ℕ) → Option (List (List ℕ))
@@ -34,7 +37,7 @@ unfoldable pub counted : Option (List (List ℕ)) → Option (List (List ℕ))
 counted none = none
 counted (some fs) = elim (eqb (length fs) fieldCount) [ true ↦ some fs | false ↦ none ]
 
--- the 33 fields of a sheet, where its line and its field count are good
+-- the fields of a sheet, where its line and its field count are good
 unfoldable pub sheetFields : List ℕ → Option (List (List ℕ))
 sheetFields t = counted (onlyLine (split lf t))
 
@@ -46,8 +49,8 @@ distinct (x ∷ xs) = not (has xs x) && distinct xs
 unfoldable pub sheetOf : Numbers → Option Sheet
 sheetOf wrong = none
 sheetOf far = none
-sheetOf (are ns) = elim (distinct (take opcodeCount ns) && distinct (drop opcodeCount ns)) [
-  | true ↦ some (record { opcodes = take opcodeCount ns; comparisons = drop opcodeCount ns })
+sheetOf (are ns) = elim (distinct (opcodesOf ns) && distinct (comparisonsOf ns)) [
+  | true ↦ some (record { opcodes = opcodesOf ns; comparisons = comparisonsOf ns })
   | false ↦ none
 ]
 
@@ -82,7 +85,7 @@ readAtFault group (is n) = leb 2 (times n group)
 
 -- the group that a field's number must be distinct in: the opcodes, or the comparison bytes
 unfoldable pub groupOf : ℕ → List Read → List Read
-groupOf i rs = elim (ltb i opcodeCount) [ true ↦ take opcodeCount rs | false ↦ drop opcodeCount rs ]
+groupOf i rs = elim (ltb i roleCount) [ true ↦ opcodesOf rs | false ↦ comparisonsOf rs ]
 
 unfoldable pub fieldAtFault : ℕ → List Read → Bool
 fieldAtFault i rs = ltb i fieldCount && readAtFault (groupOf i rs) (getD rs i malformed)

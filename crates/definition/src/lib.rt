@@ -1,7 +1,9 @@
-// The limits and refusal numbers of document 01 for code, each shown to be the definition's (specs/Limits.antt).
+// The limits, counts and refusal numbers of document 01 for code, each shown to be the definition's (specs/Limits.antt, Opcode.antt, Rules.antt).
 ghost use mathlib.Core.Path.{_≡_};
 ghost use Prim.Native.Nat.{_*_};
 ghost use Rattle.definition.specs.Limits.{maxCode, maxBranches, maxLabels, maxProtected, maxLines, maxConstants, entrySize, maxProgram, maxNesting, maxVariables, maxField, maxRules, passCount, width, badText, badForm, badRange, noLoop, tooDeep, wrongLines, badSheet, badCode, badRule, codeFull, labelsFull, linesFull, constantsFull, outputShort};
+ghost use Rattle.definition.specs.Opcode.{roleCount, comparisonCount};
+ghost use Rattle.definition.specs.Rules.{nameable, lastTest, lastAction};
 
 // Bytes of code, emitted and finished.
 pub const MAX_CODE: usize = 16384;
@@ -31,6 +33,16 @@ pub const MAX_RULES: usize = 64;
 pub const PASS_COUNT: u32 = 3;
 // Bits of a value.
 pub const WIDTH: u32 = 32;
+// Roles, and so opcodes of a sheet.
+pub const ROLE_COUNT: usize = 27;
+// Comparisons, and so comparison bytes of a sheet.
+pub const COMPARISON_COUNT: usize = 6;
+// The first role that no rule may name.
+pub const NAMEABLE: u32 = 23;
+// The last test of a rule by number.
+pub const LAST_TEST: u32 = 3;
+// The last action of a rule by number.
+pub const LAST_ACTION: u32 = 2;
 
 // Refusal: a program that is empty, too long, or not ended by LF.
 pub const BAD_TEXT: u8 = 1;
@@ -144,6 +156,36 @@ pub fn width() -> u32
     ensures { λ r. ⌜ r ≡ width ⌝ }
 {
     WIDTH
+}
+
+pub fn role_count() -> usize
+    ensures { λ r. ⌜ r ≡ roleCount ⌝ }
+{
+    ROLE_COUNT
+}
+
+pub fn comparison_count() -> usize
+    ensures { λ r. ⌜ r ≡ comparisonCount ⌝ }
+{
+    COMPARISON_COUNT
+}
+
+pub fn nameable() -> u32
+    ensures { λ r. ⌜ r ≡ nameable ⌝ }
+{
+    NAMEABLE
+}
+
+pub fn last_test() -> u32
+    ensures { λ r. ⌜ r ≡ lastTest ⌝ }
+{
+    LAST_TEST
+}
+
+pub fn last_action() -> u32
+    ensures { λ r. ⌜ r ≡ lastAction ⌝ }
+{
+    LAST_ACTION
 }
 
 pub fn bad_text() -> u8

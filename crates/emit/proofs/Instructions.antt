@@ -204,7 +204,7 @@ unfolding pushAll
 pushed-cmp-br s0 b c v i {s1} {s2} {s3} {s4} {s5} e1 e2 e3 e4 e5 =
     let q : s4 ≡ pushAll s2 (le16 v ++ le16 i) = rw (pushAll-append s2 (le16 v) (le16 i), ← e3) e4 in
     let z : s5 ≡ pushAll s2 ((le16 v ++ le16 i) ++ le16 0) = rw (pushAll-append s2 (le16 v ++ le16 i) (le16 0), ← q) e5 in
-    rw (← e1, ← e2) z
+    z ∙ ap (λ (t : Store). pushAll t ((le16 v ++ le16 i) ++ le16 0)) (e2 ∙ ap (λ (t : Store). push t c) e1)
 
 pub cmp-bytes : (s : Sheet) (c : CompareOp) (v i : ℕ) (t : Store) {u : Store} {b d : ℕ} → b ≡ opcode s cmpBr → d ≡ comparisonByte s c → u ≡ pushAll t (b ∷ (d ∷ le16 v ++ le16 i) ++ le16 0) → u ≡ pushAll t (opcode s cmpBr ∷ cmpOperand s c v i)
 unfolding cmpOperand

@@ -1,12 +1,13 @@
 // Lines, fields and decimal numbers of lent bytes. A number of any length is one: it is counted up to a cap above every bound, so that nothing wraps
 // and what is malformed is told apart from what is out of its range.
 ghost use mathlib.Core.Path.{_≡_};
-ghost use Prim.Native.Nat.{_≤_, _+_, _*_, min};
+ghost use Prim.Native.Nat.{_≤_, _+_, _*_, _^_, min};
 ghost use lib.Dec.{ltb};
 ghost use lib.ListN.{getD};
 ghost use Rattle.definition.specs.Limits.{width};
 ghost use Rattle.definition.specs.Field.{comma, firstLine, natural, naturalWithin, negative, field, upTo, below, value};
 ghost use Rattle.field.specs.View.{readOf, numberOf, longer, separates, capped, cap, before, Ends, Reads, separator};
+use definition::WIDTH;
 
 // A field as it is read; a value is its two's complement bits.
 pub enum Read {
@@ -33,9 +34,9 @@ enum Number {
 const CAP: u64 = 10000000000000000000;
 
 // How many values there are, and how many of them are negative.
-const VALUES: u64 = 4294967296;
+const VALUES: u64 = 1 << WIDTH;
 
-const NEGATIVES: u64 = 2147483648;
+const NEGATIVES: u64 = 1 << (WIDTH - 1);
 
 // A byte of lent bytes of any length, and another where they end before it.
 pub fn byte_or(bytes: &[u8], i: usize, other: u8) -> u8
@@ -94,7 +95,7 @@ fn natural(bytes: &[u8]) -> Number
 
 // The number as a field's, which is below a limit.
 fn within(number: Number, limit: u64) -> Read
-    requires { ⌜ limit ≤ 4294967296 ⌝ }
+    requires { ⌜ limit ≤ 2 ^ width ⌝ }
     ensures { λ r. ⌜ readOf r ≡ naturalWithin (λ n. ltb n limit) (numberOf number) ⌝ }
 {
     match number {

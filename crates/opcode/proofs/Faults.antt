@@ -12,10 +12,10 @@ use lib.Dec.{eqb, ltb}
 use lib.ListN.{length, getD, take, drop, length-take, length-drop, length-map}
 use lib.Seq.{getD-drop, getD-take}
 use Rattle.definition.specs.Field.{lf, split, Read, malformed, outside, is, field, Numbers, wrong, far, are, andThese, numbers, has}
-use Rattle.definition.specs.Opcode.{Sheet}
-use Rattle.definition.specs.Sheet.{byte, counted, sheetFields, distinct, sheetOf, repeated, readFields, readSheet, isNumber, times, readAtFault, groupOf, fieldAtFault, faultAt, sheetFault, onlyLine}
+use Rattle.definition.specs.Opcode.{roleCount, Sheet}
+use Rattle.definition.specs.Sheet.{fieldCount, opcodesOf, comparisonsOf, maxByte, byte, counted, sheetFields, distinct, sheetOf, repeated, readFields, readSheet, isNumber, times, readAtFault, groupOf, fieldAtFault, faultAt, sheetFault, onlyLine}
 use Rattle.field.proofs.Numbers.{up-to-bound}
-use Rattle.opcode.specs.Table.{Good, sheetBy}
+use Rattle.opcode.specs.Table.{byteCount, Good, sheetBy}
 use Rattle.opcode.proofs.Roles.{seen-at}
 use Rattle.field.proofs.Tests.{and-left, and-right}
 use Rattle.field.proofs.Lists.{take-map, drop-map}
@@ -62,35 +62,35 @@ numbers-reads (x ∷ fs) (n ∷ ns) e =
     let q : map (field byte) fs ≡ map is ns = cc in
     rw (p, numbers-reads fs ns q)
 
--- ---- an accepted text: 33 fields that are bytes, the 27 distinct and the six
+-- ---- an accepted text: all its fields are bytes, distinct in their groups
 
 pub record Spells (t ns : List ℕ) : Type 0 where
   pub fields : List (List ℕ)
   pub found : sheetFields t ≡ some fields
   pub reads : map (field byte) fields ≡ map is ns
-  pub long : length ns ≡ 33
-  pub opcodes : distinct (take 27 ns) ≡ true
-  pub comparisons : distinct (drop 27 ns) ≡ true
+  pub long : length ns ≡ fieldCount
+  pub opcodes : distinct (opcodesOf ns) ≡ true
+  pub comparisons : distinct (comparisonsOf ns) ≡ true
 
 pub spelled : {t ns : List ℕ} → Spells t ns → readSheet t ≡ some (sheetBy ns)
 unfolding readSheet readFields sheetOf
 spelled {t} {ns} p =
-    let n : numbers (repeated byte 33) (p .fields) ≡ are ns = rw (p .long) at (numbers-reads (p .fields) ns (p .reads)) in
+    let n : numbers (repeated byte fieldCount) (p .fields) ≡ are ns = rw (p .long) at (numbers-reads (p .fields) ns (p .reads)) in
     ap readFields (p .found) ∙ ap sheetOf n ∙ taken
   where
     taken : sheetOf (are ns) ≡ some (sheetBy ns)
     taken = rw (sheetOf, p .opcodes, p .comparisons)
 
 sheet-numbers : (m : Numbers) (s : Sheet) → sheetOf m ≡ some s
-    → (ns : List ℕ) × (m ≡ are ns) × (distinct (take 27 ns) ≡ true) × (distinct (drop 27 ns) ≡ true) × (s ≡ sheetBy ns)
+    → (ns : List ℕ) × (m ≡ are ns) × (distinct (opcodesOf ns) ≡ true) × (distinct (comparisonsOf ns) ≡ true) × (s ≡ sheetBy ns)
 unfolding sheetOf
 sheet-numbers wrong s = λ e. none-some e
 sheet-numbers far s = λ e. none-some e
-sheet-numbers (are ns) s = go (distinct (take 27 ns) && distinct (drop 27 ns)) refl
+sheet-numbers (are ns) s = go (distinct (opcodesOf ns) && distinct (comparisonsOf ns)) refl
   where
-    go : (t : Bool) → (distinct (take 27 ns) && distinct (drop 27 ns)) ≡ t → _≡_ {A = Option Sheet} (elim t [ true ↦ some (sheetBy ns) | false ↦ none ]) (some s)
-        → (ks : List ℕ) × (are ns ≡ are ks) × (distinct (take 27 ks) ≡ true) × (distinct (drop 27 ks) ≡ true) × (s ≡ sheetBy ks)
-    go true q e = (ns, refl, and-left _ _ q, and-right (distinct (take 27 ns)) _ q, cc)
+    go : (t : Bool) → (distinct (opcodesOf ns) && distinct (comparisonsOf ns)) ≡ t → _≡_ {A = Option Sheet} (elim t [ true ↦ some (sheetBy ns) | false ↦ none ]) (some s)
+        → (ks : List ℕ) × (are ns ≡ are ks) × (distinct (opcodesOf ks) ≡ true) × (distinct (comparisonsOf ks) ≡ true) × (s ≡ sheetBy ks)
+    go true q e = (ns, refl, and-left _ _ q, and-right (distinct (opcodesOf ns)) _ q, cc)
     go false q e = none-some e
 
 pub spells : (t : List ℕ) (s : Sheet) → readSheet t ≡ some s → (ns : List ℕ) × Spells t ns × (s ≡ sheetBy ns)
@@ -100,19 +100,19 @@ spells t s = go (sheetFields t) refl
     go : (o : Option (List (List ℕ))) → sheetFields t ≡ o → readFields o ≡ some s → (ns : List ℕ) × Spells t ns × (s ≡ sheetBy ns)
     go none q e = none-some e
     go (some fs) q e =
-        let m = sheet-numbers (numbers (repeated byte 33) fs) s e in
-        let r = reads-numbers 33 fs (m .0) (m .1) in
+        let m = sheet-numbers (numbers (repeated byte fieldCount) fs) s e in
+        let r = reads-numbers fieldCount fs (m .0) (m .1) in
         (m .0, record { fields = fs; found = q; reads = r .1; long = r .0; opcodes = m .2; comparisons = m .3 }, m .4)
 
--- ---- an accepted sheet is 27 distinct bytes, and six
+-- ---- an accepted sheet is bytes, distinct in their groups
 
-small-reads : (fs : List (List ℕ)) (ns : List ℕ) → map (field byte) fs ≡ map is ns → (i : ℕ) → getD ns i 0 < 256
+small-reads : (fs : List (List ℕ)) (ns : List ℕ) → map (field byte) fs ≡ map is ns → (i : ℕ) → getD ns i 0 < byteCount
 small-reads fs [] e i = omega arith
 small-reads [] (n ∷ ns) e i = absurd (let z : _≡_ {A = ℕ} 0 1 = cc in omega arith)
-small-reads (x ∷ fs) (n ∷ ns) e zero = let p : field byte x ≡ is n = cc in omega (arith, up-to-bound x 255 p)
+small-reads (x ∷ fs) (n ∷ ns) e zero = let p : field byte x ≡ is n = cc in omega (arith, up-to-bound x maxByte p)
 small-reads (x ∷ fs) (n ∷ ns) e (suc i) = let q : map (field byte) fs ≡ map is ns = cc in small-reads fs ns q i
 
-small-take : (k : ℕ) (ns : List ℕ) → ((i : ℕ) → getD ns i 0 < 256) → (i : ℕ) → getD (take k ns) i 0 < 256
+small-take : (k : ℕ) (ns : List ℕ) → ((i : ℕ) → getD ns i 0 < byteCount) → (i : ℕ) → getD (take k ns) i 0 < byteCount
 small-take zero ns h i = omega arith
 small-take (suc k) [] h i = omega arith
 small-take (suc k) (n ∷ ns) h zero = h 0
@@ -122,8 +122,8 @@ pub good-spelled : {t ns : List ℕ} → Spells t ns → Good (sheetBy ns)
 good-spelled {t} {ns} p =
     let small = small-reads (p .fields) ns (p .reads) in
     record {
-      opcodes = record { long = omega (arith, length-take 27 ns, p .long); differ = p .opcodes; small = small-take 27 ns small };
-      comparisons = record { long = omega (arith, length-drop 27 ns, p .long); differ = p .comparisons; small = λ i. rw (getD-drop 27 ns i 0) (small (27 + i)) };
+      opcodes = record { long = omega (arith, length-take roleCount ns, p .long); differ = p .opcodes; small = small-take roleCount ns small };
+      comparisons = record { long = omega (arith, length-drop roleCount ns, p .long); differ = p .comparisons; small = λ i. rw (getD-drop roleCount ns i 0) (small (roleCount + i)) };
     }
 
 pub good : (t : List ℕ) (s : Sheet) → readSheet t ≡ some s → Good s
@@ -171,19 +171,19 @@ once-no-fault : (n : ℕ) (xs : List ℕ) → distinct xs ≡ true → readAtFau
 unfolding readAtFault
 once-no-fault n xs e = lt-leb 2 (times n (map is xs)) (omega (arith, times-once n xs e))
 
-group-no-fault : (i n : ℕ) (ns : List ℕ) → distinct (take 27 ns) ≡ true → distinct (drop 27 ns) ≡ true → readAtFault (groupOf i (map is ns)) (is n) ≡ false
+group-no-fault : (i n : ℕ) (ns : List ℕ) → distinct (opcodesOf ns) ≡ true → distinct (comparisonsOf ns) ≡ true → readAtFault (groupOf i (map is ns)) (is n) ≡ false
 unfolding groupOf
 group-no-fault i n ns a b =
-    elim (ltb i 27) as (λ t. readAtFault (elim t [ true ↦ take 27 (map is ns) | false ↦ drop 27 (map is ns) ]) (is n) ≡ false)
-    [ true ↦ rw (take-map is 27 ns) (once-no-fault n (take 27 ns) a) | false ↦ rw (drop-map is 27 ns) (once-no-fault n (drop 27 ns) b) ]
+    elim (ltb i roleCount) as (λ t. readAtFault (elim t [ true ↦ opcodesOf (map is ns) | false ↦ comparisonsOf (map is ns) ]) (is n) ≡ false)
+    [ true ↦ rw (take-map is roleCount ns) (once-no-fault n (opcodesOf ns) a) | false ↦ rw (drop-map is roleCount ns) (once-no-fault n (comparisonsOf ns) b) ]
 
-field-no-fault : (i : ℕ) (ns : List ℕ) → length ns ≡ 33 → distinct (take 27 ns) ≡ true → distinct (drop 27 ns) ≡ true → fieldAtFault i (map is ns) ≡ false
+field-no-fault : (i : ℕ) (ns : List ℕ) → length ns ≡ fieldCount → distinct (opcodesOf ns) ≡ true → distinct (comparisonsOf ns) ≡ true → fieldAtFault i (map is ns) ≡ false
 unfolding fieldAtFault
-field-no-fault i ns l a b = go (ltb i 33) refl
+field-no-fault i ns l a b = go (ltb i fieldCount) refl
   where
-    go : (t : Bool) → ltb i 33 ≡ t → (t && readAtFault (groupOf i (map is ns)) (getD (map is ns) i malformed)) ≡ false
+    go : (t : Bool) → ltb i fieldCount ≡ t → (t && readAtFault (groupOf i (map is ns)) (getD (map is ns) i malformed)) ≡ false
     go false e = refl
-    go true e = rw (← seen-at is ns 0 malformed i (omega (arith, l, ltb-true i 33 e))) (group-no-fault i (getD ns i 0) ns a b)
+    go true e = rw (← seen-at is ns 0 malformed i (omega (arith, l, ltb-true i fieldCount e))) (group-no-fault i (getD ns i 0) ns a b)
 
 pub no-fault-spelled : {t ns : List ℕ} → Spells t ns → (n : ℕ) → sheetFault t n ≡ false
 unfolding sheetFault faultAt
@@ -203,17 +203,17 @@ fault-refused t n f = go (readSheet t) refl
 
 -- ---- a refused text has a place at fault
 
-fields-count : (t : List ℕ) (fs : List (List ℕ)) → sheetFields t ≡ some fs → length fs ≡ 33
+fields-count : (t : List ℕ) (fs : List (List ℕ)) → sheetFields t ≡ some fs → length fs ≡ fieldCount
 unfolding sheetFields counted
 fields-count t fs = go (onlyLine (split lf t))
   where
-    by : (gs : List (List ℕ)) (b : Bool) → eqb (length gs) 33 ≡ b → _≡_ {A = Option (List (List ℕ))} (elim b [ true ↦ some gs | false ↦ none ]) (some fs) → length fs ≡ 33
-    by gs true q e = let g : gs ≡ fs = cc in rw (← g) (eqb-true (length gs) 33 q)
+    by : (gs : List (List ℕ)) (b : Bool) → eqb (length gs) fieldCount ≡ b → _≡_ {A = Option (List (List ℕ))} (elim b [ true ↦ some gs | false ↦ none ]) (some fs) → length fs ≡ fieldCount
+    by gs true q e = let g : gs ≡ fs = cc in rw (← g) (eqb-true (length gs) fieldCount q)
     by gs false q e = absurd (let z : _≡_ {A = ℕ} 0 1 = cc in omega arith)
 
-    go : (o : Option (List (List ℕ))) → counted o ≡ some fs → length fs ≡ 33
+    go : (o : Option (List (List ℕ))) → counted o ≡ some fs → length fs ≡ fieldCount
     go none e = absurd (let z : _≡_ {A = ℕ} 0 1 = cc in omega arith)
-    go (some gs) e = by gs (eqb (length gs) 33) refl e
+    go (some gs) e = by gs (eqb (length gs) fieldCount) refl e
 
 -- all are numbers, or one is at fault in any group
 reads-or : (rs : List Read) → ((ns : List ℕ) × (rs ≡ map is ns)) ⊎ ((i : ℕ) × (i < length rs) × ((g : List Read) → readAtFault g (getD rs i malformed) ≡ true))
@@ -242,30 +242,30 @@ distinct-or (x ∷ xs) = go (has xs x) refl (distinct-or xs)
     go false q (inl d) = inl (rw q d)
     go false q (inr p) = inr (suc (p .0), omega (arith, p .1), omega (arith, p .2))
 
-module _ (ns : List ℕ) (l : length ns ≡ 33) where
-  twice-fault : (i : ℕ) → i < 33 → 2 ≤ times (getD ns i 0) (groupOf i (map is ns)) → fieldAtFault i (map is ns) ≡ true
+module _ (ns : List ℕ) (l : length ns ≡ fieldCount) where
+  twice-fault : (i : ℕ) → i < fieldCount → 2 ≤ times (getD ns i 0) (groupOf i (map is ns)) → fieldAtFault i (map is ns) ≡ true
   unfolding fieldAtFault readAtFault
-  twice-fault i h k = rw (lt-ltb i 33 h, ← seen-at is ns 0 malformed i (omega (arith, l))) (le-leb 2 (times (getD ns i 0) (groupOf i (map is ns))) k)
+  twice-fault i h k = rw (lt-ltb i fieldCount h, ← seen-at is ns 0 malformed i (omega (arith, l))) (le-leb 2 (times (getD ns i 0) (groupOf i (map is ns))) k)
 
-  opcode-fault : Twice (take 27 ns) → (n : ℕ) × (fieldAtFault n (map is ns) ≡ true)
+  opcode-fault : Twice (opcodesOf ns) → (n : ℕ) × (fieldAtFault n (map is ns) ≡ true)
   unfolding Twice groupOf
   opcode-fault p =
-      let h : p .0 < 27 = omega (arith, p .1, length-take 27 ns) in
-      (p .0, twice-fault (p .0) (omega arith) (rw (groupOf, lt-ltb (p .0) 27 h, take-map is 27 ns, ← getD-take 27 ns (p .0) 0 h) (p .2)))
+      let h : p .0 < roleCount = omega (arith, p .1, length-take roleCount ns) in
+      (p .0, twice-fault (p .0) (omega arith) (rw (groupOf, lt-ltb (p .0) roleCount h, take-map is roleCount ns, ← getD-take roleCount ns (p .0) 0 h) (p .2)))
 
-  comparison-fault : Twice (drop 27 ns) → (n : ℕ) × (fieldAtFault n (map is ns) ≡ true)
+  comparison-fault : Twice (comparisonsOf ns) → (n : ℕ) × (fieldAtFault n (map is ns) ≡ true)
   unfolding Twice groupOf
   comparison-fault p =
-      (27 + p .0, twice-fault (27 + p .0) (omega (arith, p .1, length-drop 27 ns, l)) (rw (groupOf, le-ltb (27 + p .0) 27 (omega arith), drop-map is 27 ns, ← getD-drop 27 ns (p .0) 0) (p .2)))
+      (roleCount + p .0, twice-fault (roleCount + p .0) (omega (arith, p .1, length-drop roleCount ns, l)) (rw (groupOf, le-ltb (roleCount + p .0) roleCount (omega arith), drop-map is roleCount ns, ← getD-drop roleCount ns (p .0) 0) (p .2)))
 
 fields-fault : (t : List ℕ) (fs : List (List ℕ)) → sheetFields t ≡ some fs → readSheet t ≡ none → (n : ℕ) × (fieldAtFault n (map (field byte) fs) ≡ true)
 unfolding fieldAtFault
 fields-fault t fs q bad = go (reads-or (map (field byte) fs))
   where
-    long : length (map (field byte) fs) ≡ 33
+    long : length (map (field byte) fs) ≡ fieldCount
     long = length-map fs (field byte) ∙ fields-count t fs q
 
-    groups : (ns : List ℕ) → map (field byte) fs ≡ map is ns → length ns ≡ 33 → (distinct (take 27 ns) ≡ true) ⊎ Twice (take 27 ns) → (distinct (drop 27 ns) ≡ true) ⊎ Twice (drop 27 ns)
+    groups : (ns : List ℕ) → map (field byte) fs ≡ map is ns → length ns ≡ fieldCount → (distinct (opcodesOf ns) ≡ true) ⊎ Twice (opcodesOf ns) → (distinct (comparisonsOf ns) ≡ true) ⊎ Twice (comparisonsOf ns)
         → (n : ℕ) × (fieldAtFault n (map is ns) ≡ true)
     groups ns e l (inr o) y = opcode-fault ns l o
     groups ns e l (inl a) (inr c) = comparison-fault ns l c
@@ -274,9 +274,9 @@ fields-fault t fs q bad = go (reads-or (map (field byte) fs))
     go : ((ns : List ℕ) × (map (field byte) fs ≡ map is ns)) ⊎ ((i : ℕ) × (i < length (map (field byte) fs)) × ((g : List Read) → readAtFault g (getD (map (field byte) fs) i malformed) ≡ true))
         → (n : ℕ) × (fieldAtFault n (map (field byte) fs) ≡ true)
     go (inl p) =
-        let r = groups (p .0) (p .1) (sym (length-map (p .0) is) ∙ ap length (sym (p .1)) ∙ long) (distinct-or (take 27 (p .0))) (distinct-or (drop 27 (p .0))) in
+        let r = groups (p .0) (p .1) (sym (length-map (p .0) is) ∙ ap length (sym (p .1)) ∙ long) (distinct-or (opcodesOf (p .0))) (distinct-or (comparisonsOf (p .0))) in
         (r .0, ap (fieldAtFault (r .0)) (p .1) ∙ r .1)
-    go (inr p) = (p .0, rw (lt-ltb (p .0) 33 (omega (arith, p .1, long))) (p .2 (groupOf (p .0) (map (field byte) fs))))
+    go (inr p) = (p .0, rw (lt-ltb (p .0) fieldCount (omega (arith, p .1, long))) (p .2 (groupOf (p .0) (map (field byte) fs))))
 
 pub some-fault : (t : List ℕ) → readSheet t ≡ none → (n : ℕ) × (sheetFault t n ≡ true)
 unfolding sheetFault faultAt

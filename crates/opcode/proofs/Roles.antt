@@ -7,7 +7,7 @@ use lib.Dec.{lit<}
 use mathlib.Core.List.{List, [], _∷_, map}
 use lib.ListN.{length, getD, List·getD-eq-default}
 use Rattle.definition.specs.Opcode as def
-use Rattle.definition.specs.Opcode.{traits, compare, number, compareIndex, up, down, shift, roles, ret}
+use Rattle.definition.specs.Opcode.{traits, compare, number, compareIndex, up, down, shift, roles, roleCount, comparisonCount, ret}
 use Rattle.definition.specs.Rules.{roleNumbered}
 use Rattle.opcode.specs.declared.ArithmeticOp.the-variants.{Add, Sub, Mul, Div, Mod}
 use Rattle.opcode.specs.declared.BoolOp.the-variants.{BoolAnd, BoolOr, BoolXor}
@@ -15,7 +15,7 @@ use Rattle.opcode.specs.declared.CompareOp.the-variants.{Eq, Ne, Lt, Le,
 use Rattle.opcode.specs.declared.Role.{Role}
 use Rattle.opcode.specs.declared.Effect.{Effect}
 use Rattle.opcode.specs.declared.Traits.{Traits}
-use Rattle.opcode.specs.View.{roleView, effectView, IsRow}
+use Rattle.opcode.specs.View.{roleView, effectView, AreTraits}
 use Rattle.opcode.specs.declared.Role.the-variants.{Dup, Pop, LoadVar, StoreVar, LoadConst, LoadTrue, LoadFalse, Arithmetic, Logic, Neg, BoolNot, Compare, Jmp, JmpIfNot, CmpBr, Ret}
 
 pub compare-number : (c : def.CompareOp) → number (compare c) ≡ 17 + compareIndex c
@@ -27,7 +27,7 @@ compare-number def.Le = refl
 compare-number def.Gt = refl
 compare-number def.Ge = refl
 
-pub compare-index : (c : def.CompareOp) → compareIndex c < 6
+pub compare-index : (c : def.CompareOp) → compareIndex c < comparisonCount
 unfolding compareIndex
 compare-index def.Eq = lit< tt
 compare-index def.Ne = lit< tt
@@ -50,7 +50,7 @@ table = Dup ∷ Pop ∷ LoadVar ∷ StoreVar ∷ LoadConst ∷ LoadTrue ∷ Load
     ∷ Jmp ∷ JmpIfNot ∷ CmpBr ∷ Ret ∷ []
 
 -- past the last role there is RET again
-pub past-roles : (n : ℕ) → 27 ≤ n → roleNumbered n ≡ ret
+pub past-roles : (n : ℕ) → roleCount ≤ n → roleNumbered n ≡ ret
 unfolding roleNumbered roles
 past-roles n h = List·getD-eq-default roles ret h
 
@@ -63,7 +63,7 @@ unfolding shift
 shift-down zero e = absurd (e refl)
 shift-down (suc h) e = sub-one (suc h)
 
--- a row of code's, at a role that is known
-pub is-row : {p q : Role} {r : Traits} {e : Effect} → p ≡ q → (r .size ≡ traits (roleView q) .size) × (r .needs ≡ traits (roleView q) .needs) × (r .effect ≡ e) → effectView e ≡ traits (roleView q) .effect
-    → IsRow (traits (roleView p)) r
-is-row k f g = rw k (record { size = f .0; needs = f .1; effect = ap effectView (f .2) ∙ g })
+-- the traits that code gives, at a role that is known
+pub are-traits : {p q : Role} {r : Traits} {e : Effect} → p ≡ q → (r .size ≡ traits (roleView q) .size) × (r .needs ≡ traits (roleView q) .needs) × (r .effect ≡ e) → effectView e ≡ traits (roleView q) .effect
+    → AreTraits (traits (roleView p)) r
+are-traits k f g = rw k (record { size = f .0; needs = f .1; effect = ap effectView (f .2) ∙ g })

@@ -10,7 +10,7 @@ use native.Mathlib.Decide.{decLt}
 use lib.Dec.{eqb}
 use lib.ListN.{length, getD}
 use Rattle.definition.specs.Field.{has}
-use Rattle.definition.specs.Opcode.{CompareOp, Eq, Ne, Lt, Le, Gt, Ge, Add, Sub, Mul, Div, Mod, BoolAnd, BoolOr, BoolXor, Role, dup, pop, loadVar, storeVar, loadConst, loadTrue, loadFalse, arithmetic, logic, neg, boolNot, compare, jmp, jmpIfNot, cmpBr, ret, roles, number, compareIndex, Sheet, opcode, comparisonByte, beside, roleOf, comparisonOf}
+use Rattle.definition.specs.Opcode.{CompareOp, Eq, Ne, Lt, Le, Gt, Ge, Add, Sub, Mul, Div, Mod, BoolAnd, BoolOr, BoolXor, Role, dup, pop, loadVar, storeVar, loadConst, loadTrue, loadFalse, arithmetic, logic, neg, boolNot, compare, jmp, jmpIfNot, cmpBr, ret, roles, roleCount, number, compareIndex, Sheet, opcode, comparisonByte, beside, roleOf, comparisonOf}
 use Rattle.definition.specs.Rules.{roleNumbered}
 use Rattle.definition.specs.Sheet.{distinct}
 use Rattle.field.proofs.Tests.{and-left, and-right}
@@ -107,11 +107,11 @@ comparison-index Gt = refl
 comparison-index Ge = refl
 
 -- a number past the roles is none: its role is RET, whose number is not past them
-pub number-below : (r : Role) → number r < 27
+pub number-below : (r : Role) → number r < roleCount
 unfolding number
-number-below r = go (decLt (number r) 27)
+number-below r = go (decLt (number r) roleCount)
   where
-    go : Dec (number r < 27) → number r < 27
+    go : Dec (number r < roleCount) → number r < roleCount
     go (yes h) = h
     go (no h) = let q : ret ≡ r = sym (past-roles (number r) (omega arith)) ∙ role-number r in absurd (let z = ap number q in omega arith)
 
@@ -121,9 +121,9 @@ up-from k zero i d h = absurd (omega arith)
 up-from k (suc n) zero d h = omega arith
 up-from k (suc n) (suc i) d h = up-from (suc k) n i d (omega arith) ∙ omega arith
 
-pub number-role : (i : ℕ) → i < 27 → number (roleNumbered i) ≡ i
+pub number-role : (i : ℕ) → i < roleCount → number (roleNumbered i) ≡ i
 unfolding roleNumbered roles number upFrom
-number-role i h = seen-at number roles ret 0 i h ∙ up-from 0 27 i 0 h ∙ omega arith
+number-role i h = seen-at number roles ret 0 i h ∙ up-from 0 roleCount i 0 h ∙ omega arith
 
 -- ---- an accepted sheet
 

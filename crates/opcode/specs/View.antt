@@ -74,8 +74,8 @@ effectView Up = def.up
 effectView Down = def.down
 effectView Same = def.same
 
--- what code gives of a role's row: all but its flow
-pub record IsRow (row : def.Traits) (r : Traits) : Type 0 where
-  pub size : r .size ≡ row .size
-  pub needs : r .needs ≡ row .needs
-  pub effect : effectView (r .effect) ≡ row .effect
+-- what code gives of a role's traits: all but its flow
+pub record AreTraits (t : def.Traits) (r : Traits) : Type 0 where
+  pub size : r .size ≡ t .size
+  pub needs : r .needs ≡ t .needs
+  pub effect : effectView (r .effect) ≡ t .effect

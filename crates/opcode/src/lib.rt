@@ -3,7 +3,8 @@ ghost use mathlib.Core.Path.{_≡_};
 ghost use Prim.Native.Nat.{_<_, _^_};
 ghost use Rattle.definition.specs.Opcode.{arithmetic, logic, binaryRole, unaryRole, size, number, traits, shift, negate, commute, compareIndex};
 ghost use Rattle.definition.specs.Rules.{roleNumbered};
-ghost use Rattle.opcode.specs.View.{arithmeticView, boolView, binaryView, unaryView, compareView, roleView, effectView, IsRow};
+ghost use Rattle.opcode.specs.View.{arithmeticView, boolView, binaryView, unaryView, compareView, roleView, effectView, AreTraits};
+use definition::ROLE_COUNT;
 
 pub mod sheet; // sheet.rt: reading a sheet, and what a sheet gives
 
@@ -46,7 +47,7 @@ pub enum ShortCircuitOp {
     OrElse,
 }
 
-// The 27 roles, by class.
+// The roles, by class.
 pub enum Role {
     Dup,
     Pop,
@@ -67,7 +68,7 @@ pub enum Role {
 }
 
 // Every role at its number.
-const ROLES: [Role; 27] = [
+const ROLES: [Role; ROLE_COUNT] = [
     Role::Dup,
     Role::Pop,
     Role::LoadVar,
@@ -104,7 +105,7 @@ pub enum Effect {
     Same,
 }
 
-// A role's row of the sheet's table: bytes, values that must be on the stack, height change.
+// What the sheet's table says of a role: bytes, values that must be on the stack, height change.
 pub struct Traits {
     pub size: u8,
     pub needs: u8,
@@ -246,35 +247,36 @@ impl Role {
     pub fn numbered(n: u8) -> Role
         ensures { λ r. ⌜ roleView r ≡ roleNumbered n ⌝ }
     {
-        if n < 27 { ROLES[n as usize] } else { Role::Ret }
+        let i = n as usize;
+        if i < ROLE_COUNT { ROLES[i] } else { Role::Ret }
     }
 
-    // Its row: one for a class.
+    // Its traits: the same for a class.
     pub fn traits(self) -> Traits
-        ensures { λ r. ⌜ IsRow (traits (roleView self)) r ⌝ }
+        ensures { λ r. ⌜ AreTraits (traits (roleView self)) r ⌝ }
     {
         match self {
-            Role::Dup => row(1, 1, Effect::Up),
-            Role::Pop => row(1, 1, Effect::Down),
-            Role::LoadVar => row(3, 0, Effect::Up),
-            Role::StoreVar => row(3, 1, Effect::Down),
-            Role::LoadConst => row(3, 0, Effect::Up),
-            Role::LoadTrue => row(1, 0, Effect::Up),
-            Role::LoadFalse => row(1, 0, Effect::Up),
-            Role::Arithmetic(_) => row(1, 2, Effect::Down),
-            Role::Logic(_) => row(1, 2, Effect::Down),
-            Role::Neg => row(1, 1, Effect::Same),
-            Role::BoolNot => row(1, 1, Effect::Same),
-            Role::Compare(_) => row(1, 2, Effect::Down),
-            Role::Jmp => row(3, 0, Effect::Same),
-            Role::JmpIfNot => row(3, 1, Effect::Down),
-            Role::CmpBr => row(8, 0, Effect::Same),
-            Role::Ret => row(1, 0, Effect::Same),
+            Role::Dup => traits_of(1, 1, Effect::Up),
+            Role::Pop => traits_of(1, 1, Effect::Down),
+            Role::LoadVar => traits_of(3, 0, Effect::Up),
+            Role::StoreVar => traits_of(3, 1, Effect::Down),
+            Role::LoadConst => traits_of(3, 0, Effect::Up),
+            Role::LoadTrue => traits_of(1, 0, Effect::Up),
+            Role::LoadFalse => traits_of(1, 0, Effect::Up),
+            Role::Arithmetic(_) => traits_of(1, 2, Effect::Down),
+            Role::Logic(_) => traits_of(1, 2, Effect::Down),
+            Role::Neg => traits_of(1, 1, Effect::Same),
+            Role::BoolNot => traits_of(1, 1, Effect::Same),
+            Role::Compare(_) => traits_of(1, 2, Effect::Down),
+            Role::Jmp => traits_of(3, 0, Effect::Same),
+            Role::JmpIfNot => traits_of(3, 1, Effect::Down),
+            Role::CmpBr => traits_of(8, 0, Effect::Same),
+            Role::Ret => traits_of(1, 0, Effect::Same),
         }
     }
 }
 
-fn row(size: u8, needs: u8, effect: Effect) -> Traits
+fn traits_of(size: u8, needs: u8, effect: Effect) -> Traits
     ensures { λ r. ⌜ (r .size ≡ size) × (r .needs ≡ needs) × (r .effect ≡ effect) ⌝ }
 {
     Traits {

@@ -1,8 +1,8 @@
-// An opcode sheet, read from any bytes into a lent table: the 27 opcodes by role, the six comparison bytes, and for each byte the number of
+// An opcode sheet, read from any bytes into a lent table: the opcodes by role, the comparison bytes, and for each byte the number of
 // its role. The table is filled once and then lent as one slice, so that nothing of it is copied at a call.
 ghost use mathlib.Core.Path.{_≡_};
 ghost use Prim.Native.Nat.{_<_};
-ghost use lib.ListN.{length, replicate};
+ghost use lib.ListN.{length};
 ghost use Rattle.definition.specs.Res.{refuse};
 ghost use Rattle.definition.specs.Field.{has};
 ghost use Rattle.definition.specs.Sheet.{fieldCount};
@@ -11,21 +11,27 @@ ghost use Rattle.definition.specs.Opcode.{opcode, comparisonByte};
 ghost use Rattle.field.specs.View.{readOf};
 ghost use Rattle.opcode.specs.View.{roleView, compareView};
 ghost use Rattle.opcode.specs.Table.{tableSize, sheetIn, numberIn, Listed, groupStart};
-ghost use Rattle.opcode.specs.Reading.{answerOf, Answers, Found, Takes, byteOr};
+ghost use Rattle.opcode.specs.Reading.{answerOf, Reads, Answers, Found, Takes, byteOr};
 use crate::CompareOp;
 use crate::Role;
 use definition::BAD_SHEET;
+use definition::COMPARISON_COUNT;
 use definition::OUTPUT_SHORT;
+use definition::ROLE_COUNT;
 use field::Read;
 
-// Elements of a table.
-pub const TABLE_SIZE: usize = 289;
+// Fields of a sheet.
+const FIELD_COUNT: usize = ROLE_COUNT + COMPARISON_COUNT;
+// How many bytes there are.
+const BYTE_COUNT: usize = 256;
+// Elements of a table: the fields of the sheet, and one for each byte.
+pub const TABLE_SIZE: usize = FIELD_COUNT + BYTE_COUNT;
 // In a table, the number of a byte that is no opcode.
 pub const UNLISTED: u8 = 255;
+// The largest number of a field, and one that no field has.
+const MAX_BYTE: u32 = 255;
 
-const OPCODES: usize = 27;
-
-const FIELDS: usize = 33;
+const NO_BYTE: u32 = MAX_BYTE + 1;
 
 // What reading answers: a sheet, or a refusal's number and place.
 pub enum SheetRead {
@@ -46,7 +52,7 @@ pub fn comparison_byte(sheet: &[u8], op: CompareOp) -> u8
     ensures { λ r. ⌜ r ≡ comparisonByte (sheetIn (now (sheet .entry))) (compareView op) ⌝ }
 {
     let n = op.index() as usize;
-    field::byte_or(sheet, OPCODES + n, 0)
+    field::byte_or(sheet, ROLE_COUNT + n, 0)
 }
 
 // The number of the role of an opcode, as a table that was read lists it (proofs/Tables.antt, `table-number`). UNLISTED for a byte that the
@@ -55,7 +61,7 @@ pub fn role_number(sheet: &[u8], opcode: u8) -> u8
     ensures { λ r. ⌜ r ≡ numberIn (now (sheet .entry)) opcode ⌝ }
 {
     let n = opcode as usize;
-    field::byte_or(sheet, FIELDS + n, UNLISTED)
+    field::byte_or(sheet, FIELD_COUNT + n, UNLISTED)
 }
 
 // Is the byte one of these?
@@ -76,18 +82,7 @@ fn contains(bytes: &[u8], b: u8) -> bool
 fn group_start(i: usize) -> usize
     ensures { λ r. ⌜ r ≡ groupStart i ⌝ }
 {
-    if i < OPCODES { 0 } else { OPCODES }
-}
-
-// The same byte all through.
-fn fill(bytes: &mut [u8], b: u8)
-    ensures { λ r. ⌜ now (bytes .exit) ≡ replicate (length (now (bytes .entry))) b ⌝ }
-{
-    let mut i = 0;
-    while i < bytes.len() {
-        bytes[i] = b;
-        i += 1;
-    }
+    if i < ROLE_COUNT { 0 } else { ROLE_COUNT }
 }
 
 // Each role's number at its opcode, the last role first: what stands there is then the number of the first that has it.
@@ -95,22 +90,22 @@ fn list_roles(sheet: &mut [u8])
     requires { ⌜ length (now sheet) ≡ tableSize ⌝ }
     ensures { λ r. ⌜ Listed (now (sheet .entry)) (now (sheet .exit)) ⌝ }
 {
-    fill(&mut sheet[FIELDS..], UNLISTED);
-    let mut i = OPCODES;
+    store::set_bytes(sheet, FIELD_COUNT, UNLISTED);
+    let mut i = ROLE_COUNT;
     while 0 < i {
         i -= 1;
         let opcode = sheet[i] as usize;
-        sheet[FIELDS + opcode] = i as u8;
+        sheet[FIELD_COUNT + opcode] = i as u8;
     }
 }
 
-// The byte that a field spells; 256 where it spells none.
+// The byte that a field spells; NO_BYTE where it spells none.
 fn byte_of(read: Read) -> u32
     ensures { λ r. ⌜ r ≡ byteOr (readOf read) ⌝ }
 {
     match read {
-        Read::Malformed => 256,
-        Read::Outside => 256,
+        Read::Malformed => NO_BYTE,
+        Read::Outside => NO_BYTE,
         Read::Is(n) => n,
     }
 }
@@ -127,7 +122,7 @@ fn take_field(sheet: &mut [u8], i: usize, read: Read, fault: u32) -> u32
     }
     let place = i as u32 + 1;
     let n = byte_of(read);
-    if n > 255 {
+    if n > MAX_BYTE {
         return place;
     }
     let b = n as u8;
@@ -139,7 +134,7 @@ fn take_field(sheet: &mut [u8], i: usize, read: Read, fault: u32) -> u32
     0
 }
 
-// The 33 numbers of a sheet's one line into the table's front, by one look at each byte. A field at fault is answered only if the line and its field
+// The numbers of a sheet's one line into the table's front, by one look at each byte. A field at fault is answered only if the line and its field
 // count are good: place 0 goes before it.
 fn read_fields(text: &[u8], sheet: &mut [u8]) -> SheetRead
     requires { ⌜ length (now sheet) ≡ tableSize ⌝ }
@@ -148,9 +143,9 @@ fn read_fields(text: &[u8], sheet: &mut [u8]) -> SheetRead
     let mut fault = 0;
     let mut at = 0;
     let mut i = 0;
-    while i < FIELDS {
-        let next = field::next_up_to(text, at, 255);
-        if next.stop != field::separator(i, FIELDS - 1) {
+    while i < FIELD_COUNT {
+        let next = field::next_up_to(text, at, MAX_BYTE);
+        if next.stop != field::separator(i, FIELD_COUNT - 1) {
             return SheetRead::Refused(BAD_SHEET, 0);
         }
         let read = next.read;
@@ -171,17 +166,15 @@ fn read_fields(text: &[u8], sheet: &mut [u8]) -> SheetRead
 fn refuse(sheet: &mut [u8], number: u8, place: u32) -> SheetRead
     ensures { λ r. ⌜ (answerOf r ≡ refuse number place) × (now (sheet .exit) ≡ zeros (length (now (sheet .entry)))) ⌝ }
 {
-    fill(sheet, 0);
+    store::zero_bytes(sheet, 0);
     SheetRead::Refused(number, place)
 }
 
-// A sheet from any bytes, into a table of TABLE_SIZE elements: 7, or 14 for a table of any other length.
-pub fn read_sheet(text: &[u8], sheet: &mut [u8]) -> SheetRead
-    ensures { λ r. ⌜ Answers (length (now (sheet .entry))) (now (text .entry)) (now (sheet .exit)) (answerOf r) ⌝ }
+// A sheet from any bytes, into a table of TABLE_SIZE elements.
+fn read_table(text: &[u8], sheet: &mut [u8]) -> SheetRead
+    requires { ⌜ length (now sheet) ≡ tableSize ⌝ }
+    ensures { λ r. ⌜ Reads (now (text .entry)) (now (sheet .exit)) (answerOf r) ⌝ }
 {
-    if sheet.len() != TABLE_SIZE {
-        return refuse(sheet, OUTPUT_SHORT, 0);
-    }
     match read_fields(text, sheet) {
         SheetRead::Refused(number, place) => refuse(sheet, number, place),
         SheetRead::Accepted => {
@@ -189,4 +182,16 @@ pub fn read_sheet(text: &[u8], sheet: &mut [u8]) -> SheetRead
             SheetRead::Accepted
         }
     }
+}
+
+// A sheet from any bytes, into a table of TABLE_SIZE elements or more: 7, or 14 for a shorter one. What lies behind the table is zeroed.
+pub fn read_sheet(text: &[u8], sheet: &mut [u8]) -> SheetRead
+    ensures { λ r. ⌜ Answers (length (now (sheet .entry))) (now (text .entry)) (now (sheet .exit)) (answerOf r) ⌝ }
+{
+    if sheet.len() < TABLE_SIZE {
+        return refuse(sheet, OUTPUT_SHORT, 0);
+    }
+    let answer = read_table(text, &mut sheet[..TABLE_SIZE]);
+    store::zero_bytes(sheet, TABLE_SIZE);
+    answer
 }

@@ -15,7 +15,7 @@ use Rattle.definition.specs.Sheet.{readSheet}
 use Rattle.definition.specs.Emit.{LineEntry}
 use Rattle.definition.specs.Rules.{Rule, readRules}
 use Rattle.definition.specs.Rewrite.{decode, cut as cutBytes, endFrom, boundariesFrom}
-use Rattle.definition.specs.Lent.{filled, entryNumbers, entriesOf}
+use Rattle.definition.specs.Lent.{filled, entryNumbers, firstEntries, entriesOf}
 use Rattle.definition.specs.Alone.{Given, Rewritten, answer, boundaries, checked, rewritten, rewriteFiles, rewriteInto, roomy}
 use Rattle.definition.specs.Passes.{malformedLine, refusalLine, text}
 use Rattle.rules.proofs.File.{no-rules}
@@ -52,7 +52,7 @@ into-files place sheet rules g = refl
 -- with nothing to rewrite, only the sheet and the rules can be refused
 nothing-files : (place : ℕ) (s : Sheet) (sheet rules : List ℕ) → readSheet sheet ≡ some s
     → rewriteFiles place sheet rules nothingGiven ≡ (readRules rules >>= λ rs. ok (rewritten s rs nothingGiven))
-unfolding rewriteFiles checked boundaries decode cutBytes endFrom boundariesFrom entriesOf open-Res
+unfolding rewriteFiles checked boundaries decode cutBytes endFrom boundariesFrom entriesOf firstEntries open-Res
 nothing-files place s sheet rules e = rw e refl
 
 -- ---- no sheet

@@ -11,7 +11,8 @@ use lib.ListN.{length, getD, take, drop, length-take, length-map, List·getD-map
 use lib.Seq.{take-all}
 use Rattle.field.proofs.Lists.{take-map, drop-map}
 use Rattle.definition.specs.Field.{lf, comma, split, Field, field, Read, malformed, outside, is, Numbers, wrong, far, are, numbers}
-use Rattle.definition.specs.Sheet.{byte, fieldCount, opcodeCount, onlyLine, counted, sheetFields, sheetOf, repeated, readFields, readSheet, isNumber, times, readAtFault, groupOf, fieldAtFault, faultAt, sheetFault}
+use Rattle.definition.specs.Opcode.{roleCount}
+use Rattle.definition.specs.Sheet.{byte, fieldCount, opcodesOf, comparisonsOf, onlyLine, counted, sheetFields, sheetOf, repeated, readFields, readSheet, isNumber, times, readAtFault, groupOf, fieldAtFault, faultAt, sheetFault}
 use Rattle.definition.specs.Rules.{ruleFields, ruleFrom, readRule, isEmpty, rulesFrom, readRules}
 use Rattle.definition.specs.Listing.{countOf}
 use Rattle.definition.specs.Passes.{these}
@@ -146,9 +147,9 @@ read-plain g (is n) = ap (leb 2) (times-plain n g)
 group-plain : (i : ℕ) (rs : List Read) → groupOf i (map plain rs) ≡ map plain (groupOf i rs)
 unfolding groupOf
 group-plain i rs =
-    elim (ltb i opcodeCount)
-    as (λ t. _≡_ {A = List Read} (elim t [ true ↦ take opcodeCount (map plain rs) | false ↦ drop opcodeCount (map plain rs) ]) (map plain (elim t [ true ↦ take opcodeCount rs | false ↦ drop opcodeCount rs ])))
-    [ true ↦ take-map plain opcodeCount rs | false ↦ drop-map plain opcodeCount rs ]
+    elim (ltb i roleCount)
+    as (λ t. _≡_ {A = List Read} (elim t [ true ↦ opcodesOf (map plain rs) | false ↦ comparisonsOf (map plain rs) ]) (map plain (elim t [ true ↦ opcodesOf rs | false ↦ comparisonsOf rs ])))
+    [ true ↦ take-map plain roleCount rs | false ↦ drop-map plain roleCount rs ]
 
 at-plain : (rs : List Read) (i : ℕ) → getD (map plain rs) i malformed ≡ plain (getD rs i malformed)
 unfolding readAs countOf

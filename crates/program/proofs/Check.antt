@@ -1,22 +1,25 @@
 -- The laws behind the check: each answer is the definition's.
-use mathlib.Core.Path.{_≡_, refl, sym, _∙_}
+use mathlib.Core.Path.{_≡_, refl, ap, sym, _∙_}
 use mathlib.Core.Bool.{true, false, _&&_}
 use mathlib.Core.Option.{Option, some, none}
 use mathlib.Core.List.{List, [], _∷_}
-use Prim.Native.Nat.{ℕ, zero, suc, _-_, _≤_, _<_}
+use Prim.Native.Nat.{ℕ, zero, suc, _+_, _-_, _≤_, _<_}
 use native.Mathlib.Omega.{arith}
-use borrow.Author.Tests.{le-leb, lt-leb, ne-eqb, eq-eqb}
+use borrow.Author.Tests.{le-leb, lt-leb, leb-true, ne-eqb, eq-eqb}
 use lib.Dec.{eqb, leb}
-use lib.ListN.{length, getD}
+use lib.ListN.{length, getD, drop}
 use Rattle.definition.specs.Limits.{maxProgram, maxNesting, badText, wrongLines}
 use Rattle.definition.specs.Res.{Res, ok, refuse, _>>=_, _>>_, demand}
-use Rattle.definition.specs.Field.{lf}
+use Rattle.definition.specs.Field.{lf, firstLine}
 use Rattle.definition.specs.Tree.{Pos, Fault, Program, Block}
 use Rattle.definition.specs.Program as def
 use Rattle.definition.specs.Program.{is, not, Header, lineAt, headerForms, nextLine, stmtAt, blockOf, faultOfBlock, endsInLF, headerOf, noFault, topStmts, readProgram}
+use Rattle.field.proofs.Parts.{line-ends}
+use Rattle.field.proofs.Results.{never, ok-is, ok-demand, ok-bind}
+use Rattle.field.proofs.Tests.{and-left}
 use Rattle.program.specs.declared.Walk.{Walk}
 use Rattle.program.specs.Walk.{cursorIn, standBy, stand, Walked, outcome, many, overStmt, Passed}
-use Rattle.program.specs.Check.{checked, Headed}
+use Rattle.program.specs.Check.{checked, Headed, programOf, Accepts}
 use Rattle.program.proofs.Laws.{block-many}
 
 -- ---- 1
@@ -66,7 +69,7 @@ behind text p f c = noFault f >> (demand (leb (length text) (c .at)) wrongLines 
 behind-refused : (text : List ℕ) (p : Program) (f : Option Fault) (c d : def.Cursor) (r : ℕ) → standBy r d ≡ outcome true f c → (r ≡ 0 → ⊥) → behind text p f c ≡ refuse r (d .row)
 unfolding standBy outcome behind noFault _>>_
 behind-refused text p none c d zero e h = absurd (h refl)
-behind-refused text p none c d (suc r) e h = absurd (let q : _≡_ {A = ℕ} 0 1 = cc in omega arith)
+behind-refused text p none c d (suc r) e h = never (cc)
 behind-refused text p (some f) c d zero e h = absurd (h refl)
 behind-refused text p (some f) c d (suc r) e h =
     let a : f .number ≡ suc r = cc in
@@ -76,7 +79,7 @@ behind-refused text p (some f) c d (suc r) e h =
 behind-on : (text : List ℕ) (p : Program) (f : Option Fault) (c d : def.Cursor) → standBy 0 d ≡ outcome true f c → behind text p f c ≡ demand (leb (length text) (d .at)) wrongLines (d .row) >> ok p
 unfolding standBy outcome behind noFault _>>_
 behind-on text p none c d e = let q : c ≡ d = cc in rw q
-behind-on text p (some f) c d e = absurd (let q : _≡_ {A = ℕ} 0 1 = cc in omega arith)
+behind-on text p (some f) c d e = never (cc)
 
 module _ {text : List ℕ} {v n : ℕ} {p : Pos} (h : Headed text v n p) {top : Walk} (passed : Passed text (record { at = 0; row = 1; refused = 0 }) top)
     {w : Walk} (walked : Walked (many n (overStmt true maxNesting v text)) text top w) where
@@ -112,3 +115,48 @@ module _ {text : List ℕ} {v n : ℕ} {p : Pos} (h : Headed text v n p) {top : 
   pub check-fine : w .refused ≡ 0 → length text ≤ w .at → ok (head, top .at) ≡ checked text
   unfolding _>>=_ demand _>>_
   check-fine z all = sym (checked-is (ok (record { pos = p; body = body .0 })) (read-is ∙ behind-on _ _ _ _ _ (on z) ∙ rw (le-leb _ _ all)))
+
+-- ---- what the answer says of the text
+
+no-fault : {A : Type 0} (f : Option Fault) (m : Res A) (x : A) → (noFault f >> m) ≡ ok x → m ≡ ok x
+unfolding noFault _>>_
+no-fault none m x e = e
+no-fault (some f) m x e = never (cc)
+
+-- the header of a text that is read, and its tree
+read-as : (text : List ℕ) (p : Program) → readProgram text ≡ ok p
+    → (h : Header) × (headerOf (lineAt headerForms maxNesting text 0) ≡ ok h) × (p ≡ programOf text h) × (length text ≤ maxProgram)
+unfolding readProgram
+read-as text p e =
+    let a = ok-demand _ _ _ _ _ e in
+    let b = ok-bind (headerOf (lineAt headerForms maxNesting text 0)) _ _ (a .1) in
+    let c = ok-demand _ _ _ _ _ (no-fault _ _ _ (b .2)) in
+    (b .0, b .1, ok-is (c .1), leb-true _ _ (and-left _ _ (a .0)))
+
+module _ (text : List ℕ) where
+  pub refused : {n p : ℕ} → checked text ≡ refuse n p → readProgram text ≡ refuse n p
+  unfolding checked _>>=_
+  refused {n} {p} e = go (readProgram text) refl e
+    where
+      go : (r : Res Program) → readProgram text ≡ r
+          → _>>=_ {B = Header × ℕ} r (λ q. _>>=_ {B = Header × ℕ} (headerOf (lineAt headerForms maxNesting text 0)) (λ h. ok (h, nextLine text (record { at = 0; row = 1 }) .at))) ≡ refuse n p → r ≡ refuse n p
+      go (ok q) k e = let e′ = rw (read-as text q k .1) at e in never (cc)
+      go (refuse m q) k e =
+          let a : m ≡ n = cc in
+          let b : q ≡ p = cc in
+          rw (a, b)
+
+  pub accepted : {h : Header} {next : ℕ} → checked text ≡ ok (h, next) → Accepts text h next
+  unfolding checked nextLine
+  accepted {h} {next} e =
+      let a = ok-bind (readProgram text) _ _ e in
+      let b = ok-bind (headerOf (lineAt headerForms maxNesting text 0)) _ _ (a .2) in
+      let c = read-as text (a .0) (a .1) in
+      let same = ok-is (b .2) in
+      let at : next ≡ 0 + length (firstLine (drop 0 text)) + 1 = ap (λ (x : Header × ℕ). x .1) same in
+      let q : h ≡ c .0 = ap (λ (x : Header × ℕ). x .0) same ∙ ok-is (sym (c .1) ∙ b .1) in
+      record {
+        read = a .1 ∙ ap ok (c .2 ∙ ap (programOf text) (sym q));
+        top = rw at;
+        near = record { short = c .3; within = omega (arith, at, line-ends text 0 .high); rows = omega (arith, at) };
+      }

@@ -16,6 +16,7 @@ use Rattle.definition.specs.Tree.{Fault, Expr, bad, Stmt, badStmt, Arms, CaseLa
 use Rattle.definition.specs.Program as def
 use Rattle.definition.specs.Program.{Form, Line, is, not, made, byLetter, lineOf, lineAt, refusal, Reader, A, I, S, F, L, X, N, R, K, B, D, O, U, C, H, M, StmtLine, ExprLine, ArmLine, nextLine, faultAt, exprForms, stmtForms, armForms, labelForms, exprOf, exprBy, exprAt, labelBy, labelsAt, blockOf, armBy, armsAt, stmtOf, stmtBy, stmtAt, orElse, faultOfExpr, faultOfLabels, faultOfStmt, faultOfBlock, faultOfArms}
 use Rattle.field.specs.View.{Ends}
+use Rattle.field.proofs.Results.{never}
 use Rattle.program.specs.declared.Cursor.{Cursor}
 use Rattle.program.specs.declared.Walk.{Walk}
 use Rattle.program.specs.declared.Parts.{Parts}
@@ -183,8 +184,8 @@ module _ {P : Type 0} (forms : List (Form P)) (left : ℕ) (text : List ℕ) (at
       go : (t u : Bool) → ltb at (length text) ≡ t → eqb left 0 ≡ u
           → _≡_ {A = Line P} (elim t [ false ↦ not wrongLines | true ↦ elim u [ true ↦ not tooDeep | false ↦ lineOf forms (split comma (firstLine (drop at text))) ] ]) (is l)
           → (at < length text) × (0 < left)
-      go false u a b e = absurd (let q : _≡_ {A = ℕ} 0 1 = cc in omega arith)
-      go true true a b e = absurd (let q : _≡_ {A = ℕ} 0 1 = cc in omega arith)
+      go false u a b e = never (cc)
+      go true true a b e = never (cc)
       go true false a b e = let h = eqb-false left 0 b in (ltb-true at (length text) a, omega arith)
 
 -- ---- the reading at a place

@@ -176,7 +176,7 @@ fn pass_line(text: &[u8], w: Walk) -> Walk
 }
 
 // So many expressions.
-pub fn walk_exprs(text: &[u8], variables: u16, heed: bool, left: usize, n: usize, w: Walk) -> Walk
+fn walk_exprs(text: &[u8], variables: u16, heed: bool, left: usize, n: usize, w: Walk) -> Walk
     requires { ⌜ Near (now text) (w .at) (w .row) ⌝ }
     ensures { λ r. ⌜ Walked (many n (overExpr heed left variables (now (text .entry)))) (now (text .entry)) w r ⌝ }
 {
@@ -228,7 +228,7 @@ fn walk_label(text: &[u8], heed: bool, left: usize, w: Walk) -> Walk
 }
 
 // So many labels.
-pub fn walk_labels(text: &[u8], heed: bool, left: usize, n: usize, w: Walk) -> Walk
+fn walk_labels(text: &[u8], heed: bool, left: usize, n: usize, w: Walk) -> Walk
     requires { ⌜ Near (now text) (w .at) (w .row) ⌝ }
     ensures { λ r. ⌜ Walked (many n (overLabel heed left (now (text .entry)))) (now (text .entry)) w r ⌝ }
 {
@@ -245,7 +245,7 @@ pub fn walk_labels(text: &[u8], heed: bool, left: usize, n: usize, w: Walk) -> W
 }
 
 // So many arms.
-pub fn walk_arms(text: &[u8], variables: u16, heed: bool, left: usize, n: usize, w: Walk) -> Walk
+fn walk_arms(text: &[u8], variables: u16, heed: bool, left: usize, n: usize, w: Walk) -> Walk
     requires { ⌜ Near (now text) (w .at) (w .row) ⌝ }
     ensures { λ r. ⌜ Walked (many n (overArm heed left variables (now (text .entry)))) (now (text .entry)) w r ⌝ }
 {
@@ -262,7 +262,7 @@ pub fn walk_arms(text: &[u8], variables: u16, heed: bool, left: usize, n: usize,
 }
 
 // An arm: its line, its labels and its body.
-pub fn walk_arm(text: &[u8], variables: u16, heed: bool, left: usize, w: Walk) -> Walk
+fn walk_arm(text: &[u8], variables: u16, heed: bool, left: usize, w: Walk) -> Walk
     requires { ⌜ Near (now text) (w .at) (w .row) ⌝ }
     ensures { λ r. ⌜ Walked (overArm heed left variables (now (text .entry))) (now (text .entry)) w r ⌝ }
 {
@@ -299,7 +299,7 @@ pub fn walk_stmts(text: &[u8], variables: u16, heed: bool, left: usize, n: usize
 }
 
 // A statement, with so many nesting levels left: its line, then its parts.
-pub fn walk_stmt(text: &[u8], variables: u16, heed: bool, left: usize, w: Walk) -> Walk
+fn walk_stmt(text: &[u8], variables: u16, heed: bool, left: usize, w: Walk) -> Walk
     requires { ⌜ Near (now text) (w .at) (w .row) ⌝ }
     ensures { λ r. ⌜ Walked (overStmt heed left variables (now (text .entry))) (now (text .entry)) w r ⌝ }
 {

@@ -16,6 +16,8 @@ use Rattle.definition.specs.Program.{Line, is, not, Reader, A, I, S, F, L, X, N
 use Rattle.definition.specs.Stmt as shapes
 use Rattle.definition.specs.Stmt.{isDone, isExitStmt, isExit, onlyIf, exitWhen, exitUnless, repeatOr, whileOr, shape}
 use Rattle.definition.specs.CompileExpr.{readOf, constantOf, zip, orClassified, classify}
+use Rattle.field.proofs.Results.{never}
+use Rattle.field.proofs.Tests.{and-left, and-right}
 use Rattle.program.specs.declared.Cursor.{Cursor}
 use Rattle.program.specs.declared.Walk.{Walk}
 use Rattle.program.specs.Walk.{cursorOf, cursorIn, standBy, Near, Skipped, Walked, outcome, many, overExpr, overStmt}
@@ -32,7 +34,7 @@ use Rattle.program_shape.specs.Shape.{walkFrom, operandOf, variableIn, c
 stands-at : (n : ℕ) (c d : def.Cursor) → standBy n c ≡ ok d → c ≡ d
 unfolding standBy
 stands-at zero c d e = cc
-stands-at (suc n) c d e = absurd (let q : _≡_ {A = ℕ} 0 1 = cc in omega arith)
+stands-at (suc n) c d e = never (cc)
 
 skipped : {f : def.Cursor → Res def.Cursor} {text : List ℕ} {c : Cursor} {v : Walk} (d : def.Cursor) → Walked f text (walkFrom c) v → f (cursorOf c) ≡ ok d
     → Skipped text d (record { at = v .at; row = v .row })
@@ -43,10 +45,6 @@ module _ (left v : ℕ) {text : List ℕ} (c : Cursor) {r : Walk} where
   pub skipped-expr : Walked (overExpr false left v text) text (walkFrom c) r → Skipped text (exprAt left v text (cursorOf c) .1) (record { at = r .at; row = r .row })
   unfolding outcome
   skipped-expr w = skipped _ w refl
-
-  pub skipped-stmt : Walked (overStmt false left v text) text (walkFrom c) r → Skipped text (stmtAt left v text (cursorOf c) .1) (record { at = r .at; row = r .row })
-  unfolding outcome
-  skipped-stmt w = skipped _ w refl
 
   pub skipped-block : (n : ℕ) → Walked (many n (overStmt false left v text)) text (walkFrom c) r → Skipped text (blockOf (λ d. stmtAt left v text d) n (cursorOf c) .1) (record { at = r .at; row = r .row })
   unfolding outcome
@@ -71,19 +69,19 @@ compared-by expr c (B b) e = refl
 compared-by expr c (D v) e = refl
 compared-by expr c (O o) e = refl
 compared-by expr c (U o) e = refl
-compared-by expr c (C o) e = absurd (let q : _≡_ {A = ℕ} 0 1 = cc in omega arith)
+compared-by expr c (C o) e = never (cc)
 compared-by expr c (H o) e = refl
 
 compares : (x : Line ExprLine) (o : CompareOp) → comparisonIn x ≡ some o → x ≡ is (C o)
 unfolding comparisonIn
-compares (is (K k)) o e = absurd (let q : _≡_ {A = ℕ} 0 1 = cc in omega arith)
-compares (is (B b)) o e = absurd (let q : _≡_ {A = ℕ} 0 1 = cc in omega arith)
-compares (is (D v)) o e = absurd (let q : _≡_ {A = ℕ} 0 1 = cc in omega arith)
-compares (is (O p)) o e = absurd (let q : _≡_ {A = ℕ} 0 1 = cc in omega arith)
-compares (is (U p)) o e = absurd (let q : _≡_ {A = ℕ} 0 1 = cc in omega arith)
+compares (is (K k)) o e = never (cc)
+compares (is (B b)) o e = never (cc)
+compares (is (D v)) o e = never (cc)
+compares (is (O p)) o e = never (cc)
+compares (is (U p)) o e = never (cc)
 compares (is (C p)) o e = cc
-compares (is (H p)) o e = absurd (let q : _≡_ {A = ℕ} 0 1 = cc in omega arith)
-compares (not n) o e = absurd (let q : _≡_ {A = ℕ} 0 1 = cc in omega arith)
+compares (is (H p)) o e = never (cc)
+compares (not n) o e = never (cc)
 
 module _ (left v : ℕ) (text : List ℕ) (c : def.Cursor) where
   pub sided : (r : Operand) (x : Line ExprLine) → r ≡ operandOf x → x ≡ lineAt (exprForms v) left text (c .at) → Sided (exprAt left v text c .0) r
@@ -146,18 +144,10 @@ if-exits false i stmt n m p s cond = rw (empty stmt n p, sole i stmt m (blockOf 
     go zero = unfold blockOf in refl
     go (suc k) = rw (eqb·suc-zero)
 
-both : (a b : Bool) → a && b ≡ true → (a ≡ true) × (b ≡ true)
-both true b e = (refl, e)
-both false b e = absurd (let q : _≡_ {A = ℕ} 0 1 = cc in omega arith)
-
 if-ends : (when : Bool) (stmt : Reader Stmt) (n m : ℕ) (p : def.Cursor) → sizesFit when n m ≡ true → blockOf stmt m (blockOf stmt n p .1) .1 ≡ stmt p .1
 unfolding sizesFit blockOf
-if-ends true stmt n m p e =
-    let h = both (eqb m 0) (eqb n 1) e in
-    rw (eqb-true m 0 (h .0), eqb-true n 1 (h .1))
-if-ends false stmt n m p e =
-    let h = both (eqb n 0) (eqb m 1) e in
-    rw (eqb-true n 0 (h .0), eqb-true m 1 (h .1))
+if-ends true stmt n m p e = rw (eqb-true m 0 (and-left (eqb m 0) (eqb n 1) e), eqb-true n 1 (and-right (eqb m 0) (eqb n 1) e))
+if-ends false stmt n m p e = rw (eqb-true n 0 (and-left (eqb n 0) (eqb m 1) e), eqb-true m 1 (and-right (eqb n 0) (eqb m 1) e))
 
 -- ---- the lines of an IF that exits
 
@@ -174,14 +164,14 @@ line-exits i expr stmt arms s c (R p) = refl
 
 exit-ends : (i : ℕ) (expr : Reader Expr) (stmt : Reader Stmt) (arms : ℕ → Reader Arms) (s : Pos → Source) (c : def.Cursor) (l : StmtLine) → exitLine i (is l) ≡ true → stmtOf expr stmt arms s c l .1 ≡ c
 unfolding stmtOf exitLine
-exit-ends i expr stmt arms s c (A p v) e = absurd (let q : _≡_ {A = ℕ} 0 1 = cc in omega arith)
-exit-ends i expr stmt arms s c (I p n m) e = absurd (let q : _≡_ {A = ℕ} 0 1 = cc in omega arith)
-exit-ends i expr stmt arms s c (S p n m) e = absurd (let q : _≡_ {A = ℕ} 0 1 = cc in omega arith)
-exit-ends i expr stmt arms s c (F p j v k n) e = absurd (let q : _≡_ {A = ℕ} 0 1 = cc in omega arith)
-exit-ends i expr stmt arms s c (L p j n m) e = absurd (let q : _≡_ {A = ℕ} 0 1 = cc in omega arith)
+exit-ends i expr stmt arms s c (A p v) e = never (cc)
+exit-ends i expr stmt arms s c (I p n m) e = never (cc)
+exit-ends i expr stmt arms s c (S p n m) e = never (cc)
+exit-ends i expr stmt arms s c (F p j v k n) e = never (cc)
+exit-ends i expr stmt arms s c (L p j n m) e = never (cc)
 exit-ends i expr stmt arms s c (X p j) e = refl
-exit-ends i expr stmt arms s c (N p j) e = absurd (let q : _≡_ {A = ℕ} 0 1 = cc in omega arith)
-exit-ends i expr stmt arms s c (R p) e = absurd (let q : _≡_ {A = ℕ} 0 1 = cc in omega arith)
+exit-ends i expr stmt arms s c (N p j) e = never (cc)
+exit-ends i expr stmt arms s c (R p) e = never (cc)
 
 module _ (i left v : ℕ) (text : List ℕ) (c : def.Cursor) where
   exit-at : (x : Line StmtLine) → x ≡ lineAt (stmtForms v) left text (c .at) → isExitStmt i (stmtAt left v text c .0) ≡ exitLine i x
@@ -190,7 +180,7 @@ module _ (i left v : ℕ) (text : List ℕ) (c : def.Cursor) where
 
   exit-behind : (x : Line StmtLine) → x ≡ lineAt (stmtForms v) left text (c .at) → exitLine i x ≡ true → (stmtAt left v text c .1 ≡ nextLine text c) × (c .at < length text)
   exit-behind (is l) k e = (rw (stmt-is left v text c l (sym k)) (exit-ends i _ _ _ _ _ l e), line-there (stmtForms v) left text (c .at) l (sym k) .0)
-  exit-behind (not n) k e = unfold exitLine in absurd (let q : _≡_ {A = ℕ} 0 1 = cc in omega arith)
+  exit-behind (not n) k e = unfold exitLine in never (cc)
 
 pub unfused : (c : CompareOp) (w l : Option ℕ) → none ≡ fused c none none w l
 unfolding zip orClassified
@@ -225,15 +215,15 @@ record Fitting (when : Bool) (x : Line StmtLine) : Type 0 where
 
 fitting : (when : Bool) (x : Line StmtLine) → ifFits when x ≡ true → Fitting when x
 unfolding ifFits
-fitting when (is (A p v)) e = absurd (let q : _≡_ {A = ℕ} 0 1 = cc in omega arith)
+fitting when (is (A p v)) e = never (cc)
 fitting when (is (I p n m)) e = record { pos = p; first = n; second = m; line = refl; fit = e }
-fitting when (is (S p n m)) e = absurd (let q : _≡_ {A = ℕ} 0 1 = cc in omega arith)
-fitting when (is (F p j v k n)) e = absurd (let q : _≡_ {A = ℕ} 0 1 = cc in omega arith)
-fitting when (is (L p j n m)) e = absurd (let q : _≡_ {A = ℕ} 0 1 = cc in omega arith)
-fitting when (is (X p j)) e = absurd (let q : _≡_ {A = ℕ} 0 1 = cc in omega arith)
-fitting when (is (N p j)) e = absurd (let q : _≡_ {A = ℕ} 0 1 = cc in omega arith)
-fitting when (is (R p)) e = absurd (let q : _≡_ {A = ℕ} 0 1 = cc in omega arith)
-fitting when (not n) e = absurd (let q : _≡_ {A = ℕ} 0 1 = cc in omega arith)
+fitting when (is (S p n m)) e = never (cc)
+fitting when (is (F p j v k n)) e = never (cc)
+fitting when (is (L p j n m)) e = never (cc)
+fitting when (is (X p j)) e = never (cc)
+fitting when (is (N p j)) e = never (cc)
+fitting when (is (R p)) e = never (cc)
+fitting when (not n) e = never (cc)
 
 -- the condition and the places make the answer
 exit-by : (left v : ℕ) (text : List ℕ) (c d : def.Cursor) (o : Option Expr) (r : ExitIf) → exitCondition left v text r ≡ o → exitPlaces text c d r → r ≡ exitBy text c d o

@@ -74,18 +74,6 @@ pub fn skip_expr(text: &[u8], variables: u16, left: usize, c: Cursor) -> Cursor
     }
 }
 
-// Where the statement at a place ends.
-pub fn skip_stmt(text: &[u8], variables: u16, left: usize, c: Cursor) -> Cursor
-    requires { ⌜ Near (now text) (c .at) (c .row) ⌝ }
-    ensures { λ r. ⌜ Skipped (now (text .entry)) (stmtAt left variables (now (text .entry)) (cursorOf c) .1) r ⌝ }
-{
-    let w = program::walk_stmt(text, variables, false, left, walk_from(c));
-    Cursor {
-        at: w.at,
-        row: w.row,
-    }
-}
-
 // Where a block of n statements ends.
 pub fn skip_block(text: &[u8], variables: u16, left: usize, n: usize, c: Cursor) -> Cursor
     requires { ⌜ Near (now text) (c .at) (c .row) ⌝ }

@@ -1,4 +1,4 @@
--- A line's nine numbers, read field by field.
+-- A line's numbers, read field by field.
 use mathlib.Core.Path.{_≡_, refl, ap, sym, _∙_}
 use mathlib.Core.Bool.{Bool, true, false}
 use mathlib.Core.Option.{some, none}
@@ -14,18 +14,22 @@ use lib.Seq.{drop-cons, take-suc-set, take-all, append-snoc}
 use Rattle.definition.specs.Limits.{maxField, passCount}
 use Rattle.definition.specs.Field as def
 use Rattle.definition.specs.Field.{firstLine, Field, upTo, field, malformed, outside, is, Numbers, wrong, far, are, andThese, numbers}
-use Rattle.definition.specs.Rules.{Rule, ruleFields, ruleFrom, goodOnly, goodRule, ruleOf, readRule}
+use Rattle.definition.specs.Rules.{Rule, nameable, lastTest, lastAction, ruleFields, ruleFrom, goodOnly, goodRule, ruleOf, readRule}
 use Rattle.field.specs.View.{lineEnd, lineFields}
 use Rattle.field.proofs.Numbers.{up-to-bound, below-up-to}
 use Rattle.field.proofs.Fields.{Whole}
 use Rattle.rules.specs.declared.Line.{Line}
-use Rattle.rules.specs.View.{lineNumbers, Numbered, Bounded, rowOf, lineOf, lineAt}
+use Rattle.rules.specs.View.{rowSize, firstAt, secondAt, testAt, oneAt, twoAt, lineNumbers, Numbered, Bounded, rowOf, lineOf, lineAt}
+
+-- the largest role that a rule may name
+abbrev lastRole : ℕ
+lastRole = nameable - 1
 
 -- the largest number of each field
 abbrev pub maxima : List ℕ
-maxima = passCount ∷ 22 ∷ 22 ∷ 3 ∷ maxField ∷ 2 ∷ maxField ∷ 2 ∷ maxField ∷ []
+maxima = passCount ∷ lastRole ∷ lastRole ∷ lastTest ∷ maxField ∷ lastAction ∷ maxField ∷ lastAction ∷ maxField ∷ []
 
--- `below 23` is `upTo 22`
+-- `below nameable` is `upTo lastRole`
 numbers-same : (f g : Field) (fs gs : List Field) → ((bs : List ℕ) → field f bs ≡ field g bs) → ((xs : List (List ℕ)) → numbers fs xs ≡ numbers gs xs)
     → (xs : List (List ℕ)) → numbers (f ∷ fs) xs ≡ numbers (g ∷ gs) xs
 unfolding numbers
@@ -34,7 +38,7 @@ numbers-same f g fs gs a b (x ∷ xs) = rw (a x, b xs)
 
 fields-are : (xs : List (List ℕ)) → numbers ruleFields xs ≡ numbers (map upTo maxima) xs
 unfolding ruleFields
-fields-are = numbers-same _ _ _ _ (λ bs. refl) (numbers-same _ _ _ _ (below-up-to 22) (numbers-same _ _ _ _ (below-up-to 22) (λ xs. refl)))
+fields-are = numbers-same _ _ _ _ (λ bs. refl) (numbers-same _ _ _ _ (below-up-to lastRole) (numbers-same _ _ _ _ (below-up-to lastRole) (λ xs. refl)))
 
 -- numbers with those of earlier fields before them
 unfoldable pub prepend : List ℕ → Numbers → Numbers
@@ -78,14 +82,14 @@ prepend-bad p (is n) x b = absurd b
 
 -- of the fields of a line, k are read into ns
 pub record Reading (fs : List (List ℕ)) (ns : List ℕ) (k : ℕ) : Type 0 where
-  pub long : length ns ≡ 9
+  pub long : length ns ≡ rowSize
   pub more : numbers ruleFields fs ≡ prepend (take k ns) (numbers (map upTo (drop k maxima)) (drop k fs))
 
-pub reading-starts : (fs : List (List ℕ)) (ns : List ℕ) → length ns ≡ 9 → Reading fs ns 0
+pub reading-starts : (fs : List (List ℕ)) (ns : List ℕ) → length ns ≡ rowSize → Reading fs ns 0
 reading-starts fs ns h = record { long = h; more = fields-are fs ∙ sym (prepend-nil _) }
 
 module _ {fs : List (List ℕ)} {ns : List ℕ} {k : ℕ} (now : Reading fs ns k) where
-  module _ (left : k < 9) (inside : k < length fs) {x : def.Read} (reads : x ≡ field (upTo (getD maxima k 0)) (getD fs k [])) where
+  module _ (left : k < rowSize) (inside : k < length fs) {x : def.Read} (reads : x ≡ field (upTo (getD maxima k 0)) (getD fs k [])) where
     -- the next field and those after it
     one-more : numbers ruleFields fs ≡ prepend (take k ns) (andThese x (numbers (map upTo (drop (suc k) maxima)) (drop (suc k) fs)))
     unfolding numbers
@@ -102,11 +106,11 @@ module _ {fs : List (List ℕ)} {ns : List ℕ} {k : ℕ} (now : Reading fs ns k
     pub reading-bad : Bad x → ruleFrom (numbers ruleFields fs) ≡ none
     reading-bad b = rw one-more (prepend-bad _ _ _ b)
 
-  pub reading-done : k ≡ 9 → length fs ≡ 9 → numbers ruleFields fs ≡ are ns
+  pub reading-done : k ≡ rowSize → length fs ≡ rowSize → numbers ruleFields fs ≡ are ns
   unfolding numbers prepend
   reading-done e h =
-      let none-left : drop 9 fs ≡ [] = drop-of-length-le fs {i = 9} (omega arith) in
-      now .more ∙ rw (e, take-all 9 ns (omega (arith, now .long)), none-left) (ap are (append-nil ns))
+      let none-left : drop rowSize fs ≡ [] = drop-of-length-le fs {i = rowSize} (omega arith) in
+      now .more ∙ rw (e, take-all rowSize ns (omega (arith, now .long)), none-left) (ap are (append-nil ns))
 
 -- ---- the line that starts at a place
 
@@ -155,7 +159,7 @@ module _ (text : List ℕ) (at : ℕ) where
   pub fields-bad : ruleFrom (numbers ruleFields (lineFields text at)) ≡ none → ruleFrom (lineNumbers text at) ≡ none
   fields-bad e = by-end (λ h. ap ruleFrom (whole-numbers h) ∙ e) unended-rule
 
-  pub not-whole : (Whole text at 9 → ⊥) → ruleFrom (lineNumbers text at) ≡ none
+  pub not-whole : (Whole text at rowSize → ⊥) → ruleFrom (lineNumbers text at) ≡ none
   unfolding ruleFrom ruleFields
   not-whole n =
       by-end
@@ -171,7 +175,7 @@ module _ (text : List ℕ) (at : ℕ) where
   unfolding lineOf Numbered
   bad-numbered e h = rw e h
 
-  pub good-numbered : {ns : List ℕ} {next : ℕ} → Whole text at 9 → numbers ruleFields (lineFields text at) ≡ are ns → next ≡ lineEnd text at + 1 → Numbered text at true ns next
+  pub good-numbered : {ns : List ℕ} {next : ℕ} → Whole text at rowSize → numbers ruleFields (lineFields text at) ≡ are ns → next ≡ lineEnd text at + 1 → Numbered text at true ns next
   unfolding Numbered
   good-numbered w e n = (whole-numbers (w .ended) ∙ e, n)
 
@@ -201,7 +205,7 @@ number-bound (m ∷ ms) (x ∷ xs) ns e k = let (n, qs, a, b, s) = and-are (fiel
 pub bounded : (xs : List (List ℕ)) {ns : List ℕ} → numbers ruleFields xs ≡ are ns → Bounded ns
 bounded xs {ns} e =
     let b = number-bound maxima xs ns (sym (fields-are xs) ∙ e) in
-    record { first = omega (arith, b 1); second = omega (arith, b 2); test = omega (arith, b 3); one = omega (arith, b 5); two = omega (arith, b 7) }
+    record { first = omega (arith, b firstAt); second = omega (arith, b secondAt); test = omega (arith, b testAt); one = omega (arith, b oneAt); two = omega (arith, b twoAt) }
 
 maxima-small : (k : ℕ) → getD maxima k 0 ≤ maxField
 maxima-small zero = lit≤ tt

@@ -4,7 +4,7 @@ use mathlib.Core.Bool.{Bool, true, false, _&&_}
 use mathlib.Core.Option.{some, none}
 use mathlib.Core.List.{List, [], _∷_, map}
 use Prim.Native.Nat.{ℕ, zero, suc, _+_, _-_, _*_, _≤_, _<_, min}
-use native.Mathlib.Nat.{add-zero, min-eq-left}
+use native.Mathlib.Nat.{min-eq-left}
 use native.Mathlib.Numerals.{add-one}
 use native.Mathlib.Omega.{arith}
 use borrow.Author.Tests.{eq-eqb, ne-eqb, lt-ltb, le-ltb}
@@ -12,12 +12,12 @@ use lib.Dec.{eqb}
 use lib.ListN.{getD, take, drop}
 use lib.Seq.{drop-drop, getD-take, getD-drop}
 use Rattle.definition.specs.Rules as def
-use Rattle.definition.specs.Rules.{keep, ruleOf, roleNumbered, testNumbered, actionNumbered, passes, fits, matches}
+use Rattle.definition.specs.Rules.{keep, ruleOf, roleNumbered, testNumbered, actionNumbered, testHolds, fits, matches}
 use Rattle.rules.specs.declared.Action.{Action}
 use Rattle.rules.specs.declared.Instruction.{Instruction}
 use Rattle.rules.specs.declared.Found.{Found}
 use Rattle.rules.specs.declared.Found.the-variants.{At, Nothing}
-use Rattle.rules.specs.View.{rowSize, actionView, instructionView, rulesIn, rowAt, ruleAt, rowCount, rowFits, foundFrom, foundIn, actionsIn, IsRules, RowAt, Inside, pairAt, Finds}
+use Rattle.rules.specs.View.{rowSize, passAt, firstAt, secondAt, testAt, numberAt, oneAt, oneOperandAt, twoAt, twoOperandAt, actionView, instructionView, rulesIn, rowAt, ruleAt, rowCount, rowFits, foundFrom, foundIn, actionsIn, IsRules, RowAt, Inside, pairAt, Finds}
 use Rattle.rules.proofs.Rows.{number-back, has-number}
 use Rattle.rules.proofs.Table.{rules-long, row-at}
 
@@ -30,9 +30,9 @@ module _ (table : List ℕ) (at pass : ℕ) (a b : Instruction) where
   Cell k = getD table (at * rowSize + k) 0
 
   cells : rowFits pass (rowAt table at) a b
-      ≡ eqb (Cell 0) pass && (eqb (Cell 1) (a .role) && (eqb (Cell 2) (b .role) && passes (testNumbered (Cell 3) (Cell 4)) (a .operand) (b .operand)))
+      ≡ eqb (Cell passAt) pass && (eqb (Cell firstAt) (a .role) && (eqb (Cell secondAt) (b .role) && testHolds (testNumbered (Cell testAt) (Cell numberAt)) (a .operand) (b .operand)))
   unfolding rowFits
-  cells = rw (cell table at 0 (omega arith), cell table at 1 (omega arith), cell table at 2 (omega arith), cell table at 3 (omega arith), cell table at 4 (omega arith))
+  cells = rw (cell table at passAt (omega arith), cell table at firstAt (omega arith), cell table at secondAt (omega arith), cell table at testAt (omega arith), cell table at numberAt (omega arith))
 
   -- a row fits by its numbers where its rule does
   fits-row : RowAt table at → fits pass (ruleAt table at) (instructionView a) (instructionView b) ≡ rowFits pass (rowAt table at) a b
@@ -40,33 +40,33 @@ module _ (table : List ℕ) (at pass : ℕ) (a b : Instruction) where
   fits-row row =
       rw (
         cells,
-        has-number (roleNumbered (getD (rowAt table at) 1 0)) (a .role),
-        has-number (roleNumbered (getD (rowAt table at) 2 0)) (b .role),
-        cell table at 0 (omega arith),
-        cell table at 1 (omega arith),
-        cell table at 2 (omega arith),
-        cell table at 3 (omega arith),
-        cell table at 4 (omega arith),
-        number-back (Cell 1) (row .first),
-        number-back (Cell 2) (row .second),
+        has-number (roleNumbered (getD (rowAt table at) firstAt 0)) (a .role),
+        has-number (roleNumbered (getD (rowAt table at) secondAt 0)) (b .role),
+        cell table at passAt (omega arith),
+        cell table at firstAt (omega arith),
+        cell table at secondAt (omega arith),
+        cell table at testAt (omega arith),
+        cell table at numberAt (omega arith),
+        number-back (Cell firstAt) (row .first),
+        number-back (Cell secondAt) (row .second),
       )
 
-  pub other-pass : (getD table (at * rowSize) 0 ≡ pass → ⊥) → false ≡ rowFits pass (rowAt table at) a b
-  other-pass h = rw (cells, ne-eqb (Cell 0) pass (λ e. h (rw (add-zero (at * rowSize)) at e)))
+  pub other-pass : (Cell passAt ≡ pass → ⊥) → false ≡ rowFits pass (rowAt table at) a b
+  other-pass h = rw (cells, ne-eqb (Cell passAt) pass h)
 
-  module _ (p : getD table (at * rowSize) 0 ≡ pass) where
-    same-pass : eqb (Cell 0) pass ≡ true
-    same-pass = eq-eqb (Cell 0) pass (rw (add-zero (at * rowSize)) p)
+  module _ (p : Cell passAt ≡ pass) where
+    same-pass : eqb (Cell passAt) pass ≡ true
+    same-pass = eq-eqb (Cell passAt) pass p
 
-    pub other-first : (Cell 1 ≡ a .role → ⊥) → false ≡ rowFits pass (rowAt table at) a b
-    other-first h = rw (cells, same-pass, ne-eqb (Cell 1) (a .role) h)
+    pub other-first : (Cell firstAt ≡ a .role → ⊥) → false ≡ rowFits pass (rowAt table at) a b
+    other-first h = rw (cells, same-pass, ne-eqb (Cell firstAt) (a .role) h)
 
-    pub other-second : Cell 1 ≡ a .role → (Cell 2 ≡ b .role → ⊥) → false ≡ rowFits pass (rowAt table at) a b
-    other-second q h = rw (cells, same-pass, eq-eqb (Cell 1) (a .role) q, ne-eqb (Cell 2) (b .role) h)
+    pub other-second : Cell firstAt ≡ a .role → (Cell secondAt ≡ b .role → ⊥) → false ≡ rowFits pass (rowAt table at) a b
+    other-second q h = rw (cells, same-pass, eq-eqb (Cell firstAt) (a .role) q, ne-eqb (Cell secondAt) (b .role) h)
 
-    pub same-roles : Cell 1 ≡ a .role → Cell 2 ≡ b .role → {x : Bool} → x ≡ passes (testNumbered (Cell 3) (Cell 4)) (a .operand) (b .operand)
+    pub same-roles : Cell firstAt ≡ a .role → Cell secondAt ≡ b .role → {x : Bool} → x ≡ testHolds (testNumbered (Cell testAt) (Cell numberAt)) (a .operand) (b .operand)
         → x ≡ rowFits pass (rowAt table at) a b
-    same-roles q r e = rw (cells, same-pass, eq-eqb (Cell 1) (a .role) q, eq-eqb (Cell 2) (b .role) r) e
+    same-roles q r e = rw (cells, same-pass, eq-eqb (Cell firstAt) (a .role) q, eq-eqb (Cell secondAt) (b .role) r) e
 
 -- the pair of actions of a row
 module _ (table : List ℕ) (at : ℕ) where
@@ -80,11 +80,11 @@ module _ (table : List ℕ) (at : ℕ) where
 
 pub pair-is : (table : List ℕ) (at : ℕ) (x y : Action)
     → at < rowCount table
-    → actionView x ≡ actionNumbered (getD table (at * rowSize + 5) 0) (getD table (at * rowSize + 6) 0)
-    → actionView y ≡ actionNumbered (getD table (at * rowSize + 7) 0) (getD table (at * rowSize + 8) 0)
+    → actionView x ≡ actionNumbered (getD table (at * rowSize + oneAt) 0) (getD table (at * rowSize + oneOperandAt) 0)
+    → actionView y ≡ actionNumbered (getD table (at * rowSize + twoAt) 0) (getD table (at * rowSize + twoOperandAt) 0)
     → map actionView (x ∷ y ∷ []) ≡ actionsIn table at
 unfolding ruleAt ruleOf
-pair-is table at x y h e f = rw (actions-whole table at h, cell table at 5 (omega arith), cell table at 6 (omega arith), cell table at 7 (omega arith), cell table at 8 (omega arith), e, f)
+pair-is table at x y h e f = rw (actions-whole table at h, cell table at oneAt (omega arith), cell table at oneOperandAt (omega arith), cell table at twoAt (omega arith), cell table at twoOperandAt (omega arith), e, f)
 
 -- ---- all rows
 

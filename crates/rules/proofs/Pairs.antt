@@ -87,7 +87,7 @@ lines-from (l ∷ []) n h e = last-from n (isEmpty l) h e
 lines-from (l ∷ m ∷ ls) n h e =
     line-from n (leb n maxRules) (readRule l) (rulesFrom (n + 1) (m ∷ ls)) refl (λ r f. rule-accepted l f) (λ qs k f. lines-from (m ∷ ls) (n + 1) (omega (arith, k)) f) e
 
--- a file's rules are accepted, 64 at most
+-- a file's rules are accepted, maxRules at most
 module _ (text : List ℕ) {rs : List Rule} (e : readRules text ≡ ok rs) where
   all-from : From 1 rs
   unfolding readRules

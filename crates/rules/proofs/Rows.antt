@@ -11,9 +11,9 @@ use lib.Dec.{leb, eqb}
 use lib.ListN.{length, getD, getElem?}
 use Rattle.definition.specs.Opcode.{Role, ret, number, roles}
 use Rattle.definition.specs.Rules as def
-use Rattle.definition.specs.Rules.{Rule, Test, always, operandsEqual, firstIs, secondIs, keep, remove, rewriteOperand, roleNumbered, testNumbered, actionNumbered, nameable, ruleOf, hasRole}
+use Rattle.definition.specs.Rules.{Rule, Test, always, operandsEqual, firstIs, secondIs, keep, remove, rewriteOperand, roleNumbered, testNumbered, actionNumbered, nameable, lastTest, lastAction, ruleOf, hasRole}
 use Rattle.opcode.proofs.Sheets.{role-number, number-below}
-use Rattle.rules.specs.View.{used, testTag, testNumber, actionTag, actionOperand, rowOf, Bounded}
+use Rattle.rules.specs.View.{passAt, firstAt, secondAt, testAt, numberAt, oneAt, oneOperandAt, twoAt, twoOperandAt, firstIsTag, rewriteTag, used, testTag, testNumber, actionTag, actionOperand, rowOf, Bounded}
 
 -- ---- roles
 
@@ -81,7 +81,7 @@ has-number r n =
 
 -- ---- tests and actions
 
-pub test-tag : (t n : ℕ) → t < 4 → testTag (testNumbered t n) ≡ t
+pub test-tag : (t n : ℕ) → t ≤ lastTest → testTag (testNumbered t n) ≡ t
 unfolding testTag testNumbered
 test-tag zero n h = refl
 test-tag (suc zero) n h = refl
@@ -89,7 +89,7 @@ test-tag (suc (suc zero)) n h = refl
 test-tag (suc (suc (suc zero))) n h = refl
 test-tag (suc (suc (suc (suc t)))) n h = absurd (omega arith)
 
-pub test-number : (t n : ℕ) → t < 4 → testNumber (testNumbered t n) ≡ used (leb 2 t) n
+pub test-number : (t n : ℕ) → t ≤ lastTest → testNumber (testNumbered t n) ≡ used (leb firstIsTag t) n
 unfolding testNumber testNumbered used
 test-number zero n h = refl
 test-number (suc zero) n h = refl
@@ -97,14 +97,14 @@ test-number (suc (suc zero)) n h = refl
 test-number (suc (suc (suc zero))) n h = refl
 test-number (suc (suc (suc (suc t)))) n h = absurd (omega arith)
 
-pub action-tag : (t n : ℕ) → t < 3 → actionTag (actionNumbered t n) ≡ t
+pub action-tag : (t n : ℕ) → t ≤ lastAction → actionTag (actionNumbered t n) ≡ t
 unfolding actionTag actionNumbered
 action-tag zero n h = refl
 action-tag (suc zero) n h = refl
 action-tag (suc (suc zero)) n h = refl
 action-tag (suc (suc (suc t))) n h = absurd (omega arith)
 
-pub action-operand : (t n : ℕ) → t < 3 → actionOperand (actionNumbered t n) ≡ used (eqb t 2) n
+pub action-operand : (t n : ℕ) → t ≤ lastAction → actionOperand (actionNumbered t n) ≡ used (eqb t rewriteTag) n
 unfolding actionOperand actionNumbered used
 action-operand zero n h = refl
 action-operand (suc zero) n h = refl
@@ -131,18 +131,18 @@ unfolding ruleOf rowOf
 rule-back r = rw (role-number (r .first), role-number (r .second), test-back (r .test), action-back (r .one), action-back (r .two))
 
 -- the row of a line's numbers
-pub row-is : (ns : List ℕ) → Bounded ns → {n a b : ℕ} → n ≡ used (leb 2 (getD ns 3 0)) (getD ns 4 0) → a ≡ used (eqb (getD ns 5 0) 2) (getD ns 6 0) → b ≡ used (eqb (getD ns 7 0) 2) (getD ns 8 0)
-    → getD ns 0 0 ∷ getD ns 1 0 ∷ getD ns 2 0 ∷ getD ns 3 0 ∷ n ∷ getD ns 5 0 ∷ a ∷ getD ns 7 0 ∷ b ∷ [] ≡ rowOf (ruleOf ns)
+pub row-is : (ns : List ℕ) → Bounded ns → {n a b : ℕ} → n ≡ used (leb firstIsTag (getD ns testAt 0)) (getD ns numberAt 0) → a ≡ used (eqb (getD ns oneAt 0) rewriteTag) (getD ns oneOperandAt 0) → b ≡ used (eqb (getD ns twoAt 0) rewriteTag) (getD ns twoOperandAt 0)
+    → getD ns passAt 0 ∷ getD ns firstAt 0 ∷ getD ns secondAt 0 ∷ getD ns testAt 0 ∷ n ∷ getD ns oneAt 0 ∷ a ∷ getD ns twoAt 0 ∷ b ∷ [] ≡ rowOf (ruleOf ns)
 unfolding rowOf ruleOf
 row-is ns f x y z = rw (
-  number-back (getD ns 1 0) (small (f .first)),
-  number-back (getD ns 2 0) (small (f .second)),
-  test-tag (getD ns 3 0) (getD ns 4 0) (f .test),
-  test-number (getD ns 3 0) (getD ns 4 0) (f .test),
-  action-tag (getD ns 5 0) (getD ns 6 0) (f .one),
-  action-operand (getD ns 5 0) (getD ns 6 0) (f .one),
-  action-tag (getD ns 7 0) (getD ns 8 0) (f .two),
-  action-operand (getD ns 7 0) (getD ns 8 0) (f .two),
+  number-back (getD ns firstAt 0) (small (f .first)),
+  number-back (getD ns secondAt 0) (small (f .second)),
+  test-tag (getD ns testAt 0) (getD ns numberAt 0) (f .test),
+  test-number (getD ns testAt 0) (getD ns numberAt 0) (f .test),
+  action-tag (getD ns oneAt 0) (getD ns oneOperandAt 0) (f .one),
+  action-operand (getD ns oneAt 0) (getD ns oneOperandAt 0) (f .one),
+  action-tag (getD ns twoAt 0) (getD ns twoOperandAt 0) (f .two),
+  action-operand (getD ns twoAt 0) (getD ns twoOperandAt 0) (f .two),
   x,
   y,
   z,

@@ -4,53 +4,21 @@ use mathlib.Core.List.{List, [], _∷_, _++_, append-assoc, append-nil}
 use Prim.Native.Nat.{ℕ, zero, suc, _+_, _-_, _*_, _≤_, _<_}
 use native.Mathlib.Numerals.{add-one}
 use native.Mathlib.Omega.{arith}
-use borrow.Author.Fill.{fill-more}
-use lib.ListN.{length, getD, take, drop, set, replicate, length-append, length-set}
-use lib.Seq.{take-at, drop-append-add, drop-length, drop-drop, getD-drop, paste, paste-zero, paste-suc}
+use lib.ListN.{length, getD, take, drop, set, length-append, length-set}
+use lib.Seq.{take-at, drop-append-add, drop-drop, getD-drop, paste, paste-zero, paste-suc}
 use Rattle.definition.specs.Limits.{maxRules}
 use Rattle.definition.specs.Lent.{zeros, filled}
 use Rattle.definition.specs.Opcode.{number}
 use Rattle.definition.specs.Rules.{Rule}
-use Rattle.rules.specs.View.{rowSize, tableSize, rowOf, rowsOf, tableOf, rulesIn, Each, IsRules, RowAt}
+use Rattle.rules.specs.View.{rowSize, firstAt, secondAt, tableSize, rowOf, rowsOf, tableOf, rulesIn, Each, IsRules, RowAt}
+use Rattle.store.proofs.Fills.{length-zeros}
 use Rattle.rules.proofs.Rows.{rule-back, number-small}
-
--- ---- clearing
-
-zeros-are : (n : ℕ) → zeros n ≡ replicate n 0
-unfolding zeros
-zeros-are zero = refl
-zeros-are (suc n) = ap (λ (l : List ℕ). 0 ∷ l) (zeros-are n)
-
-zeros-long : (n : ℕ) → length (zeros n) ≡ n
-unfolding zeros
-zeros-long zero = refl
-zeros-long (suc n) = ap suc (zeros-long n)
 
 drop-zeros : (k n : ℕ) → drop k (zeros n) ≡ zeros (n - k)
 unfolding zeros
 drop-zeros zero n = ap zeros (let e : n ≡ n - 0 = omega arith in e)
 drop-zeros (suc k) zero = ap zeros (let e : 0 ≡ 0 - suc k = omega arith in e)
 drop-zeros (suc k) (suc n) = drop-zeros k n ∙ ap zeros (let e : n - k ≡ suc n - suc k = omega arith in e)
-
-pub record Clearing (d table : List ℕ) (i : ℕ) : Type 0 where
-  pub near : i ≤ length d
-  pub long : length table ≡ length d
-  pub is : table ≡ zeros i ++ drop i d
-
-pub clears-start : (d : List ℕ) → Clearing d d 0
-unfolding zeros
-clears-start d = record { near = omega arith; long = refl; is = refl }
-
-module _ {d table : List ℕ} {i : ℕ} (c : Clearing d table i) where
-  pub clears-next : i < length table → Clearing d (set table i 0) (i + 1)
-  clears-next h =
-      let h′ : i < length d = omega (arith, c .long) in
-      record { near = omega arith; long = length-set table i 0 ∙ c .long; is = rw (c .is, zeros-are i, zeros-are (i + 1)) (fill-more i 0 d h′) }
-
-  pub cleared : length table ≤ i → table ≡ zeros (length d)
-  cleared h =
-      let e : i ≡ length d = omega (arith, c .long, c .near) in
-      c .is ∙ rw (e, drop-length d) (append-nil (zeros (length d)))
 
 -- ---- storing a row
 
@@ -87,7 +55,7 @@ rows-more (q ∷ rs) r = ap (λ (l : List ℕ). rowOf q ++ l) (rows-more rs r) �
 
 pub table-long : (rs : List Rule) → length rs ≤ maxRules → length (tableOf rs) ≡ tableSize
 unfolding tableOf filled
-table-long rs h = length-append (rowsOf rs) (zeros (tableSize - length (rowsOf rs))) ∙ omega (arith, rows-long rs, zeros-long (tableSize - length (rowsOf rs)))
+table-long rs h = length-append (rowsOf rs) (zeros (tableSize - length (rowsOf rs))) ∙ omega (arith, rows-long rs, length-zeros (tableSize - length (rowsOf rs)))
 
 pub table-none : tableOf [] ≡ zeros tableSize
 unfolding tableOf filled rowsOf
@@ -148,11 +116,11 @@ table-row : (rs : List Rule) (i : ℕ) → i < length rs → (r : Rule) × (y : 
 unfolding tableOf filled
 table-row rs i h = row-there rs (zeros (tableSize - length (rowsOf rs))) i h
 
-first-is : (r : Rule) (y : List ℕ) → getD (rowOf r ++ y) 1 0 ≡ number (r .first)
+first-is : (r : Rule) (y : List ℕ) → getD (rowOf r ++ y) firstAt 0 ≡ number (r .first)
 unfolding rowOf
 first-is r y = refl
 
-second-is : (r : Rule) (y : List ℕ) → getD (rowOf r ++ y) 2 0 ≡ number (r .second)
+second-is : (r : Rule) (y : List ℕ) → getD (rowOf r ++ y) secondAt 0 ≡ number (r .second)
 unfolding rowOf
 second-is r y = refl
 
@@ -164,11 +132,11 @@ row-at {table} {count} {i} t h =
     let rs = rulesIn table count in
     let many : length rs ≡ count = rules-many table count in
     let (r, y, e) = table-row rs i (omega arith) in
-    let at-1 : getD table (i * rowSize + 1) 0 ≡ number (r .first) = sym (getD-drop (i * rowSize) table 1 0) ∙ ap (λ (l : List ℕ). getD l 1 0) (ap (drop (i * rowSize)) (t .is) ∙ e) ∙ first-is r y in
-    let at-2 : getD table (i * rowSize + 2) 0 ≡ number (r .second) = sym (getD-drop (i * rowSize) table 2 0) ∙ ap (λ (l : List ℕ). getD l 2 0) (ap (drop (i * rowSize)) (t .is) ∙ e) ∙ second-is r y in
+    let one : getD table (i * rowSize + firstAt) 0 ≡ number (r .first) = sym (getD-drop (i * rowSize) table firstAt 0) ∙ ap (λ (l : List ℕ). getD l firstAt 0) (ap (drop (i * rowSize)) (t .is) ∙ e) ∙ first-is r y in
+    let two : getD table (i * rowSize + secondAt) 0 ≡ number (r .second) = sym (getD-drop (i * rowSize) table secondAt 0) ∙ ap (λ (l : List ℕ). getD l secondAt 0) (ap (drop (i * rowSize)) (t .is) ∙ e) ∙ second-is r y in
     record {
       there = omega (arith, t .few);
       long = rules-long t;
-      first = rw at-1 (number-small (r .first));
-      second = rw at-2 (number-small (r .second));
+      first = rw one (number-small (r .first));
+      second = rw two (number-small (r .second));
     }

@@ -1,10 +1,10 @@
--- Rules in a lent table: nine numbers each, in the order of a rule line, with 0 for a number or an operand that no test or action reads.
+-- Rules in a lent table: a row of numbers each, in the order of a rule line, with 0 for a number or an operand that no test or action reads.
 use mathlib.Core.Path.{_≡_}
 use mathlib.Core.Bool.{Bool, true, false, _&&_}
 use mathlib.Core.Option.{Option, some, none}
 use mathlib.Core.List.{List, [], _∷_, _++_}
 use Prim.Native.Nat.{ℕ, zero, suc, _+_, _*_, _/_, _≤_, _<_, min}
-use lib.Dec.{eqb, ltb}
+use lib.Dec.{eqb, leb, ltb}
 use lib.ListN.{length, getD, take, drop, getElem?}
 use Rattle.definition.specs.Limits.{maxRules, outputShort}
 use Rattle.definition.specs.Res.{Res, ok, refuse, _>>_, demand}
@@ -12,7 +12,7 @@ use Rattle.definition.specs.Field.{Numbers, wrong, are, numbers}
 use Rattle.definition.specs.Opcode.{number, roles}
 use Rattle.definition.specs.Lent.{zeros, filled}
 use Rattle.definition.specs.Rules as def
-use Rattle.definition.specs.Rules.{Rule, Test, always, operandsEqual, firstIs, secondIs, keep, remove, rewriteOperand, nameable, goodRule, readRules, ruleFields, ruleOf, ruleFrom, testNumbered}
+use Rattle.definition.specs.Rules.{Rule, Test, always, operandsEqual, firstIs, secondIs, keep, remove, rewriteOperand, nameable, lastTest, lastAction, goodRule, readRules, ruleFields, ruleOf, ruleFrom, testNumbered}
 use Rattle.field.specs.View.{lineEnd, lineFields}
 use Rattle.rules.specs.declared.Action.{Action}
 use Rattle.rules.specs.declared.Action.the-variants.{Keep, Remove, RewriteOperand}
@@ -34,17 +34,67 @@ instructionView i = record { role = getElem? roles (i .role); operand = i .opera
 
 -- ---- a rule's row
 
+-- its numbers by place, as in a rule line
+abbrev pub passAt : ℕ
+passAt = 0
+
+abbrev pub firstAt : ℕ
+firstAt = 1
+
+abbrev pub secondAt : ℕ
+secondAt = 2
+
+abbrev pub testAt : ℕ
+testAt = 3
+
+abbrev pub numberAt : ℕ
+numberAt = 4
+
+abbrev pub oneAt : ℕ
+oneAt = 5
+
+abbrev pub oneOperandAt : ℕ
+oneOperandAt = 6
+
+abbrev pub twoAt : ℕ
+twoAt = 7
+
+abbrev pub twoOperandAt : ℕ
+twoOperandAt = 8
+
 abbrev pub rowSize : ℕ
 rowSize = 9
 
 abbrev pub tableSize : ℕ
 tableSize = maxRules * rowSize
 
+-- tests and actions by number
+abbrev pub alwaysTag : ℕ
+alwaysTag = 0
+
+abbrev pub operandsEqualTag : ℕ
+operandsEqualTag = 1
+
+abbrev pub firstIsTag : ℕ
+firstIsTag = 2
+
+abbrev pub secondIsTag : ℕ
+secondIsTag = 3
+
+abbrev pub keepTag : ℕ
+keepTag = 0
+
+abbrev pub removeTag : ℕ
+removeTag = 1
+
+abbrev pub rewriteTag : ℕ
+rewriteTag = 2
+
 unfoldable pub testTag : Test → ℕ
-testTag always = 0
-testTag operandsEqual = 1
-testTag (firstIs n) = 2
-testTag (secondIs n) = 3
+testTag always = alwaysTag
+testTag operandsEqual = operandsEqualTag
+testTag (firstIs n) = firstIsTag
+testTag (secondIs n) = secondIsTag
 
 unfoldable pub testNumber : Test → ℕ
 testNumber always = 0
@@ -53,9 +103,9 @@ testNumber (firstIs n) = n
 testNumber (secondIs n) = n
 
 unfoldable pub actionTag : def.Action → ℕ
-actionTag keep = 0
-actionTag remove = 1
-actionTag (rewriteOperand n) = 2
+actionTag keep = keepTag
+actionTag remove = removeTag
+actionTag (rewriteOperand n) = rewriteTag
 
 unfoldable pub actionOperand : def.Action → ℕ
 actionOperand keep = 0
@@ -76,9 +126,9 @@ tableOf rs = filled tableSize (rowsOf rs)
 
 -- ---- what reading answers
 
--- reading into a table of `room` numbers: 14 for any but a whole table
+-- reading into a table of `room` numbers: 14 for a shorter one
 unfoldable pub readInto : ℕ → List ℕ → Res (List Rule)
-readInto room text = demand (eqb room tableSize) outputShort 0 >> readRules text
+readInto room text = demand (leb tableSize room) outputShort 0 >> readRules text
 
 unfoldable pub answerOf : Res (List Rule) → RuleAnswer
 answerOf (ok rs) = Rules (length rs)
@@ -106,18 +156,18 @@ lineAt text at = lineOf (lineEnd text at + 1) (ruleFrom (lineNumbers text at))
 
 -- what the fields' ranges say of a line's numbers
 pub record Bounded (ns : List ℕ) : Type 0 where
-  pub first : getD ns 1 0 < nameable
-  pub second : getD ns 2 0 < nameable
-  pub test : getD ns 3 0 < 4
-  pub one : getD ns 5 0 < 3
-  pub two : getD ns 7 0 < 3
+  pub first : getD ns firstAt 0 < nameable
+  pub second : getD ns secondAt 0 < nameable
+  pub test : getD ns testAt 0 ≤ lastTest
+  pub one : getD ns oneAt 0 ≤ lastAction
+  pub two : getD ns twoAt 0 ≤ lastAction
 
 -- a number that is read, or 0
 unfoldable pub used : Bool → ℕ → ℕ
 used true n = n
 used false n = 0
 
--- a line's nine numbers and where the next line starts, or that no rule is made of what the line holds
+-- a line's numbers and where the next line starts, or that no rule is made of what the line holds
 unfoldable pub Numbered : List ℕ → ℕ → Bool → List ℕ → ℕ → Type 0
 Numbered text at true ns next = (lineNumbers text at ≡ are ns) × (next ≡ lineEnd text at + 1)
 Numbered text at false ns next = ruleFrom (lineNumbers text at) ≡ none
@@ -155,8 +205,8 @@ pub record IsRules (table : List ℕ) (count : ℕ) : Type 0 where
 pub record RowAt (table : List ℕ) (at : ℕ) : Type 0 where
   pub there : at < maxRules
   pub long : length table ≡ tableSize
-  pub first : getD table (at * rowSize + 1) 0 < length roles
-  pub second : getD table (at * rowSize + 2) 0 < length roles
+  pub first : getD table (at * rowSize + firstAt) 0 < length roles
+  pub second : getD table (at * rowSize + secondAt) 0 < length roles
 
 -- ---- the lookup
 
@@ -166,8 +216,8 @@ rowCount table = length table / rowSize
 
 -- does a row, by its numbers, fit two instructions of a pass?
 unfoldable pub rowFits : ℕ → List ℕ → Instruction → Instruction → Bool
-rowFits pass row a b = eqb (getD row 0 0) pass && (eqb (getD row 1 0) (a .role) && (eqb (getD row 2 0) (b .role)
-    && def.passes (testNumbered (getD row 3 0) (getD row 4 0)) (a .operand) (b .operand)))
+rowFits pass row a b = eqb (getD row passAt 0) pass && (eqb (getD row firstAt 0) (a .role) && (eqb (getD row secondAt 0) (b .role)
+    && def.testHolds (testNumbered (getD row testAt 0) (getD row numberAt 0)) (a .operand) (b .operand)))
 
 -- the first of n rows that fits, where the first of them has number i
 unfoldable pub foundFrom : ℕ → Instruction → Instruction → ℕ → ℕ → List ℕ → Found

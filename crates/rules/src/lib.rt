@@ -2,18 +2,20 @@
 ghost use mathlib.Core.Path.{_≡_};
 ghost use mathlib.Core.Option.{none};
 ghost use mathlib.Core.List.{map};
-ghost use Prim.Native.Nat.{ℕ, _≤_, _+_, _*_, min};
+ghost use Prim.Native.Nat.{ℕ, _≤_, _+_, _*_};
 ghost use lib.ListN.{length};
 ghost use lib.Seq.{paste};
 ghost use Rattle.definition.specs.Res.{refuse};
-ghost use Rattle.definition.specs.Lent.{zeros};
-ghost use Rattle.definition.specs.Rules.{ruleOf, testNumbered, actionNumbered, testable, allowed, removed, cancel, hasOperand, isVariable, goodRule, passes};
+ghost use Rattle.definition.specs.Rules.{readRules, ruleOf, testNumbered, actionNumbered, testable, allowed, removed, cancel, hasOperand, isVariable, goodRule, testHolds};
 ghost use Rattle.opcode.specs.View.{roleView, effectView};
 ghost use Rattle.rules.specs.View.{actionView, rowSize, tableSize, readInto, Answered, Numbered, Bounded, used, rowOf, lineOf, lineAt, rowAt, rowFits, foundIn, actionsIn};
 use definition::BAD_RULE;
+use definition::LAST_ACTION;
+use definition::LAST_TEST;
 use definition::MAX_FIELD;
 use definition::MAX_RULES;
 use definition::MAX_VARIABLES;
+use definition::NAMEABLE;
 use definition::OUTPUT_SHORT;
 use definition::PASS_COUNT;
 use field::Read;
@@ -48,38 +50,81 @@ pub enum Found {
 // A rule line's numbers and where the next line starts, if it is good.
 struct Line {
     good: bool,
-    numbers: [u16; 9],
+    numbers: [u16; ROW_SIZE],
     next: usize,
 }
 
-// Numbers of a rule.
-const ROW: usize = 9;
+// The numbers of a rule, in its line and in its row of a table.
+const PASS: usize = 0;
+
+const FIRST: usize = 1;
+
+const SECOND: usize = 2;
+
+const TEST: usize = 3;
+
+const NUMBER: usize = 4;
+
+const ONE: usize = 5;
+
+const ONE_OPERAND: usize = 6;
+
+const TWO: usize = 7;
+
+const TWO_OPERAND: usize = 8;
+// How many they are.
+const ROW_SIZE: usize = 9;
 // Numbers of a table: a row for each rule that a file may have.
-pub const TABLE_SIZE: usize = MAX_RULES * ROW;
+pub const TABLE_SIZE: usize = MAX_RULES * ROW_SIZE;
+
+// Tests by number; any other holds always.
+const OPERANDS_EQUAL: u16 = 1;
+
+const FIRST_IS: u16 = 2;
+
+const SECOND_IS: u16 = 3;
+
+// Actions by number; any other keeps the instruction.
+const REMOVE: u16 = 1;
+
+const REWRITE: u16 = 2;
+
+// The largest role that a rule may name.
+const LAST_ROLE: u32 = NAMEABLE - 1;
 
 // The largest number of each field.
-const MAXIMA: [u32; 9] = [PASS_COUNT, 22, 22, 3, MAX_FIELD, 2, MAX_FIELD, 2, MAX_FIELD];
+const MAXIMA: [u32; ROW_SIZE] = [
+    PASS_COUNT,
+    LAST_ROLE,
+    LAST_ROLE,
+    LAST_TEST,
+    MAX_FIELD,
+    LAST_ACTION,
+    MAX_FIELD,
+    LAST_ACTION,
+    MAX_FIELD,
+];
 
 fn bad_line() -> Line
     ensures { λ r. ⌜ r ≡ lineOf 0 none ⌝ }
 {
     Line {
         good: false,
-        numbers: [0; 9],
+        numbers: [0; ROW_SIZE],
         next: 0,
     }
 }
 
-// The nine numbers of the line that starts at `at` and has its LF, by one look at each byte.
+// The numbers of the line that starts at `at` and has its LF, by one look at each byte.
 fn line_numbers(text: &[u8], at: usize) -> Line
     ensures { λ r. ⌜ Numbered (now (text .entry)) at (r .good) (r .numbers) (r .next) ⌝ }
 {
-    let mut numbers = [0u16; 9];
+    let mut numbers = [0u16; ROW_SIZE];
     let mut place = at;
     let mut k = 0;
-    while k < ROW {
+    while k < ROW_SIZE {
         let next = field::next_up_to(text, place, MAXIMA[k]);
-        if next.stop != field::separator(k, ROW - 1) {
+        if next.stop != field::separator(k, ROW_SIZE - 1) {
             return bad_line();
         }
         let read = next.read;
@@ -114,14 +159,14 @@ fn is_testable(test: u16, first: Role, second: Role) -> bool
     ensures { λ r. ⌜ ((n : ℕ) → r ≡ testable (testNumbered test n) (roleView first) (roleView second)) ⌝ }
 {
     match test {
-        1 => {
+        OPERANDS_EQUAL => {
             if !has_operand(first) {
                 return false;
             }
             has_operand(second)
         }
-        2 => has_operand(first),
-        3 => has_operand(second),
+        FIRST_IS => has_operand(first),
+        SECOND_IS => has_operand(second),
         _ => true,
     }
 }
@@ -152,7 +197,7 @@ fn is_variable(role: Role) -> bool
 fn is_allowed(action: u16, operand: u16, role: Role) -> bool
     ensures { λ r. ⌜ r ≡ allowed (actionNumbered action operand) (roleView role) ⌝ }
 {
-    if action != 2 {
+    if action != REWRITE {
         return true;
     }
     if !is_variable(role) {
@@ -165,7 +210,7 @@ fn is_allowed(action: u16, operand: u16, role: Role) -> bool
 fn removed(action: u16, role: Role) -> Effect
     ensures { λ r. ⌜ ((n : ℕ) → effectView r ≡ removed (actionNumbered action n) (roleView role)) ⌝ }
 {
-    if action != 1 {
+    if action != REMOVE {
         return Effect::Same;
     }
     let t = role.traits();
@@ -194,25 +239,25 @@ fn cancel(a: Effect, b: Effect) -> bool
     }
 }
 
-fn is_good(ns: [u16; 9]) -> bool
+fn is_good(ns: [u16; ROW_SIZE]) -> bool
     requires { ⌜ Bounded ns ⌝ }
     ensures { λ r. ⌜ r ≡ goodRule (ruleOf ns) ⌝ }
 {
-    if ns[0] < 1 {
+    if ns[PASS] < 1 {
         return false;
     }
-    let first = Role::numbered(ns[1] as u8);
-    let second = Role::numbered(ns[2] as u8);
-    if !is_testable(ns[3], first, second) {
+    let first = Role::numbered(ns[FIRST] as u8);
+    let second = Role::numbered(ns[SECOND] as u8);
+    if !is_testable(ns[TEST], first, second) {
         return false;
     }
-    if !is_allowed(ns[5], ns[6], first) {
+    if !is_allowed(ns[ONE], ns[ONE_OPERAND], first) {
         return false;
     }
-    if !is_allowed(ns[7], ns[8], second) {
+    if !is_allowed(ns[TWO], ns[TWO_OPERAND], second) {
         return false;
     }
-    cancel(removed(ns[5], first), removed(ns[7], second))
+    cancel(removed(ns[ONE], first), removed(ns[TWO], second))
 }
 
 // A number that is read, 0 for one that is not.
@@ -222,14 +267,25 @@ fn used(yes: bool, n: u16) -> u16
     if yes { n } else { 0 }
 }
 
-fn row(ns: [u16; 9]) -> [u16; 9]
+// The row of a line's numbers.
+fn table_row(ns: [u16; ROW_SIZE]) -> [u16; ROW_SIZE]
     requires { ⌜ Bounded ns ⌝ }
     ensures { λ r. ⌜ r ≡ rowOf (ruleOf ns) ⌝ }
 {
-    let number = used(ns[3] >= 2, ns[4]);
-    let one = used(ns[5] == 2, ns[6]);
-    let two = used(ns[7] == 2, ns[8]);
-    [ns[0], ns[1], ns[2], ns[3], number, ns[5], one, ns[7], two]
+    let number = used(ns[TEST] >= FIRST_IS, ns[NUMBER]);
+    let one = used(ns[ONE] == REWRITE, ns[ONE_OPERAND]);
+    let two = used(ns[TWO] == REWRITE, ns[TWO_OPERAND]);
+    [
+        ns[PASS],
+        ns[FIRST],
+        ns[SECOND],
+        ns[TEST],
+        number,
+        ns[ONE],
+        one,
+        ns[TWO],
+        two,
+    ]
 }
 
 fn read_line(text: &[u8], at: usize) -> Line
@@ -243,7 +299,7 @@ fn read_line(text: &[u8], at: usize) -> Line
     if !is_good(ns) {
         return bad_line();
     }
-    let numbers = row(ns);
+    let numbers = table_row(ns);
     Line {
         good: true,
         numbers: numbers,
@@ -253,22 +309,12 @@ fn read_line(text: &[u8], at: usize) -> Line
 
 // ---- the file
 
-fn clear(table: &mut [u16])
-    ensures { λ r. ⌜ now (table .exit) ≡ zeros (length (now (table .entry))) ⌝ }
-{
-    let mut i = 0;
-    while i < table.len() {
-        table[i] = 0;
-        i += 1;
-    }
-}
-
-fn put(table: &mut [u16], at: usize, row: [u16; 9])
+fn put(table: &mut [u16], at: usize, row: [u16; ROW_SIZE])
     requires { ⌜ at + rowSize ≤ length (now table) ⌝ }
     ensures { λ r. ⌜ now (table .exit) ≡ paste (now (table .entry)) at row rowSize ⌝ }
 {
     let mut k = 0;
-    while k < ROW {
+    while k < ROW_SIZE {
         table[at + k] = row[k];
         k += 1;
     }
@@ -279,18 +325,16 @@ fn refuse(table: &mut [u16], number: u8, place: usize) -> RuleAnswer
     requires { ⌜ place ≤ tableSize ⌝ }
     ensures { λ r. ⌜ Answered (length (now (table .entry))) (refuse number place) r (now (table .exit)) ⌝ }
 {
-    clear(table);
+    store::zero_numbers(table, 0);
     RuleAnswer::Refused(number, place as u32)
 }
 
-// The rules of a file, from any bytes, into a table of TABLE_SIZE numbers: 9, or 14 for a table of any other length.
-pub fn read_rules(text: &[u8], table: &mut [u16]) -> RuleAnswer
-    ensures { λ r. ⌜ Answered (length (now (table .entry))) (readInto (length (now (table .entry))) (now (text .entry))) r (now (table .exit)) ⌝ }
+// The rules of a file, from any bytes, into a table of TABLE_SIZE numbers.
+fn read_table(text: &[u8], table: &mut [u16]) -> RuleAnswer
+    requires { ⌜ length (now table) ≡ tableSize ⌝ }
+    ensures { λ r. ⌜ Answered tableSize (readRules (now (text .entry))) r (now (table .exit)) ⌝ }
 {
-    if table.len() != TABLE_SIZE {
-        return refuse(table, OUTPUT_SHORT, 0);
-    }
-    clear(table);
+    store::zero_numbers(table, 0);
     let mut at = 0;
     let mut count = 0;
     while at < text.len() {
@@ -302,11 +346,23 @@ pub fn read_rules(text: &[u8], table: &mut [u16]) -> RuleAnswer
             return refuse(table, BAD_RULE, count + 1);
         }
         let row = line.numbers;
-        put(table, count * ROW, row);
+        put(table, count * ROW_SIZE, row);
         count += 1;
         at = line.next;
     }
     RuleAnswer::Rules(count)
+}
+
+// The rules of a file, from any bytes, into a table of TABLE_SIZE numbers or more: 9, or 14 for a shorter one. What lies behind the table is zeroed.
+pub fn read_rules(text: &[u8], table: &mut [u16]) -> RuleAnswer
+    ensures { λ r. ⌜ Answered (length (now (table .entry))) (readInto (length (now (table .entry))) (now (text .entry))) r (now (table .exit)) ⌝ }
+{
+    if table.len() < TABLE_SIZE {
+        return refuse(table, OUTPUT_SHORT, 0);
+    }
+    let answer = read_table(text, &mut table[..TABLE_SIZE]);
+    store::zero_numbers(table, TABLE_SIZE);
+    answer
 }
 
 // ---- the lookup
@@ -315,19 +371,19 @@ fn action_of(tag: u16, operand: u16) -> Action
     ensures { λ r. ⌜ actionView r ≡ actionNumbered tag operand ⌝ }
 {
     match tag {
-        1 => Action::Remove,
-        2 => Action::RewriteOperand(operand),
+        REMOVE => Action::Remove,
+        REWRITE => Action::RewriteOperand(operand),
         _ => Action::Keep,
     }
 }
 
-fn passes(test: u16, n: u16, a: u16, b: u16) -> bool
-    ensures { λ r. ⌜ r ≡ passes (testNumbered test n) a b ⌝ }
+fn test_holds(test: u16, n: u16, a: u16, b: u16) -> bool
+    ensures { λ r. ⌜ r ≡ testHolds (testNumbered test n) a b ⌝ }
 {
     match test {
-        1 => a == b,
-        2 => a == n,
-        3 => b == n,
+        OPERANDS_EQUAL => a == b,
+        FIRST_IS => a == n,
+        SECOND_IS => b == n,
         _ => true,
     }
 }
@@ -336,23 +392,22 @@ fn fits(table: &[u16], at: usize, pass: u8, a: Instruction, b: Instruction) -> b
     requires { ⌜ at * rowSize + rowSize ≤ length (now table) ⌝ }
     ensures { λ r. ⌜ r ≡ rowFits pass (rowAt (now (table .entry)) at) a b ⌝ }
 {
-    let row = at * ROW;
-    if table[row] != pass as u16 {
+    let start = at * ROW_SIZE;
+    if table[start + PASS] != pass as u16 {
         return false;
     }
-    if table[row + 1] != a.role as u16 {
+    if table[start + FIRST] != a.role as u16 {
         return false;
     }
-    if table[row + 2] != b.role as u16 {
+    if table[start + SECOND] != b.role as u16 {
         return false;
     }
-    passes(table[row + 3], table[row + 4], a.operand, b.operand)
-}
-
-fn least(a: usize, b: usize) -> usize
-    ensures { λ r. ⌜ r ≡ min a b ⌝ }
-{
-    if a < b { a } else { b }
+    test_holds(
+        table[start + TEST],
+        table[start + NUMBER],
+        a.operand,
+        b.operand,
+    )
 }
 
 // The first rule of a pass that fits two instructions, among so many of a table of any length. Of a table that was read it is the
@@ -360,7 +415,7 @@ fn least(a: usize, b: usize) -> usize
 pub fn find(table: &[u16], count: usize, pass: u8, a: Instruction, b: Instruction) -> Found
     ensures { λ r. ⌜ r ≡ foundIn (now (table .entry)) count pass a b ⌝ }
 {
-    let rows = least(count, table.len() / ROW);
+    let rows = numbers::least(count, table.len() / ROW_SIZE);
     let mut i = 0;
     while i < rows {
         if fits(table, i, pass, a, b) {
@@ -375,11 +430,11 @@ pub fn find(table: &[u16], count: usize, pass: u8, a: Instruction, b: Instructio
 pub fn actions(table: &[u16], at: usize) -> [Action; 2]
     ensures { λ r. ⌜ map actionView r ≡ actionsIn (now (table .entry)) at ⌝ }
 {
-    if at >= table.len() / ROW {
+    if at >= table.len() / ROW_SIZE {
         return [Action::Keep, Action::Keep];
     }
-    let row = at * ROW;
-    let one = action_of(table[row + 5], table[row + 6]);
-    let two = action_of(table[row + 7], table[row + 8]);
+    let start = at * ROW_SIZE;
+    let one = action_of(table[start + ONE], table[start + ONE_OPERAND]);
+    let two = action_of(table[start + TWO], table[start + TWO_OPERAND]);
     [one, two]
 }

@@ -6,12 +6,10 @@ use mathlib.Core.Bool.{Bool, true, false, not}
 use mathlib.Core.Option.{Option, some, none}
 use native.Mathlib.Omega.{arith}
 use lib.Dec.{eqb, ltb}
-use lib.ListN.{length, getD}
+use lib.ListN.{length}
 use borrow.Author.Tests.{le-ltb}
-use Rattle.definition.specs.Field.{has}
-use Rattle.definition.specs.Opcode.{Role, dup, pop, loadVar, storeVar, loadConst, loadTrue, loadFalse, arithmetic, logic, neg, boolNot, compare, jmp, jmpIfNot, cmpBr, ret, Div, Sheet, roleOf, size, needs, effect, shift, flow, open-Opcode}
+use Rattle.definition.specs.Opcode.{Role, dup, pop, loadVar, storeVar, loadConst, loadTrue, loadFalse, arithmetic, logic, neg, boolNot, compare, jmp, jmpIfNot, cmpBr, ret, Div, size, needs, effect, shift, flow, open-Opcode}
 use Rattle.definition.specs.Rules.{hasRole}
-use Rattle.definition.specs.Rewrite.{decode, startsFrom}
 use Rattle.definition.specs.Runs.{target, offCode, open-Runs}
 use Rattle.definition.specs.Runs as runs
 use Rattle.definition.specs.Machine.{Image, State, Step, goes, finishes, stops, breaks, calculate, calculated, leadsTo, branchIf, compares, truth, execute, executeIf, isStart, roleAt, step, andThen, afterSteps, inRuns, outcomeOf, decided, stepInRuns, open-Machine}

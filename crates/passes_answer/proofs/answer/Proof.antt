@@ -22,5 +22,4 @@ answer-spec =
     (λ c. search needs)  -- slice-aggregate-finish-4
     (λ c. search needs)  -- slice-aggregate-finish-5
     (λ c κs. search needs)  -- finish-requires
-    (λ c. search needs)  -- same-length
-    (λ c. answered _ _ _ _ _ _ _ _ _ (c .before .before .before .before .before .before .before .before .before .before .before .before .before .before .before .before .before .before .before .before .start .ensures) (c .before .before .before .before .before .before .before .before .before .before .before .before .before .before .feed .ensures) (search needs) (search needs) (search needs) (search needs) (search needs) (omega (arith, c .before .before .before .before .before .before .before .before .before .before .before .before .before .before .before .before .before .before .before .before .before .before .before .good)) (c .before .before .finish .ensures)))  -- returns
+    (λ c. answered _ _ _ _ _ _ _ _ (c .before .before .before .before .before .before .before .before .before .before .before .before .before .before .before .before .before .before .start .ensures) (c .before .before .before .before .before .before .before .before .before .before .before .before .feed .ensures) (search needs) (search needs) (search needs) (search needs) (search needs) (omega (arith, c .before .before .before .before .before .before .before .before .before .before .before .before .before .before .before .before .before .before .before .before .good)) (c .finish .ensures)))  -- returns

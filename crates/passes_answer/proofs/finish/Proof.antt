@@ -22,5 +22,5 @@ finish-spec =
     (λ c. search needs)  -- slice-aggregate-put-short-3
     (λ c. search needs)  -- slice-aggregate-put-short-4
     (λ c κs. search needs)  -- put-short-requires
-    (λ c. search needs)  -- same-length
-    (λ c. finished-by (stateView (c .before .before .before .before .before .before .before .before .before .before .before .before .before .before .before .before .before .before .before .before .before .before .before .args .reader) (c .before .before .before .before .before .before .before .before .before .before .before .before .before .before .before .before .before .before .before .before .before .before .before .args .sheet .now) (c .before .before .before .before .before .before .before .before .before .before .before .before .before .before .before .before .before .before .before .before .before .before .before .args .rules .now) (c .before .before .before .before .before .before .before .before .before .before .before .before .before .before .before .before .before .before .before .before .before .before .before .args .code .now) (c .before .before .before .before .before .before .before .before .before .before .before .before .before .before .before .before .before .before .before .before .before .before .before .args .offsets .now) (c .before .before .before .before .before .before .before .before .before .before .before .before .before .before .before .before .before .before .before .before .before .before .before .args .entries .now)) _ _ (c .before .before .before .before .before .before .before .before .before .ending-of .ensures) refl (c .before .before .before .before .before .before .before .before .handed-count .ensures) (c .before .before .before .before .before .before .before .before .before .before .before .before .before .rewrite-read .ensures) (c .before .before .put-short .ensures .0) (record { code = search needs; protected = search needs; lines = search needs }) (c .before .before .put-short .ensures .1)))  -- returns
+    (λ c κs. search needs)  -- zero-bytes-requires
+    (λ c. finished-by (stateView (c .before .before .before .before .before .before .before .before .before .before .before .before .before .before .before .before .before .before .before .before .before .before .args .reader) (c .before .before .before .before .before .before .before .before .before .before .before .before .before .before .before .before .before .before .before .before .before .before .args .sheet .now) (c .before .before .before .before .before .before .before .before .before .before .before .before .before .before .before .before .before .before .before .before .before .before .args .rules .now) (c .before .before .before .before .before .before .before .before .before .before .before .before .before .before .before .before .before .before .before .before .before .before .args .code .now) (c .before .before .before .before .before .before .before .before .before .before .before .before .before .before .before .before .before .before .before .before .before .before .args .offsets .now) (c .before .before .before .before .before .before .before .before .before .before .before .before .before .before .before .before .before .before .before .before .before .before .args .entries .now)) _ _ _ (search needs) (c .before .before .before .before .before .before .before .before .before .ending-of .ensures) refl (c .before .before .before .before .before .before .before .before .handed-count .ensures) (c .before .before .before .before .before .before .before .before .before .before .before .before .before .rewrite-read .ensures) (c .before .before .put-short .ensures .0) (record { code = search needs; protected = search needs; lines = search needs }) (c .before .before .put-short .ensures .1) (c .zero-bytes .ensures)))  -- returns

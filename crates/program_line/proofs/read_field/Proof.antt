@@ -8,13 +8,13 @@ read-field-spec =
     tie.close
     (tie.spec
     (λ c. search needs)  -- enum-known-kind
-    (λ c κs. search needs)  -- word-requires
+    (λ c. search needs)  -- cast-up-to
     (λ c κs. search needs)  -- up-to-requires
     (λ c. search needs)  -- enum-known-kind-2
-    (λ c κs. search needs)  -- word-requires-2
+    (λ c. search needs)  -- cast-below
     (λ c κs. search needs)  -- below-requires
     (λ c. search needs)  -- enum-told
     (λ c κs. search needs)  -- value-requires
-    (λ c. rw (c .before .before .before .kind .given .1) (rw (c .before .word .ensures) at (c .up-to .ensures)))  -- returns
-    (λ c. rw (c .before .before .before .kind2 .given .1) (rw (c .before .word2 .ensures) at (c .below .ensures)))  -- returns-2
+    (λ c. rw (c .before .before .kind .given .1) (c .up-to .ensures))  -- returns
+    (λ c. rw (c .before .before .kind2 .given .1) (c .below .ensures))  -- returns-2
     (λ c. rw (c .before .enum-told .given .1) (c .value .ensures)))  -- returns-3

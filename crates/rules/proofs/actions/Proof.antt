@@ -18,7 +18,7 @@ actions-spec =
     tie.close
     (tie.spec
     returns
-    (λ c. search needs)  -- mul-row
+    (λ c. search needs)  -- mul-start
     (λ c. search needs)  -- add-action-of
     (λ c. search needs)  -- mul-action-of
     (λ c. search needs)  -- shared-slice-read-action-of

@@ -8,7 +8,8 @@ pub fits-spec : {M : Type 1} → statement M
 fits-spec =
     tie.close
     (tie.spec
-    (λ c. search needs)  -- mul-row
+    (λ c. search needs)  -- mul-start
+    (λ c. search needs)  -- add-if1
     (λ c. search needs)  -- mul-if1
     (λ c. search needs)  -- shared-slice-read-if1
     (λ c. other-pass (c .before .before .before .args .table .now) _ _ _ _ (c .if1 .taken))  -- returns
@@ -22,11 +23,11 @@ fits-spec =
     (λ c. search needs)  -- shared-slice-read-if3
     (λ c. search needs)  -- cast-if3
     (λ c. other-second (c .before .before .before .before .before .before .before .before .before .args .table .now) _ _ _ _ (c .before .before .before .before .before .before .if1 .left) (c .before .before .before .if2 .left) (c .if3 .taken))  -- returns-3
-    (λ c. search needs)  -- add-passes
-    (λ c. search needs)  -- mul-passes
-    (λ c. search needs)  -- shared-slice-read-passes
-    (λ c. search needs)  -- add-passes-2
-    (λ c. search needs)  -- mul-passes-2
-    (λ c. search needs)  -- shared-slice-read-passes-2
-    (λ c κs. search needs)  -- passes-requires
-    (λ c. same-roles (c .before .before .before .before .before .before .before .before .before .before .before .before .args .table .now) _ _ _ _ (c .before .before .before .before .before .before .before .before .before .if1 .left) (c .before .before .before .before .before .before .if2 .left) (c .before .before .before .if3 .left) (c .passes .ensures)))  -- returns-4
+    (λ c. search needs)  -- add-test-holds
+    (λ c. search needs)  -- mul-test-holds
+    (λ c. search needs)  -- shared-slice-read-test-holds
+    (λ c. search needs)  -- add-test-holds-2
+    (λ c. search needs)  -- mul-test-holds-2
+    (λ c. search needs)  -- shared-slice-read-test-holds-2
+    (λ c κs. search needs)  -- test-holds-requires
+    (λ c. same-roles (c .before .before .before .before .before .before .before .before .before .before .before .before .args .table .now) _ _ _ _ (c .before .before .before .before .before .before .before .before .before .if1 .left) (c .before .before .before .before .before .before .if2 .left) (c .before .before .before .if3 .left) (c .test-holds .ensures)))  -- returns-4

@@ -4,16 +4,17 @@ use mathlib.Core.Path.{ap, sym, _∙_}
 use native.Mathlib.Omega.{arith}
 use Rattle.field.specs.View.{readOf, lineFields}
 use Rattle.field.proofs.Fields.{Walked, walked-starts, walked-next, walked-off, walked-inside, walk-inside, walk-here}
+use Rattle.rules.specs.View.{rowSize}
 use Rattle.rules.proofs.Lines.{Reading, bad-form, bad-range, number-fits, reading-starts, reading-next, reading-bad, reading-done, fields-bad, not-whole, bad-numbered, good-numbered}
 use Rattle.rules.proofs.line_numbers.Statement.{statement}
 use Rattle.rules.proofs.line_numbers.Tie as tie
 use borrow.Author.Needs.{needs}
 
 abbrev Inv-loop : tie.InvT-loop
-Inv-loop text at numbers₀ place₀ k₀ numbers place k = Walked text at 8 k place × Reading (lineFields text at) numbers k
+Inv-loop text at numbers₀ place₀ k₀ numbers place k = Walked text at (rowSize - 1) k place × Reading (lineFields text at) numbers k
 
 abbrev μ-loop : tie.MeasureT-loop
-μ-loop text at numbers₀ place₀ k₀ numbers place k = 9 - k
+μ-loop text at numbers₀ place₀ k₀ numbers place k = rowSize - k
 
 pub line-numbers-spec : {M : Type 1} → statement M
 line-numbers-spec =

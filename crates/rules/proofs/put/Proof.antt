@@ -1,5 +1,6 @@
 -- Made by `answers` from crates/rules/answers/put.txt: edit that file, not this one.
 use Prim.Native.Nat.{_-_}
+use Rattle.rules.specs.View.{rowSize}
 use Rattle.rules.proofs.Table.{Storing, stores-start, stores-next, stored}
 use Rattle.rules.proofs.put.Statement.{statement}
 use Rattle.rules.proofs.put.Tie as tie
@@ -9,7 +10,7 @@ abbrev Inv-loop : tie.InvT-loop
 Inv-loop table₀ at row k₀ table k = Storing table₀ row table at k
 
 abbrev μ-loop : tie.MeasureT-loop
-μ-loop table₀ at row k₀ table k = 9 - k
+μ-loop table₀ at row k₀ table k = rowSize - k
 
 pub put-spec : {M : Type 1} → statement M
 put-spec =

@@ -16,5 +16,5 @@ read-line-spec =
     (λ c κs. line-bounded _ _ (line-numbered _ _ _ (c .before .before .before .line-numbers .ensures) (not-false _ (c .before .if1 .left)) .0))  -- is-good-requires
     (λ c κs. search needs)  -- bad-line-requires-2
     (λ c. line-not-good _ _ (line-numbered _ _ _ (c .before .before .before .before .before .before .line-numbers .ensures) (not-false _ (c .before .before .before .before .if1 .left)) .0) (sym (not-true _ (c .before .if2 .taken)) ∙ (c .before .before .is-good) .ensures) (c .bad-line2 .ensures))  -- returns-2
-    (λ c κs. line-bounded _ _ (line-numbered _ _ _ (c .before .before .before .before .before .line-numbers .ensures) (not-false _ (c .before .before .before .if1 .left)) .0))  -- row-requires
-    (λ c. line-good _ _ (line-numbered _ _ _ (c .before .before .before .before .before .before .line-numbers .ensures) (not-false _ (c .before .before .before .before .if1 .left)) .0) (sym (not-false _ (c .before .if2 .left)) ∙ (c .before .before .is-good) .ensures) (c .row .ensures) (line-numbered _ _ _ (c .before .before .before .before .before .before .line-numbers .ensures) (not-false _ (c .before .before .before .before .if1 .left)) .1)))  -- returns-3
+    (λ c κs. line-bounded _ _ (line-numbered _ _ _ (c .before .before .before .before .before .line-numbers .ensures) (not-false _ (c .before .before .before .if1 .left)) .0))  -- table-row-requires
+    (λ c. line-good _ _ (line-numbered _ _ _ (c .before .before .before .before .before .before .line-numbers .ensures) (not-false _ (c .before .before .before .before .if1 .left)) .0) (sym (not-false _ (c .before .if2 .left)) ∙ (c .before .before .is-good) .ensures) (c .table-row .ensures) (line-numbered _ _ _ (c .before .before .before .before .before .before .line-numbers .ensures) (not-false _ (c .before .before .before .before .if1 .left)) .1)))  -- returns-3

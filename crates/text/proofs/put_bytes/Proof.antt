@@ -3,13 +3,13 @@ use Prim.Native.Nat.{_-_}
 use lib.ListN.{length}
 use Rattle.store.specs.Store.{at}
 use Rattle.text.proofs.Puts.{Putting, put-begins}
-use Rattle.text.proofs.Lines.{bytesFrom, bytes-on, bytes-end, bytes-long}
+use Rattle.text.proofs.Lines.{fieldsFrom, fields-on, fields-end, fields-long}
 use Rattle.text.proofs.put_bytes.Statement.{statement}
 use Rattle.text.proofs.put_bytes.Tie as tie
 use borrow.Author.Needs.{needs}
 
 abbrev Inv-loop : tie.InvT-loop
-Inv-loop out₀ used bytes behind₀ i₀ out behind i = Putting (bytesFrom bytes) (length bytes) (at out₀ used) (at out behind) i
+Inv-loop out₀ used bytes behind₀ i₀ out behind i = Putting (fieldsFrom bytes) (length bytes) (at out₀ used) (at out behind) i
 
 abbrev μ-loop : tie.MeasureT-loop
 μ-loop out₀ used bytes behind₀ i₀ out behind i = length bytes - i
@@ -26,7 +26,7 @@ put-bytes-spec =
     (λ c κs. search needs)  -- put-field-requires
     (λ c. search needs)  -- add-i
     (λ c. search needs)  -- loop-less
-    (λ c. bytes-on _ _ (c .before .before .before .before .before .before .before .loop .inv) (c .before .before .before .before .from-byte .ensures) (c .before .before .put-field .ensures) (c .before .before .before .before .before .before .loop-test .taken))  -- loop-again
+    (λ c. fields-on _ _ (c .before .before .before .before .before .before .before .loop .inv) (c .before .before .before .before .from-byte .ensures) (c .before .before .put-field .ensures) (c .before .before .before .before .before .before .loop-test .taken))  -- loop-again
     (λ c κs. search needs)  -- push-byte-requires
-    (λ c. bytes-long _ _ (c .before .before .before .before .before .loop .inv) (c .before .before .push-byte .ensures))  -- same-length
-    (λ c. bytes-end _ _ (c .before .before .before .before .before .loop .inv) (c .before .before .push-byte .ensures) (c .before .before .before .before .loop-test .left)))  -- returns
+    (λ c. fields-long _ _ (c .before .before .before .before .before .loop .inv) (c .before .before .push-byte .ensures))  -- same-length
+    (λ c. fields-end _ _ (c .before .before .before .before .before .loop .inv) (c .before .before .push-byte .ensures) (c .before .before .before .before .loop-test .left)))  -- returns

@@ -22,21 +22,14 @@ put-entries-spec =
     μ-loop
     (λ c. put-begins _ _ _)  -- loop-holds
     (λ c. search needs)  -- sub-loop
-    (λ c. search needs)  -- mul-from-number
-    (λ c. search needs)  -- shared-slice-read-from-number
-    (λ c κs. search needs)  -- from-number-requires
-    (λ c. search needs)  -- add-from-number
-    (λ c. search needs)  -- mul-from-number-2
-    (λ c. search needs)  -- shared-slice-read-from-number-2
-    (λ c κs. search needs)  -- from-number-requires-2
-    (λ c. search needs)  -- add-from-number-2
-    (λ c. search needs)  -- mul-from-number-3
-    (λ c. search needs)  -- shared-slice-read-from-number-3
-    (λ c κs. search needs)  -- from-number-requires-3
+    (λ c. search needs)  -- add-next
     (λ c κs. search needs)  -- push-byte-requires
-    (λ c κs. search needs)  -- put-three-requires
-    (λ c. search needs)  -- add-i
+    (λ c. search needs)  -- mul-put-numbers
+    (λ c. search needs)  -- sub-put-numbers
+    (λ c. search needs)  -- part-put-numbers-start
+    (λ c. search needs)  -- part-put-numbers-end
+    (λ c κs. search needs)  -- put-numbers-requires
     (λ c. search needs)  -- loop-less
-    (λ c. entries-on _ _ (c .before .before .before .before .before .before .before .before .before .before .before .before .before .before .before .loop .inv) (c .before .before .before .before .before .before .before .before .before .before .before .before .from-number .ensures) (c .before .before .before .before .before .before .before .before .before .before .from-number2 .ensures) (c .before .before .before .before .before .before .before .before .from-number3 .ensures) (c .before .before .before .before .before .before .push-byte .ensures) (c .before .before .put-three .ensures) (c .before .before .before .before .before .before .before .before .before .before .before .before .before .before .loop-test .taken))  -- loop-again
+    (λ c. entries-on _ _ (c .before .before .before .before .before .before .before .before .before .before .loop .inv) (c .before .before .before .before .before .before .before .before .before .loop-test .taken) (c .before .before .before .before .before .before .before .push-byte .ensures) (c .before .before .put-numbers .ensures))  -- loop-again
     (λ c. put-long _ _ _ (c .before .loop .inv))  -- same-length
     (λ c. entries-end _ _ (c .before .loop .inv) (c .loop-test .left)))  -- returns

@@ -7,46 +7,17 @@ use Rattle.emit.proofs.Instructions.{add-stops, add-goes, pushed-one}
 use borrow.Author.Needs.{needs}
 use Rattle.emit.proofs.Emitter.add_plain.Statement.{statement}
 use Rattle.emit.proofs.Emitter.add_plain.Tie as tie
-use Rattle.emit.proofs.Emitter.add_plain.Reads as reads
-use Rattle.emit.proofs.Emitter.add_plain.Lts as lts
-
-prepare-requires : tie.Need-prepare-requires
-prepare-requires c κs = (c .before .before .before .before .pre .0, (c .before .before .before .before .pre .1 .1, omega arith))
-
-same-length : tie.Need-same-length
-same-length c = search needs
-
-returns : tie.Need-returns
-returns c = add-stops _ _ [] Other 1 refl (c .before .before .before .before .before .before .before .before .before .pre .1 .0) (c .before .before .before .before .prepare .ensures) (c .if1 .taken)
-
-opcode-of-requires : tie.Need-opcode-of-requires
-opcode-of-requires c κs = search needs
-
-push-byte-requires : tie.Need-push-byte-requires
-push-byte-requires c κs = search needs
-
-grow-requires : tie.Need-grow-requires
-grow-requires c κs = (c .before .before .before .before .before .before .before .before .before .prepare .ensures .noted .fine, ((omega arith, c .before .before .before .before .before .before .before .before .before .prepare .ensures .fits (c .before .before .before .before .before .if1 .left)), tt))
-
-same-length-2 : tie.Need-same-length-2
-same-length-2 c = search needs
-
-same-length-3 : tie.Need-same-length-3
-same-length-3 c = search needs
-
-returns-2 : tie.Need-returns-2
-returns-2 c = add-goes _ _ [] Other 1 refl (c .before .before .before .before .before .before .before .before .before .before .before .before .before .before .before .pre .1 .0) (c .before .before .before .before .before .before .before .before .before .before .prepare .ensures) (c .before .before .before .before .before .before .if1 .left) (pushed-one (c .before .before .before .push-byte .ensures) (c .before .before .before .before .before .opcode-of .ensures)) (c .grow .ensures .0) (c .grow .ensures .1)
 
 pub add-plain-spec : {M : Type 1} → statement M
 add-plain-spec =
     tie.close
     (tie.spec
-    prepare-requires
-    same-length
-    returns
-    opcode-of-requires
-    push-byte-requires
-    grow-requires
-    same-length-2
-    same-length-3
-    returns-2)
+    (λ c κs. (c .before .before .before .before .pre .0, (c .before .before .before .before .pre .1 .1, omega arith)))  -- prepare-requires
+    (λ c. search needs)  -- same-length
+    (λ c. add-stops _ _ [] Other 1 refl (c .before .before .before .before .before .before .before .before .before .pre .1 .0) (c .before .before .before .before .prepare .ensures) (c .if1 .taken))  -- returns
+    (λ c κs. search needs)  -- opcode-of-requires
+    (λ c κs. search needs)  -- push-byte-requires
+    (λ c κs. (c .before .before .before .before .before .before .before .before .before .prepare .ensures .noted .fine, ((omega arith, c .before .before .before .before .before .before .before .before .before .prepare .ensures .fits (c .before .before .before .before .before .if1 .left)), tt)))  -- grow-requires
+    (λ c. search needs)  -- same-length-2
+    (λ c. search needs)  -- same-length-3
+    (λ c. add-goes _ _ [] Other 1 refl (c .before .before .before .before .before .before .before .before .before .before .before .before .before .before .before .pre .1 .0) (c .before .before .before .before .before .before .before .before .before .before .prepare .ensures) (c .before .before .before .before .before .before .if1 .left) (pushed-one _ (c .before .before .before .push-byte .ensures) (c .before .before .before .before .before .opcode-of .ensures)) (c .grow .ensures .0) (c .grow .ensures .1)))  -- returns-2

@@ -6,34 +6,14 @@ use Rattle.emit.proofs.Branches.{jmp-if-not-done}
 use borrow.Author.Needs.{needs}
 use Rattle.emit.proofs.Emitter.emit_jmp_if_not.Statement.{statement}
 use Rattle.emit.proofs.Emitter.emit_jmp_if_not.Tie as tie
-use Rattle.emit.proofs.Emitter.emit_jmp_if_not.Reads as reads
-use Rattle.emit.proofs.Emitter.emit_jmp_if_not.Lts as lts
-
-narrow-requires : tie.Need-narrow-requires
-narrow-requires c κs = omega (arith, c .before .before .before .pre .0 .size)
-
-jmp-if-not-requires : tie.Need-jmp-if-not-requires
-jmp-if-not-requires c κs = search needs
-
-emit-branch-requires : tie.Need-emit-branch-requires
-emit-branch-requires c κs = (c .before .before .before .before .before .before .before .pre .0, (c .before .before .before .before .before .before .before .pre .1 .0, (c .before .before .before .before .before .before .before .pre .1 .1, ap (λ (p : PendingPatch). p .instructionOffset) (c .before .before .jmp-if-not .ensures) ∙ (c .before .before .before .narrow) .ensures)))
-
-same-length : tie.Need-same-length
-same-length c = search needs
-
-same-length-2 : tie.Need-same-length-2
-same-length-2 c = search needs
-
-returns : tie.Need-returns
-returns c = jmp-if-not-done _ _ (c .before .before .before .before .before .before .before .jmp-if-not .ensures) (c .before .before .before .before .emit-branch .ensures)
 
 pub emit-jmp-if-not-spec : {M : Type 1} → statement M
 emit-jmp-if-not-spec =
     tie.close
     (tie.spec
-    narrow-requires
-    jmp-if-not-requires
-    emit-branch-requires
-    same-length
-    same-length-2
-    returns)
+    (λ c κs. omega (arith, c .before .before .before .pre .0 .size))  -- narrow-requires
+    (λ c κs. search needs)  -- jmp-if-not-requires
+    (λ c κs. (c .before .before .before .before .before .before .before .pre .0, (c .before .before .before .before .before .before .before .pre .1 .0, (c .before .before .before .before .before .before .before .pre .1 .1, ap (λ (p : PendingPatch). p .instructionOffset) (c .before .before .jmp-if-not .ensures) ∙ (c .before .before .before .narrow) .ensures))))  -- emit-branch-requires
+    (λ c. search needs)  -- same-length
+    (λ c. search needs)  -- same-length-2
+    (λ c. jmp-if-not-done _ _ (c .before .before .before .before .before .before .before .jmp-if-not .ensures) (c .before .before .before .before .emit-branch .ensures)))  -- returns

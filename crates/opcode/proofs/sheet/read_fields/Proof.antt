@@ -2,6 +2,7 @@
 use Prim.Native.Nat.{_-_}
 use mathlib.Core.Path.{refl, sym, _∙_}
 use native.Mathlib.Omega.{arith}
+use Rattle.definition.specs.Sheet.{fieldCount}
 use Rattle.field.proofs.Fields.{Walked, walked-starts, walked-next, walked-off, walked-inside, walk-inside, walk-here}
 use Rattle.opcode.proofs.Readings.{Taking, taking-starts, taking-next, taking-bad, taking-ends, no-line}
 use Rattle.opcode.proofs.sheet.read_fields.Statement.{statement}
@@ -9,10 +10,10 @@ use Rattle.opcode.proofs.sheet.read_fields.Tie as tie
 use borrow.Author.Needs.{needs}
 
 abbrev Inv-loop : tie.InvT-loop
-Inv-loop text sheet₀ fault₀ at₀ i₀ sheet fault at i = Walked text 0 32 i at × Taking text sheet i fault
+Inv-loop text sheet₀ fault₀ at₀ i₀ sheet fault at i = Walked text 0 (fieldCount - 1) i at × Taking text sheet i fault
 
 abbrev μ-loop : tie.MeasureT-loop
-μ-loop text sheet₀ fault₀ at₀ i₀ sheet fault at i = 33 - i
+μ-loop text sheet₀ fault₀ at₀ i₀ sheet fault at i = fieldCount - i
 
 pub read-fields-spec : {M : Type 1} → statement M
 read-fields-spec =

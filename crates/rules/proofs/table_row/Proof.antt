@@ -1,11 +1,11 @@
--- Made by `answers` from crates/rules/answers/row.txt: edit that file, not this one.
+-- Made by `answers` from crates/rules/answers/table_row.txt: edit that file, not this one.
 use Rattle.rules.proofs.Rows.{row-is}
 use borrow.Author.Needs.{needs}
-use Rattle.rules.proofs.row.Statement.{statement}
-use Rattle.rules.proofs.row.Tie as tie
+use Rattle.rules.proofs.table_row.Statement.{statement}
+use Rattle.rules.proofs.table_row.Tie as tie
 
-pub row-spec : {M : Type 1} → statement M
-row-spec =
+pub table-row-spec : {M : Type 1} → statement M
+table-row-spec =
     tie.close
     (tie.spec
     (λ c. search needs)  -- array-read-used
