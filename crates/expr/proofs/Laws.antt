@@ -47,13 +47,13 @@ module _ {e r : Emitter} {code book pool : List ℕ} (w : Ready (world e code bo
 -- ---- parts of a walk
 
 pub went : {s : Sheet} {m : Calls} {text : List ℕ} {d : def.Cursor} {w v : World} {c : Cursor} → Skipped text d c → Filled (run s m) w v → Went s m text d w v c
-went p f = record { is = p .is; near = p .near; ready = f .ready; did = f .did }
+went p f = record { is = p .is; near = p .near; ready = f .ready; kept = f .kept; did = f .did }
 
 pub place : {s : Sheet} {m : Calls} {text : List ℕ} {d : def.Cursor} {w v : World} {c : Cursor} → Went s m text d w v c → Skipped text d c
 place x = record { is = x .is; near = x .near }
 
 pub filled : {s : Sheet} {m : Calls} {text : List ℕ} {d : def.Cursor} {w v : World} {c : Cursor} → Went s m text d w v c → Filled (run s m) w v
-filled x = record { ready = x .ready; did = x .did }
+filled x = record { ready = x .ready; kept = x .kept; did = x .did }
 
 module _ (s : Sheet) where
   -- the first two of three are one part

@@ -13,7 +13,7 @@ use Rattle.definition.specs.Expr.{emitExpr}
 use Rattle.program.specs.declared.Cursor.{Cursor}
 use Rattle.program.specs.Walk.{cursorOf, Near}
 use Rattle.emit.specs.View.{World}
-use Rattle.emit.specs.Steps.{run, Did, Ready, Coded}
+use Rattle.emit.specs.Steps.{run, Did, Ready, Kept, Coded}
 use Rattle.expr.specs.declared.Walked.{Walked}
 
 -- m was emitted, and the walk stands at d
@@ -21,6 +21,7 @@ pub record Went (s : Sheet) (m : Calls) (text : List ℕ) (d : def.Cursor) (w v 
   pub is : cursorOf c ≡ d
   pub near : Near text (c .at) (c .row)
   pub ready : Ready v
+  pub kept : Kept w v
   pub did : Did (run s m) w v
 
 -- an expression was read and emitted

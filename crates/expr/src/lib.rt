@@ -35,13 +35,7 @@ fn bool_role(b: bool) -> Role
 }
 
 // An operation behind its operands.
-fn operate(
-    w: Walked,
-    sheet: &[u8],
-    code: &mut [u8],
-    book: &mut [u16],
-    role: Role,
-) -> Walked
+fn operate(w: Walked, sheet: &[u8], code: &mut [u8], book: &mut [u16], role: Role) -> Walked
     requires { ⌜ Fine (w .emitter) ⌝ }
     requires { ⌜ length (now code) ≡ maxCode ⌝ }
     requires { ⌜ length (now book) ≡ bookSize ⌝ }
@@ -145,7 +139,18 @@ fn emit_two(
     let one = emit_expr(text, sheet, code, book, pool, variables, left, h, e, c);
     let on = one.cursor;
     let e = one.emitter;
-    emit_expr(text, sheet, code, book, pool, variables, left, deeper, e, on)
+    emit_expr(
+        text,
+        sheet,
+        code,
+        book,
+        pool,
+        variables,
+        left,
+        deeper,
+        e,
+        on,
+    )
 }
 
 // The right side is the value where the left is true; else it is false.
@@ -167,21 +172,21 @@ fn emit_and_then(
     ensures { λ r. ⌜ WentTwo (sheetIn (now (sheet .entry))) (λ a b. emitExpr (shortCircuit AndThen a b) h) left variables (now (text .entry)) (cursorOf c) (world e (now (code .entry)) (now (book .entry)) (now (pool .entry))) (world (r .emitter) (now (code .exit)) (now (book .exit)) (now (pool .exit))) (r .cursor) ⌝ }
 {
     let alternative = e.create_label(book);
-    let f = alternative.emitter;
-    let end = f.create_label(book);
+    let e = alternative.emitter;
+    let end = e.create_label(book);
     let e = end.emitter;
     let lhs = emit_expr(text, sheet, code, book, pool, variables, left, h, e, c);
     let on = lhs.cursor;
-    let f = lhs.emitter;
-    let e = f.emit_jmp_if_not(sheet, code, book, alternative.label);
+    let e = lhs.emitter;
+    let e = e.emit_jmp_if_not(sheet, code, book, alternative.label);
     let rhs = emit_expr(text, sheet, code, book, pool, variables, left, h, e, on);
     let cursor = rhs.cursor;
     let f = rhs.emitter;
-    let e = f.emit_jmp(sheet, code, book, end.label);
-    let e = e.bind_label(book, alternative.label);
-    let e = e.reset_stack_depth(h);
-    let e = e.emit_opcode(sheet, code, book, Role::LoadFalse);
-    let emitter = e.bind_label(book, end.label);
+    let f = f.emit_jmp(sheet, code, book, end.label);
+    let f = f.bind_label(book, alternative.label);
+    let f = f.reset_stack_depth(h);
+    let f = f.emit_opcode(sheet, code, book, Role::LoadFalse);
+    let emitter = f.bind_label(book, end.label);
     Walked { cursor, emitter }
 }
 
@@ -204,20 +209,20 @@ fn emit_or_else(
     ensures { λ r. ⌜ WentTwo (sheetIn (now (sheet .entry))) (λ a b. emitExpr (shortCircuit OrElse a b) h) left variables (now (text .entry)) (cursorOf c) (world e (now (code .entry)) (now (book .entry)) (now (pool .entry))) (world (r .emitter) (now (code .exit)) (now (book .exit)) (now (pool .exit))) (r .cursor) ⌝ }
 {
     let alternative = e.create_label(book);
-    let f = alternative.emitter;
-    let end = f.create_label(book);
+    let e = alternative.emitter;
+    let end = e.create_label(book);
     let e = end.emitter;
     let lhs = emit_expr(text, sheet, code, book, pool, variables, left, h, e, c);
     let on = lhs.cursor;
-    let f = lhs.emitter;
-    let e = f.emit_jmp_if_not(sheet, code, book, alternative.label);
+    let e = lhs.emitter;
+    let e = e.emit_jmp_if_not(sheet, code, book, alternative.label);
     let e = e.emit_opcode(sheet, code, book, Role::LoadTrue);
     let e = e.emit_jmp(sheet, code, book, end.label);
     let e = e.bind_label(book, alternative.label);
     let e = e.reset_stack_depth(h);
     let rhs = emit_expr(text, sheet, code, book, pool, variables, left, h, e, on);
     let cursor = rhs.cursor;
-    let f = rhs.emitter;
-    let emitter = f.bind_label(book, end.label);
+    let e = rhs.emitter;
+    let emitter = e.bind_label(book, end.label);
     Walked { cursor, emitter }
 }
