@@ -12,8 +12,8 @@ use Rattle.definition.specs.Tree.{Expr, const, bool, read, shortCircuit}
 use Rattle.definition.specs.Program as def
 use Rattle.definition.specs.Program.{is, not, K, B, D, O, U, C, H, ExprLine, Reader, lineAt, nextLine, faultAt, exprForms, exprOf, exprAt}
 use Rattle.definition.specs.Emit as emit
-use Rattle.definition.specs.Emit.{Call, createLabel, bindLabel, loadVariable, loadConstant, emitOpcode, emitJmp, emitJmpIfNot, resetStackDepth, refused, act}
-use Rattle.definition.specs.Walk.{Calls, say, newLabel}
+use Rattle.definition.specs.Emit.{Call, bindLabel, loadVariable, loadConstant, emitOpcode, emitJmp, emitJmpIfNot, resetStackDepth, refused, act}
+use Rattle.definition.specs.Walk.{Calls, say}
 use Rattle.definition.specs.Walk as walk
 use Rattle.definition.specs.Expr.{emitExpr}
 use Rattle.program_line.specs.declared.ExprLine as code
@@ -23,26 +23,11 @@ use Rattle.program.specs.Walk.{cursorOf, Near, Skipped}
 use Rattle.program.proofs.Laws.{expr-bad, expr-is, line-some}
 use Rattle.emit.specs.declared.Emitter.{Emitter}
 use Rattle.emit.specs.View.{World, world}
-use Rattle.emit.specs.Steps.{Step, run, Ready, Bare, Booked, Created, Coded, Filled}
+use Rattle.emit.specs.Steps.{run, Ready, Bare, Booked, Created, Coded, Filled}
 use Rattle.emit.proofs.Steps.{filled-by, bare-filled, booked-filled, created-filled, coded-filled}
 use Rattle.emit.proofs.Calls.{run-then, seq-filled, said-filled, fresh-filled}
 use Rattle.expr.specs.declared.Walked.{Walked}
-use Rattle.expr.specs.Went.{Went, WentExpr, WentTwo, secondAt, emitTwo, boolRole, Operated}
-
--- ---- ready after a method
-
-module _ {e r : Emitter} {code book pool : List ℕ} (w : Ready (world e code book pool)) where
-  pub after-bare : {c : Call} → Bare c e r → Ready (world r code book pool)
-  after-bare b = record { fine = b .fine; room = w .room; slots = w .slots; long = w .long }
-
-  pub after-created : {book′ : List ℕ} {l : ℕ} → Created e book r book′ l → Ready (world r code book′ pool)
-  after-created b = record { fine = b .fine; room = w .room; slots = b .slots; long = w .long }
-
-  pub after-booked : {c : Call} {book′ : List ℕ} → Booked c e book r book′ → Ready (world r code book′ pool)
-  after-booked b = record { fine = b .fine; room = w .room; slots = b .slots; long = w .long }
-
-  pub after-coded : {f : Step} {code′ book′ : List ℕ} → Coded f e code book r code′ book′ → Ready (world r code′ book′ pool)
-  after-coded b = record { fine = b .fine; room = b .room; slots = b .slots; long = w .long }
+use Rattle.expr.specs.Went.{Went, WentExpr, WentTwo, emitTwo, boolRole, Operated}
 
 -- ---- parts of a walk
 

@@ -1,9 +1,8 @@
 -- A line that is there makes the lines that remain fewer, and reading an expression never makes them more.
-use mathlib.Core.Path.{_≡_, refl, ap, sym, _∙_}
+use mathlib.Core.Path.{_≡_, ap, sym}
 use mathlib.Core.Bool.{Bool, true, false}
 use mathlib.Core.List.{List, [], _∷_}
-use Prim.Native.Nat.{ℕ, zero, suc, _+_, _-_, _≤_, _<_}
-use native.Mathlib.Numerals.{add-one}
+use Prim.Native.Nat.{ℕ, zero, suc, _+_, _≤_, _<_}
 use native.Mathlib.Omega.{arith}
 use lib.Dec.{eqb}
 use lib.ListN.{length, drop, length-drop}
@@ -18,34 +17,34 @@ use Rattle.expr.specs.Lines.{lineCount, linesLeft}
 
 -- ---- one line
 
-fewer : (b : ℕ) (bs : List ℕ) → lineCount (drop (length (firstLine (b ∷ bs)) + 1) (b ∷ bs)) < lineCount (b ∷ bs)
+fewer : (b : ℕ) (bs : List ℕ) → lineCount (drop (suc (length (firstLine (b ∷ bs)))) (b ∷ bs)) < lineCount (b ∷ bs)
 unfolding lineCount firstLine
 fewer b [] = go (eqb b lf)
   where
-    go : (t : Bool) → lineCount (drop (length {A = ℕ} (elim t as (λ x. List ℕ) [ true ↦ [] | false ↦ b ∷ [] ]) + 1) (b ∷ [])) < 1
+    go : (t : Bool) → lineCount (drop (suc (length {A = ℕ} (elim t as (λ x. List ℕ) [ true ↦ [] | false ↦ b ∷ [] ]))) (b ∷ [])) < 1
     go true = omega arith
     go false = omega arith
 fewer b (c ∷ bs) = go (eqb b lf) (fewer c bs)
   where
-    go : (t : Bool) → lineCount (drop (length (firstLine (c ∷ bs)) + 1) (c ∷ bs)) < lineCount (c ∷ bs)
-        → lineCount (drop (length {A = ℕ} (elim t as (λ x. List ℕ) [ true ↦ [] | false ↦ b ∷ firstLine (c ∷ bs) ]) + 1) (b ∷ c ∷ bs))
+    go : (t : Bool) → lineCount (drop (suc (length (firstLine (c ∷ bs)))) (c ∷ bs)) < lineCount (c ∷ bs)
+        → lineCount (drop (suc (length {A = ℕ} (elim t as (λ x. List ℕ) [ true ↦ [] | false ↦ b ∷ firstLine (c ∷ bs) ]))) (b ∷ c ∷ bs))
         < elim t as (λ x. ℕ) [ true ↦ suc (lineCount (c ∷ bs)) | false ↦ lineCount (c ∷ bs) ]
     go true h = omega arith
     go false h = h
 
 module _ (text : List ℕ) where
-  next-lines : (c : def.Cursor) → linesLeft text (nextLine text c .at) ≡ lineCount (drop (length (firstLine (drop (c .at) text)) + 1) (drop (c .at) text))
+  next-lines : (c : def.Cursor) → linesLeft text (nextLine text c .at) ≡ lineCount (drop (suc (length (firstLine (drop (c .at) text)))) (drop (c .at) text))
   unfolding linesLeft nextLine
   next-lines c =
       let n = length (firstLine (drop (c .at) text)) in
-      let e : c .at + n + 1 ≡ c .at + (n + 1) = omega arith in
-      rw e (ap lineCount (sym (drop-drop (n + 1) (c .at) text)))
+      let e : c .at + n + 1 ≡ c .at + suc n = omega arith in
+      rw e (ap lineCount (sym (drop-drop (suc n) (c .at) text)))
 
   next-fewer : (c : def.Cursor) → c .at < length text → linesLeft text (nextLine text c .at) < linesLeft text (c .at)
   unfolding linesLeft
   next-fewer c h = rw (next-lines c) (go (drop (c .at) text) (rw (length-drop (c .at) text) (omega arith)))
     where
-      go : (bs : List ℕ) → 0 < length bs → lineCount (drop (length (firstLine bs) + 1) bs) < lineCount bs
+      go : (bs : List ℕ) → 0 < length bs → lineCount (drop (suc (length (firstLine bs))) bs) < lineCount bs
       go [] k = absurd (omega arith)
       go (b ∷ bs) k = fewer b bs
 
@@ -53,7 +52,7 @@ module _ (text : List ℕ) where
   unfolding linesLeft lineCount firstLine
   next-most c = rw (next-lines c) (go (drop (c .at) text))
     where
-      go : (bs : List ℕ) → lineCount (drop (length (firstLine bs) + 1) bs) ≤ lineCount bs
+      go : (bs : List ℕ) → lineCount (drop (suc (length (firstLine bs))) bs) ≤ lineCount bs
       go [] = omega arith
       go (b ∷ bs) = omega (arith, fewer b bs)
 
