@@ -18,7 +18,7 @@ use Rattle.definition.specs.Optimize.{Pipeline, run, identity}
 use Rattle.definition.specs.Emit.{Emitter, PendingPatch}
 use Rattle.definition.specs.Stmt.{emitStmts}
 use Rattle.definition.specs.Compile.{jumpTargets, emitProgram, Answer}
-use Rattle.definition.specs.Runs.{Break, finishes, breaks, Stand, start, target}
+use Rattle.definition.specs.Runs.{State, Break, finishes, breaks, Stand, start, target}
 use Rattle.definition.specs.Runs as runs
 use Rattle.definition.specs.Machine.{Image}
 use Rattle.definition.specs.Fused.{FusedBranch, Decides}
@@ -140,6 +140,18 @@ pub record Safe (sheet rules program : List ℕ) (a : Answer) : Type 0 where
   pub whole : length (take (a .codeLength) (a .code)) ≡ a .codeLength
   pub fits : a .codeLength ≤ maxCode
   pub safe : SafeCode s rs tree e (take (a .codeLength) (a .code)) (take (a .constantCount) (a .constants)) (a .depth)
+
+-- ---- heights by place: no claim of document 01
+
+-- Each place of some code has one height, `heightAt`: a run that stands there, over whatever outcomes and after however many steps, has it
+-- (`held`). So has one that begins at any start or the end, reached or not, at that place's height, if that is not over the depth, and it is
+-- fine (`from`).
+pub record OneHeight (s : Sheet) (code : List ℕ) (depth : ℕ) : Type 0 where
+  pub heightAt : ℕ → ℕ
+  pub first : heightAt 0 ≡ 0
+  pub held : (outcomes : List Bool) (n : ℕ) → runs.run s code n (start outcomes) .state .height ≡ heightAt (runs.run s code n (start outcomes) .state .place)
+  pub from : (x : State) → Either (has (startsFrom 0 (decode s code)) (x .place) ≡ true) (x .place ≡ length code) → x .height ≡ heightAt (x .place) → x .height ≤ depth → (n : ℕ)
+      → Fine s code depth (runs.run s code n x) × (runs.run s code n x .state .height ≡ heightAt (runs.run s code n x .state .place))
 
 -- `unfolding open-Claims` names all of this module's definitions at once
 unfoldable pub open-Claims : Unit {0}

@@ -1,7 +1,7 @@
 -- A table: what it holds of its sheet, and how the role numbers come into it.
 use mathlib.Core.Path.{_≡_, refl, ap, sym, _∙_}
 use mathlib.Core.Option.{some}
-use mathlib.Core.List.{List, [], _∷_, _++_, map}
+use mathlib.Core.List.{List, _∷_, _++_, map}
 use Prim.Native.Nat.{ℕ, zero, suc, _+_, _-_, _<_, _≤_}
 use native.Mathlib.Omega.{arith}
 use native.Mathlib.Decide.{ℕ-discrete}
@@ -10,7 +10,7 @@ use lib.ListN.{length, getD, take, drop, set, replicate, take-append-drop, lengt
 use lib.Seq.{getD-take, getD-drop, getD-append-add, getD-set-same, getD-set-other, take-at, take-set-le, drop-cons, slice-empty, ext-getD, length-take-le}
 use Rattle.definition.specs.Opcode.{Role, roleCount, CompareOp, number, compareIndex, ret, roles, beside, roleOf, opcode, comparisonByte, Sheet}
 use Rattle.definition.specs.Rules.{roleNumbered}
-use Rattle.definition.specs.Sheet.{fieldCount, opcodesOf, comparisonsOf}
+use Rattle.definition.specs.Sheet.{fieldCount, opcodesOf}
 use Rattle.store.specs.Fill.{setFrom}
 use Rattle.field.proofs.Lists.{inside}
 use Rattle.opcode.specs.Table.{byteCount, unlisted, tableSize, sheetIn, IsTable, numberIn, numberOr, tableOf, upFrom}

@@ -3,36 +3,33 @@ use Prim.Native.Nat.{ℕ, _+_, _*_, _/_, _%_, suc, _<_}
 use mathlib.Core.Path.{_≡_, refl, sym, _∙_, ap, subst}
 use mathlib.Core.List.{List, [], _∷_, _++_, append-assoc}
 use mathlib.Core.Bool.{Bool, true, false}
-use mathlib.Core.Option.{Option, some, none}
-use lib.Dec.{eqb}
+use mathlib.Core.Option.{Option, some}
 use lib.ListN.{length, getD, List·getD-append}
 use lib.Seq.{getD-append-add}
 use borrow.Author.Tests.{ne-eqb}
 use native.Mathlib.Omega.{arith}
 use Rattle.definition.specs.Limits.{width}
 use Rattle.definition.specs.Res.{Res, ok, _>>=_}
-use Rattle.definition.specs.Field.{has}
-use Rattle.definition.specs.Opcode.{Role, Sheet, CompareOp, opcode, roleOf, comparisonByte, size, cmpBr}
+use Rattle.definition.specs.Opcode.{Role, Sheet, CompareOp, roleOf, comparisonByte, size, cmpBr}
 use Rattle.definition.specs.Rules.{Rule, matches}
 use Rattle.definition.specs.Tree.{Program}
-use Rattle.definition.specs.Emit.{le16, Emitter, emitterAt, PendingPatch, cmpBrOperandDelta, Call, emitCmpBr, act, acts}
+use Rattle.definition.specs.Emit.{le16, Emitter, emitterAt, PendingPatch, Call, emitCmpBr, act, acts}
 use Rattle.definition.specs.Walk.{after, say}
 use Rattle.definition.specs.CompileExpr.{ClassifiedCmp}
 use Rattle.definition.specs.Stmt.{emitStmts}
 use Rattle.definition.specs.Compile.{jumpTargets, finalizeFunction, emitProgram}
 use Rattle.definition.specs.Iec.{taken}
-use Rattle.definition.specs.Rewrite.{decode, startsFrom}
 use Rattle.definition.specs.Runs.{offCode, target}
 use Rattle.definition.specs.Machine.{Image, State, Step, finishes, breaks, operandAt, constantAt, compares, at, leadsTo, branchIf, execute, executeIf, isStart, roleAt, step}
-use Rattle.definition.specs.Fused.{holds, goes, FusedBranch, led, Decides}
+use Rattle.definition.specs.Fused.{FusedBranch, led, Decides}
 use Rattle.definition.specs.For.{lengthOf, placeAfter}
 use Rattle.definition.specs.Claims.{Each, _also_, inTurn, LeadsTo, BranchLeads, FusedLeads}
 use Rattle.opcode.specs.Table.{Good}
 use Rattle.opcode.proofs.Sheets.{role-of-opcode}
 use Rattle.field.proofs.Results.{ok-bind, some-is}
 use Rattle.runs.proofs.Passes.{Fine as FineMatcher}
-use Rattle.runs.proofs.Later.{Grown, grown-here, acts-grown}
-use Rattle.runs.proofs.Conditions.{emittedOp, emits, fused, fusedBytes, fusedPatch, Coded, coded}
+use Rattle.runs.proofs.Later.{grown-here, acts-grown}
+use Rattle.runs.proofs.Conditions.{emittedOp, emits, fused, fusedBytes, fusedPatch, coded}
 use Rattle.runs.proofs.Finished.{program-branches, program-before}
 
 -- ---- the call among the others

@@ -22,7 +22,7 @@ use Rattle.definition.specs.Compile.{boundOr0, boundLabel, jumpTargets, finaliz
 use Rattle.definition.specs.Runs.{State, target, run, start}
 use Rattle.field.proofs.Results.{never}
 use Rattle.runs.proofs.Heights.{Bound}
-use Rattle.definition.specs.Claims.{Either, left, right, Fine, branchPlaces, inTurn, LeadsTo, Each, empty, _also_, BranchLeads, Branches}
+use Rattle.definition.specs.Claims.{Either, left, right, Fine, branchPlaces, inTurn, LeadsTo, Each, empty, _also_, BranchLeads, Branches, OneHeight}
 use Rattle.runs.proofs.Rows.{Row, bytes-of, place-at, aim-at, row-of, row-inside, row-aim, row-bytes, height-first, place-first, place-end, place-within, patchHere, patchesBy, patches-same, each-patch, Linked}
 use Rattle.runs.proofs.Emitted.{Stands, Placed, Acted, created, emitted}
 use Rattle.runs.proofs.Passes.{Reads, Fine as FineMatcher, decode-rows, looked-moved, Piped, optimize-piped, moved-in-turn}
@@ -70,16 +70,6 @@ each-has B ps = go ps (λ x e. e)
     go : (qs : List PendingPatch) → ((x : ℕ) → has (map (λ (p : PendingPatch). B (p .label)) qs) x ≡ true → has targets x ≡ true) → Each (λ (p : PendingPatch). has targets (B (p .label)) ≡ true) qs
     go [] f = empty
     go (q ∷ qs) f = f _ (has-first _ _ _ refl) also go qs (λ x e. f x (has-later _ _ _ e))
-
--- Each place of some code has one height, `heightAt`: a run that stands there, over whatever outcomes and after however many steps, has it
--- (`runs`). So has one that begins at any start or the end, reached or not, at that place's height, if that is not over the depth, and it is
--- fine (`from`).
-pub record OneHeight (s : Sheet) (code : List ℕ) (depth : ℕ) : Type 0 where
-  pub heightAt : ℕ → ℕ
-  pub first : heightAt 0 ≡ 0
-  pub runs : (outcomes : List Bool) (n : ℕ) → run s code n (start outcomes) .state .height ≡ heightAt (run s code n (start outcomes) .state .place)
-  pub from : (x : State) → Either (has (startsFrom 0 (decode s code)) (x .place) ≡ true) (x .place ≡ length code) → x .height ≡ heightAt (x .place) → x .height ≤ depth → (n : ℕ)
-      → Fine s code depth (run s code n x) × (run s code n x .state .height ≡ heightAt (run s code n x .state .place))
 
 -- ---- the rows of finished code
 
@@ -322,7 +312,7 @@ module _ (s : Sheet) (back : Reads s) (rules : List Rule) (fine : (pass : ℕ) �
   rows-heights = record {
     heightAt = λ p. height-of rows 0 p;
     first = sym (height-is 0 0 (begins []));
-    runs = λ os n. height-is _ _ (run-fine s rows linked T leads back n (start os) (begins os) zero-le .stands);
+    held = λ os n. height-is _ _ (run-fine s rows linked T leads back n (start os) (begins os) zero-le .stands);
     from = λ x w h le n. let f = run-fine s rows linked T leads back n x (stands-at x w h) le in (row-fine s rows linked T leads back f, height-is _ _ (f .stands));
   }
 

@@ -16,13 +16,13 @@ use Rattle.definition.specs.Program.{readProgram}
 use Rattle.definition.specs.Emit.{Emitter}
 use Rattle.definition.specs.Lent.{zeros, filled}
 use Rattle.definition.specs.Compile.{FinalizedFunction, finalizeFunction, emitProgram, compileProgram, compileFiles, Room, compileInto, Answer, answer, Compiles}
-use Rattle.definition.specs.Claims.{SafeCode, Safe}
+use Rattle.definition.specs.Claims.{SafeCode, Safe, OneHeight}
 use Rattle.opcode.proofs.Faults.{good}
 use Rattle.opcode.proofs.Sheets.{role-of-opcode}
 use Rattle.field.proofs.Results.{ok-demand, ok-bind, ok-is, ok-given}
 use Rattle.runs.proofs.Answers.{call-numbered, finished}
 use Rattle.runs.proofs.Passes.{Reads, Fine as FineMatcher, rules-fine}
-use Rattle.runs.proofs.Finished.{OneHeight, program-runs, program-branches, program-short, program-heights}
+use Rattle.runs.proofs.Finished.{program-runs, program-branches, program-short, program-heights}
 use Rattle.runs.proofs.Decided.{program-fused}
 
 -- what the call read and emitted, where it gave back f

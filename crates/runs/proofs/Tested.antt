@@ -5,11 +5,11 @@ use mathlib.Core.List.{List, [], _∷_, _++_, append-assoc}
 use mathlib.Core.Bool.{Bool, true, false}
 use mathlib.Core.Option.{Option, some, none}
 use Rattle.definition.specs.Opcode.{CompareOp, commute}
-use Rattle.definition.specs.Tree.{Expr, read, compare, Stmt, if, for, loop, Block, Program}
+use Rattle.definition.specs.Tree.{Expr, read, compare, Stmt, Program}
 use Rattle.definition.specs.Emit.{Call, emitCmpBr}
 use Rattle.definition.specs.Walk.{Calls, after, _>>=_, _>>_, say, newLabel}
 use Rattle.definition.specs.CompileExpr.{ClassifiedCmp, readOf, constantOf, zip, orClassified, classify, emitClassifiedCmpBr}
-use Rattle.definition.specs.Stmt.{Loops, while, repeat, shape, branchUnlessBy, branchUnless, countsDown, bound, endTestBy, emitFor, whileBy, emitWhile, repeatBy, emitRepeat, emitLoop, continues, emitStmt, emitBlock, emitRest, emitStmts}
+use Rattle.definition.specs.Stmt.{Loops, branchUnlessBy, branchUnless, countsDown, bound, endTestBy, emitFor, whileBy, emitWhile, repeatBy, emitRepeat, emitLoop, continues, emitStmt, emitBlock, emitRest, emitStmts}
 use Rattle.definition.specs.For.{Emits}
 use Rattle.definition.specs.Fused.{Tests, ofIf, ofWhile, ofRepeat, ofFor, FusedBranch, BranchOf}
 use Rattle.field.proofs.Results.{never, some-is}
