@@ -20,6 +20,7 @@ use Rattle.program_shape.specs.declared.Operand.{Operand}
 use Rattle.program_shape.specs.declared.Operand.the-variants as operand
 use Rattle.program_shape.specs.declared.Compared.{Compared}
 use Rattle.program_shape.specs.declared.Compared.the-variants as by
+use Rattle.program_shape.specs.declared.ClassifiedCmp as cmp
 use Rattle.program_shape.specs.declared.Condition.{Condition}
 use Rattle.program_shape.specs.declared.Condition.the-variants as condition
 use Rattle.program_shape.specs.declared.ExitIf.{ExitIf}
@@ -74,8 +75,11 @@ abbrev pub compared : Compared → Option CompareOp
 compared (by.By o) = some (compareView o)
 compared by.Other = none
 
+abbrev pub cmpView : cmp.ClassifiedCmp → ClassifiedCmp
+cmpView f = record { op = compareView (f .op); variable = f .variable; constant = f .constant }
+
 abbrev pub classified : Condition → Option ClassifiedCmp
-classified (condition.Fused o v k) = some (record { op = compareView o; variable = v; constant = k })
+classified (condition.Fused f) = some (cmpView f)
 classified condition.Other = none
 
 -- what `classify` makes of a comparison's sides

@@ -26,13 +26,16 @@ pub enum Compared {
     Other,
 }
 
-// A condition: one that CMP_BR tests, the variable on the left, or any other.
+// A comparison that one CMP_BR tests, the variable on the left.
+pub struct ClassifiedCmp {
+    pub op: CompareOp,
+    pub variable: u16,
+    pub constant: u32,
+}
+
+// A condition: one that CMP_BR tests, or any other.
 pub enum Condition {
-    Fused {
-        op: CompareOp,
-        variable: u16,
-        constant: u32,
-    },
+    Fused(ClassifiedCmp),
     Other,
 }
 
@@ -129,20 +132,20 @@ fn fuse(op: CompareOp, a: Operand, b: Operand) -> Condition
 {
     match a {
         Operand::Variable(v) => match b {
-            Operand::Constant(k) => Condition::Fused {
+            Operand::Constant(k) => Condition::Fused(ClassifiedCmp {
                 op: op,
                 variable: v,
                 constant: k,
-            },
+            }),
             Operand::Variable(_) => Condition::Other,
             Operand::Other => Condition::Other,
         },
         Operand::Constant(k) => match b {
-            Operand::Variable(v) => Condition::Fused {
+            Operand::Variable(v) => Condition::Fused(ClassifiedCmp {
                 op: op.commute(),
                 variable: v,
                 constant: k,
-            },
+            }),
             Operand::Constant(_) => Condition::Other,
             Operand::Other => Condition::Other,
         },
