@@ -25,7 +25,9 @@ use Rattle.emit.specs.declared.Emitter.{Emitter}
 use Rattle.opcode.specs.Table.{Good}
 use Rattle.emit.specs.View.{World, world, state, standing, view}
 use Rattle.emit.specs.Steps.{Fine, Begun, Did, run}
-use Rattle.runs.proofs.Finished.{each-so, labels-near, patches-inside}
+use Rattle.opcode.proofs.Sheets.{role-of-opcode}
+use Rattle.runs.proofs.Passes.{Reads, rules-fine}
+use Rattle.runs.proofs.Finished.{each-so, program-near, program-inside}
 use Rattle.compile.specs.declared.FinalizedFunction as ours
 use Rattle.compile.specs.declared.call.Answer.{Answer}
 use Rattle.compile.specs.declared.call.Outcome.{Outcome}
@@ -107,10 +109,13 @@ any-pool s rs e code book pool q = record { near = q .near; inside = q .inside }
 
 -- what emission gives can be patched
 pub patchable : (rules : List ℕ) (s : Sheet) (rs : List Rule) → Good s → readRules rules ≡ ok rs → (p : Program) (d : def.Emitter) → emitProgram s p ≡ ok d → Patchable s rs d
-patchable rules s rs g r p d q = record {
-  near = each-so (λ (x : PendingPatch) n. record { is = n }) (labels-near rules s rs g r p d q);
-  inside = each-so (λ (x : PendingPatch) n. record { is = n }) (patches-inside rules s rs g r p d q);
-}
+patchable rules s rs g r p d q =
+    let back : Reads s = role-of-opcode g in
+    let fine = rules-fine s back rules r in
+    record {
+      near = each-so (λ (x : PendingPatch) n. record { is = n }) (program-near s back rs fine p d q);
+      inside = each-so (λ (x : PendingPatch) n. record { is = n }) (program-inside s back rs fine p d q);
+    }
 
 -- the calls of a program's walk, run from an empty emitter, are its emission
 pub emitted : (s : Sheet) (p : Program) {e : Emitter} {v : World} (code book pool : List ℕ) → Begun (p .pos) e → Did (run s (emitStmts (p .body))) (world e code book pool) v → view v ≡ emitProgram s p

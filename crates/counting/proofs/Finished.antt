@@ -9,15 +9,17 @@ use lib.Dec.{eqb}
 use lib.ListN.{length, length-append}
 use borrow.Author.Tests.{eq-eqb, eqb-true}
 use Rattle.definition.specs.Field.{has}
-use Rattle.definition.specs.Opcode.{Role, Sheet, opcode, roleOf}
+use Rattle.definition.specs.Opcode.{Sheet, opcode}
 use Rattle.definition.specs.Rules.{Action, keep, matches}
 use Rattle.definition.specs.Emit.{le16, PendingPatch}
 use Rattle.definition.specs.Rewrite.{Bytes, boundariesFrom, actions, applied, output, OffsetMap, offsets, movedTo, applyPeephole}
 use Rattle.definition.specs.Optimize.{Pipeline, mapThrough, run, identity, optimize}
 use Rattle.definition.specs.Compile.{boundLabel, displacement, overwrite, patchJump, patchJumps}
 use Rattle.field.proofs.Lists.{has-here}
+use Rattle.runs.proofs.Passes.{Reads}
 use Rattle.runs.proofs.Decoding.{joined, Wholes, decode-joined}
 use Rattle.runs.proofs.Rows.{patchHere, to}
+use Rattle.runs.proofs.Running.{has-later}
 use Rattle.runs.proofs.Patched.{aimedOperand, aimed-length, patchWith, patch-one}
 use Rattle.counting.proofs.Rows.{Row, unpatched, operandOf, bytesOf, codeOf, patchesOf, Sized}
 
@@ -76,18 +78,10 @@ unfoldable pub Among : List ℕ → List ℕ → Type 0
 Among [] ys = Unit {0}
 Among (x ∷ xs) ys = (has ys x ≡ true) × Among xs ys
 
-has-later : (y x : ℕ) (xs : List ℕ) → has xs x ≡ true → has (y ∷ xs) x ≡ true
-unfolding has
-has-later y x xs e = go (eqb x y)
-  where
-    go : (b : Bool) → elim b [ true ↦ true | false ↦ has xs x ] ≡ true
-    go true = refl
-    go false = e
-
 among-later : (y : ℕ) (xs ys : List ℕ) → Among xs ys → Among xs (y ∷ ys)
 unfolding Among
 among-later y [] ys a = tt
-among-later y (x ∷ xs) ys a = (has-later y x ys (a .0), among-later y xs ys (a .1))
+among-later y (x ∷ xs) ys a = (has-later y ys x (a .0), among-later y xs ys (a .1))
 
 pub among-self : (xs : List ℕ) → Among xs xs
 unfolding Among
@@ -191,7 +185,7 @@ module _ (s : Sheet) (labels : List (Option ℕ)) (places : List ℕ) where
   patched-all rs a = patch-rows [] 0 rs refl a
 
 -- every row is whole, before and after patching, if the sheet knows its opcodes
-module _ (s : Sheet) (known : (r : Role) → roleOf s (opcode s r) ≡ some r) where
+module _ (s : Sheet) (known : Reads s) where
   pub wholes : (rs : List Row) → Sized s rs → Wholes s (instructionsOf s rs)
   unfolding Wholes instructionsOf Sized bytesOf
   wholes [] z = tt

@@ -13,7 +13,7 @@ use borrow.Author.Tests.{ltb-true, eq-eqb}
 use Rattle.definition.specs.Limits.{maxCode}
 use Rattle.definition.specs.Field.{has}
 use Rattle.definition.specs.Res.{ok, _>>=_}
-use Rattle.definition.specs.Opcode.{Role, Sheet, opcode, roleOf, comparisonByte, comparisonOf, Gt, loadVar, storeVar, loadConst, dup, arithmetic, Add, jmp, cmpBr, size, traits, row}
+use Rattle.definition.specs.Opcode.{Role, Sheet, comparisonByte, comparisonOf, Gt, loadVar, storeVar, loadConst, dup, arithmetic, Add, jmp, cmpBr, size, traits, row}
 use Rattle.definition.specs.Tree.{Program}
 use Rattle.definition.specs.Emit.{le16, Call, createLabel, bindLabel, loadVariable, storeVariable, loadConstant, emitOpcode, emitJmp, emitCmpBr, Last, other, loaded, stored, Emitter, emitterAt, indexOf, loadAfter, foldStore, folded, add, act, acts}
 use Rattle.definition.specs.Walk.{after}
@@ -30,6 +30,7 @@ use Rattle.counting.proofs.Laid.{Opening, Laid}
 use Rattle.counting.proofs.Once.{OneByte, OneBytes, bytes-left, bytes-right, binds, isBind, binds-append}
 use Rattle.field.proofs.Results.{ok-demand, ok-bind, ok-is}
 use Rattle.runs.proofs.Heights.{after-mono}
+use Rattle.runs.proofs.Passes.{Reads}
 use Rattle.runs.proofs.Decoding.{joined}
 use Rattle.runs.proofs.Later.{grown-here, acts-grown}
 use Rattle.runs.proofs.Emitted.{relabelled}
@@ -252,7 +253,7 @@ rows-append s (r ∷ A) B = ap (λ x. bytesOf s r ∷ x) (rows-append s A B)
 abbrev goalOf : Sheet → List Row → Emitter → ℕ → ℕ
 goalOf s rows e = goalIn s (e .labels) (boundariesFrom 0 (instructionsOf s rows))
 
-module _ (s : Sheet) (known : (r : Role) → roleOf s (opcode s r) ≡ some r) (rows : List Row) (e : Emitter) (formed : FormedBy s rows e) where
+module _ (s : Sheet) (known : Reads s) (rows : List Row) (e : Emitter) (formed : FormedBy s rows e) where
   finished : finalizeFunction s [] e .bytecode ≡ joined (finalRows s (goalOf s rows e) 0 rows)
   unfolding finalizeFunction
   finished =
@@ -429,7 +430,7 @@ begin-within : (s : Sheet) (p : Program) → Within s [] (emitterAt (p .pos))
 unfolding emitterAt codeOf patchesOf Sized Tail
 begin-within s p = record { more = []; formed = record { is = refl; patches = refl; sized = tt; short = omega arith }; tail = tt }
 
-module _ (s : Sheet) (known : (r : Role) → roleOf s (opcode s r) ≡ some r) (greater : comparisonOf s (comparisonByte s Gt) ≡ some Gt) (p : Program) (f : For) (before behind : List Call) (loops : Loops) (e : Emitter)
+module _ (s : Sheet) (known : Reads s) (greater : comparisonOf s (comparisonByte s Gt) ≡ some Gt) (p : Program) (f : For) (before behind : List Call) (loops : Loops) (e : Emitter)
     (once : (l : ℕ) → binds l (before ++ (loadConstant (f .from) ∷ rest₁ f (after 0 before) (bodyOf f loops (after 0 before)) behind)) ≤ 1)
     (bytes : OneBytes (before ++ (loadConstant (f .from) ∷ rest₁ f (after 0 before) (bodyOf f loops (after 0 before)) behind)))
     (x : Emission s p f (after 0 before) before (bodyOf f loops (after 0 before)) behind e) where

@@ -7,9 +7,8 @@ use mathlib.Core.Option.{some}
 use native.Mathlib.Omega.{arith}
 use lib.Dec.{ltb}
 use borrow.Author.Tests.{lt-leb}
-use Rattle.definition.specs.Limits.{width, badSheet}
-use Rattle.definition.specs.Res.{ok, given}
-use Rattle.definition.specs.Rules.{readRules}
+use Rattle.definition.specs.Limits.{width}
+use Rattle.definition.specs.Res.{ok}
 use Rattle.definition.specs.Program.{readProgram}
 use Rattle.definition.specs.Opcode.{Sheet, Gt}
 use Rattle.definition.specs.Sheet.{readSheet}
@@ -17,7 +16,7 @@ use Rattle.definition.specs.Tree.{Program}
 use Rattle.definition.specs.Emit.{loadConstant, Emitter, emitterAt, acts}
 use Rattle.definition.specs.Walk.{after}
 use Rattle.definition.specs.Stmt.{countsDown, emitStmts}
-use Rattle.definition.specs.Compile.{FinalizedFunction, finalizeFunction, emitProgram, compileProgram, compileFiles}
+use Rattle.definition.specs.Compile.{FinalizedFunction, finalizeFunction, emitProgram, compileFiles}
 use Rattle.definition.specs.Claims.{Either, left, right}
 use Rattle.opcode.proofs.Faults.{good}
 use Rattle.opcode.proofs.Sheets.{role-of-opcode, comparison-of-byte}
@@ -29,7 +28,8 @@ use Rattle.counting.proofs.Numbers.{IsWidth, counts}
 use Rattle.counting.proofs.Counting.{counted, first-ends}
 use Rattle.counting.proofs.Once.{OneBytes, below, binds, program-once, program-bytes}
 use Rattle.rules.proofs.File.{no-rules}
-use Rattle.field.proofs.Results.{ok-bind, ok-is, ok-given, some-is}
+use Rattle.field.proofs.Results.{ok-is, some-is}
+use Rattle.runs.proofs.Safe.{compiled}
 use Rattle.counting.proofs.ForCalls.{for-calls}
 use Rattle.counting.proofs.LaidOut.{rest₀, rest₁, rest₂, rest₅, Emission, emission, laid-out, places-are}
 
@@ -77,17 +77,24 @@ carried m m′ g g′ v from to by p q l =
 
 -- ---- from the three files on: an empty rule file has no rules
 
-compiled-from : (place : ℕ) (sheet program : List ℕ) (s : Sheet) (p : Program) (c : FinalizedFunction) → readSheet sheet ≡ some s → readProgram program ≡ ok p
-    → compileFiles place sheet [] program ≡ ok c → compileProgram s [] p ≡ ok c
-unfolding compileFiles
-compiled-from place sheet program s p c a b h =
-    let x = ok-bind (given (readSheet sheet) badSheet place) _ c h in
-    let y = ok-bind (readRules []) _ c (x .2) in
-    let z = ok-bind (readProgram program) _ c (y .2) in
-    let sheetIs : x .0 ≡ s = some-is (sym (ok-given (readSheet sheet) badSheet place (x .0) (x .1)) ∙ a) in
-    let rulesAre : y .0 ≡ [] = ok-is (sym no-rules ∙ y .1) in
-    let programIs : z .0 ≡ p = ok-is (sym b ∙ z .1) in
-    subst (λ t. compileProgram t [] p ≡ ok c) sheetIs (subst (λ rs. compileProgram (x .0) rs p ≡ ok c) rulesAre (subst (λ q. compileProgram (x .0) (y .0) q ≡ ok c) programIs (z .2)))
+-- what a call that was not refused emitted and finished, where this was read
+record Emitted (s : Sheet) (p : Program) (c : FinalizedFunction) : Type 0 where
+  e : Emitter
+  emits : emitProgram s p ≡ ok e
+  finish : finalizeFunction s [] e ≡ c
+
+emitted-from : (place : ℕ) (sheet program : List ℕ) (s : Sheet) (p : Program) (c : FinalizedFunction) → readSheet sheet ≡ some s → readProgram program ≡ ok p
+    → compileFiles place sheet [] program ≡ ok c → Emitted s p c
+emitted-from place sheet program s p c a b h =
+    let k = compiled place sheet [] program c h in
+    let sheetIs : k .s ≡ s = some-is (sym (k .sheetRead) ∙ a) in
+    let rulesAre : k .rs ≡ [] = ok-is (sym no-rules ∙ k .rulesRead) in
+    let programIs : k .p ≡ p = ok-is (sym b ∙ k .programRead) in
+    record {
+      e = k .e;
+      emits = subst (λ t. emitProgram t p ≡ ok (k .e)) sheetIs (subst (λ q. emitProgram (k .s) q ≡ ok (k .e)) programIs (k .emission));
+      finish = subst (λ t. finalizeFunction t [] (k .e) ≡ c) sheetIs (subst (λ rs. finalizeFunction (k .s) rs (k .e) ≡ c) rulesAre (sym (k .finish)));
+    }
 
 -- In what was compiled with an empty rule file, a FOR over constants that counts up by 1 or more, from ≤ to, with to plus step still a signed
 -- number of the values' width, makes (to − from) ÷ step + 1 passes from any state at its first place with an empty stack, if its body always ends,
@@ -97,18 +104,17 @@ pub in-files : (place : ℕ) (sheet program : List ℕ) (s : Sheet) (p : Program
     → (f : For) (o : Emits p (forStmt f)) → CountsUp width (f .from) (f .to) (f .step)
     → (x : State) → x .place ≡ placesOf s p f o .first → x .stack ≡ [] → AlwaysEnds (imageOf s c) (placesOf s p f o) (f .control) x
     → Makes (imageOf s c) (placesOf s p f o) x (upCount width (f .from) (f .to) (f .step))
-unfolding compileProgram emitProgram imageOf
-in-files place sheet program s p c sheetRead programRead compiled f o u x a b d =
+unfolding emitProgram imageOf
+in-files place sheet program s p c sheetRead programRead answered f o u x a b d =
     let g = good sheet s sheetRead in
-    let q = ok-bind (emitProgram s p) _ c (compiled-from place sheet program s p c sheetRead programRead compiled) in
-    let e : Emitter = q .0 in
-    let same : finalizeFunction s [] e ≡ c = sym (ok-is (q .2)) in
+    let q = emitted-from place sheet program s p c sheetRead programRead answered in
+    let e : Emitter = q .e in
     let n = after 0 (o .before) in
     let body = bodyOf f (o .loops) n in
     let calls = calls-are p f o (counts-up (f .step) (counts width (f .step) (u .up) .1 .1)) in
-    let em : Emission s p f n (o .before) body (o .behind) e = emission s p f n (o .before) body (o .behind) e (subst (λ cs. acts s cs (emitterAt (p .pos)) ≡ ok e) calls (q .1)) in
+    let em : Emission s p f n (o .before) body (o .behind) e = emission s p f n (o .before) body (o .behind) e (subst (λ cs. acts s cs (emitterAt (p .pos)) ≡ ok e) calls (q .emits)) in
     let laid = laid-out s (λ r. role-of-opcode g r) (comparison-of-byte g Gt) p f (o .before) (o .behind) (o .loops) e
     (λ l. subst (λ cs. binds l cs ≤ 1) calls (at-most-once p l)) (subst (λ cs. OneBytes cs) calls (program-bytes (p .body))) em in
     concludes (imageOf s c) (placesOf s p f o) (f .control) (f .from) (f .to) (f .step)
-    (carried _ (imageOf s c) _ (placesOf s p f o) (f .control) (f .from) (f .to) (f .step) (ap (λ k. imageOf s k) same) (sym (places-are s p f o e em)) laid)
+    (carried _ (imageOf s c) _ (placesOf s p f o) (f .control) (f .from) (f .to) (f .step) (ap (λ k. imageOf s k) (q .finish)) (sym (places-are s p f o e em)) laid)
     valueWidth u x a b d

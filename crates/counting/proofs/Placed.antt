@@ -15,6 +15,7 @@ use Rattle.definition.specs.Opcode.{Role, Sheet, opcode, roleOf, size}
 use Rattle.definition.specs.Rewrite.{Bytes, decode, startsFrom, boundariesFrom}
 use Rattle.definition.specs.Compile.{displacement}
 use Rattle.definition.specs.Runs.{target}
+use Rattle.runs.proofs.Passes.{Reads}
 use Rattle.runs.proofs.Decoding.{joined, Whole, Wholes, decode-joined}
 use Rattle.runs.proofs.Patched.{reached, reached-back, aimedOperand}
 use Rattle.definition.specs.Machine.{Image, operandAt, isStart, roleAt}
@@ -132,7 +133,7 @@ target-at m p r i n next t h l e a b x y =
 
 -- ---- finished code
 
-module _ (s : Sheet) (known : (r : Role) → roleOf s (opcode s r) ≡ some r) (goal : ℕ → ℕ) (rows : List Row) (sized : Sized s rows) (m : Image)
+module _ (s : Sheet) (known : Reads s) (goal : ℕ → ℕ) (rows : List Row) (sized : Sized s rows) (m : Image)
     (sheet : s ≡ m .sheet) (code : m .bytecode ≡ joined (finalRows s goal 0 rows)) where
   -- the instructions before a row, it, and those behind it
   cut-at : (A : List Row) (r : Row) (C : List Row) (p : ℕ) → rows ≡ A ++ (r ∷ C) → p ≡ length (codeOf s A)

@@ -4,15 +4,25 @@ use mathlib.Core.Path.{_≡_}
 use mathlib.Core.List.{List, [], _∷_, map}
 use mathlib.Core.Bool.{Bool, true, false}
 use mathlib.Core.Option.{Option, some, none}
-use lib.ListN.{length, getD}
+use lib.ListN.{length, getD, take}
+use Rattle.definition.specs.Limits.{maxCode, width}
+use Rattle.definition.specs.Res.{ok}
 use Rattle.definition.specs.Field.{has}
 use Rattle.definition.specs.Opcode.{Role, Sheet, roleOf, size, Flow, onward, away, either, stop, flow}
-use Rattle.definition.specs.Rules.{Rule, matches}
+use Rattle.definition.specs.Sheet.{readSheet}
+use Rattle.definition.specs.Rules.{Rule, matches, readRules}
+use Rattle.definition.specs.Tree.{Program}
+use Rattle.definition.specs.Program.{readProgram}
 use Rattle.definition.specs.Rewrite.{Bytes, opcodeOf, decode, startsFrom, OffsetMap, movedTo, applyPeephole}
 use Rattle.definition.specs.Optimize.{Pipeline, run, identity}
 use Rattle.definition.specs.Emit.{Emitter, PendingPatch}
-use Rattle.definition.specs.Compile.{jumpTargets}
-use Rattle.definition.specs.Runs.{Break, finishes, breaks, Stand, target}
+use Rattle.definition.specs.Stmt.{emitStmts}
+use Rattle.definition.specs.Compile.{jumpTargets, emitProgram, Answer}
+use Rattle.definition.specs.Runs.{State, Break, finishes, breaks, Stand, start, target}
+use Rattle.definition.specs.Runs as runs
+use Rattle.definition.specs.Machine.{Image}
+use Rattle.definition.specs.Fused.{FusedBranch, Decides}
+use Rattle.definition.specs.For.{placeAfter}
 
 pub data Either (A B : Type 0) : Type 0 where
   left : A → Either A B
@@ -99,3 +109,51 @@ pub record Branches (s : Sheet) (rules : List Rule) (e : Emitter) (code : List �
   pub emitted : branchPlaces s (e .bytecode) ≡ map (λ (p : PendingPatch). p .instructionOffset) (e .patches)
   pub finished : branchPlaces s code ≡ map (λ x. inTurn s rules (e .bytecode) (jumpTargets e) x) (branchPlaces s (e .bytecode))
   pub leads : Each (λ p. BranchLeads s rules e code p) (e .patches)
+
+-- ---- fused comparisons
+
+-- a fused branch stands in finished code where the three maps move the place at which it is emitted, and a run with values goes from
+-- there to where they move the place where its label is bound, exactly where IEC's comparison of its condition asks for it
+pub record FusedLeads (s : Sheet) (rules : List Rule) (p : Program) (e : Emitter) (m : Image) (b : FusedBranch (emitStmts (p .body) 0 .1)) : Type 0 where
+  pub bound : ℕ
+  pub binds : getD (e .labels) (b .label) none ≡ some bound
+  pub decides : Decides m (inTurn s rules (e .bytecode) (jumpTargets e) (placeAfter s p (b .before))) (inTurn s rules (e .bytecode) (jumpTargets e) bound) (b .on) (b .condition)
+
+-- ---- all of it
+
+-- finished code, with its constants and its depth, of a program p that is emitted as e
+pub record SafeCode (s : Sheet) (rules : List Rule) (p : Program) (e : Emitter) (code constants : List ℕ) (depth : ℕ) : Type 0 where
+  pub runs : (outcomes : List Bool) (n : ℕ) → Fine s code depth (runs.run s code n (start outcomes))
+  pub branches : Branches s rules e code
+  pub fused : (b : FusedBranch (emitStmts (p .body) 0 .1)) → FusedLeads s rules p e (record { width = width; sheet = s; bytecode = code; constants = constants }) b
+
+-- what a call that answers number 0 read and emitted, and what is claimed of the code that its outputs hold
+pub record Safe (sheet rules program : List ℕ) (a : Answer) : Type 0 where
+  pub s : Sheet
+  pub rs : List Rule
+  pub tree : Program
+  pub e : Emitter
+  pub sheetRead : readSheet sheet ≡ some s
+  pub rulesRead : readRules rules ≡ ok rs
+  pub programRead : readProgram program ≡ ok tree
+  pub emission : emitProgram s tree ≡ ok e
+  pub whole : length (take (a .codeLength) (a .code)) ≡ a .codeLength
+  pub fits : a .codeLength ≤ maxCode
+  pub safe : SafeCode s rs tree e (take (a .codeLength) (a .code)) (take (a .constantCount) (a .constants)) (a .depth)
+
+-- ---- heights by place: no claim of document 01
+
+-- Each place of some code has one height, `heightAt`: a run that stands there, over whatever outcomes and after however many steps, has it
+-- (`held`). So has one that begins at any start or the end, reached or not, at that place's height, if that is not over the depth, and it is
+-- fine (`from`).
+pub record OneHeight (s : Sheet) (code : List ℕ) (depth : ℕ) : Type 0 where
+  pub heightAt : ℕ → ℕ
+  pub first : heightAt 0 ≡ 0
+  pub held : (outcomes : List Bool) (n : ℕ) → runs.run s code n (start outcomes) .state .height ≡ heightAt (runs.run s code n (start outcomes) .state .place)
+  pub from : (x : State) → Either (has (startsFrom 0 (decode s code)) (x .place) ≡ true) (x .place ≡ length code) → x .height ≡ heightAt (x .place) → x .height ≤ depth → (n : ℕ)
+      → Fine s code depth (runs.run s code n x) × (runs.run s code n x .state .height ≡ heightAt (runs.run s code n x .state .place))
+
+-- `unfolding open-Claims` names all of this module's definitions at once
+unfoldable pub open-Claims : Unit {0}
+unfolding branches isBranch branchesFrom branchPlaces unmoved passMap inTurn
+open-Claims = tt

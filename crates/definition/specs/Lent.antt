@@ -3,7 +3,7 @@ use Prim.Native.Nat.{ℕ, _-_, _/_, suc, zero}
 use mathlib.Core.List.{List, [], _∷_, _++_}
 use lib.ListN.{length, getD, drop}
 use Rattle.definition.specs.Limits.{entrySize}
-use Rattle.definition.specs.Tree.{Pos}
+use Rattle.definition.specs.Tree.{posNumbers, posOf}
 use Rattle.definition.specs.Emit.{LineEntry}
 
 unfoldable pub zeros : ℕ → List ℕ
@@ -14,19 +14,12 @@ zeros (suc n) = 0 ∷ zeros n
 unfoldable pub filled : ℕ → List ℕ → List ℕ
 filled room xs = xs ++ zeros (room - length xs)
 
--- a position's numbers, and the position that stands at the start of some numbers
-unfoldable pub posNumbers : Pos → List ℕ
-posNumbers p = p .line ∷ p .column ∷ []
-
-unfoldable pub posIn : List ℕ → Pos
-posIn ns = record { line = getD ns 0 0; column = getD ns 1 0 }
-
--- a line entry's, entrySize of them
+-- a line entry's numbers, entrySize of them
 unfoldable pub oneEntry : LineEntry → List ℕ
 oneEntry x = x .offset ∷ posNumbers (x .pos)
 
 unfoldable pub entryIn : List ℕ → LineEntry
-entryIn ns = record { offset = getD ns 0 0; pos = posIn (drop 1 ns) }
+entryIn ns = record { offset = getD ns 0 0; pos = posOf (drop 1 ns) }
 
 -- a line list as numbers
 unfoldable pub entryNumbers : List LineEntry → List ℕ
@@ -43,5 +36,5 @@ entriesOf ns = firstEntries (length ns / entrySize) ns
 
 -- `unfolding open-Lent` names all of this module's definitions at once
 unfoldable pub open-Lent : Unit {0}
-unfolding zeros filled posNumbers posIn oneEntry entryIn entryNumbers firstEntries entriesOf
+unfolding zeros filled posNumbers posOf oneEntry entryIn entryNumbers firstEntries entriesOf
 open-Lent = tt

@@ -18,10 +18,10 @@ pub mod Lent
 pub mod Compile
 pub mod Alone
 pub mod Runs
-pub mod Claims
-pub mod Fused
 pub mod Machine
 pub mod For
+pub mod Fused
+pub mod Claims
 pub mod Count
 pub mod Listing
 pub mod Passes

@@ -2,7 +2,7 @@
 -- Values are two's complement bits. Where Runs has a height and a list of outcomes, this has a stack and variables, and decides branches itself;
 -- what a step of it is in Runs stands at the end.
 use Prim.Native.Nat.{ℕ, _+_, _-_, _*_, _%_, _^_, suc, zero}
-use mathlib.Core.List.{List, [], _∷_}
+use mathlib.Core.List.{List, [], _∷_, _++_}
 use mathlib.Core.Bool.{Bool, true, false, not, _&&_, _||_}
 use mathlib.Core.Option.{Option, some, none}
 use lib.Dec.{eqb}
@@ -197,6 +197,11 @@ outcomeOf (some r) m x = outcomeIf (flow r) (elim (hasRole cmpBr (some r)) [
 unfoldable pub decided : Image → State → List Bool
 decided m x = outcomeOf (roleAt m (x .place)) m x
 
+-- those of a run's first n steps
+unfoldable pub decidedIn : Image → ℕ → State → List Bool
+decidedIn m zero x = []
+decidedIn m (suc n) x = decided m x ++ andThen (step m x) [] (λ y. decidedIn m n y)
+
 -- a step from x as Runs has it. Where the machine stops at a zero divisor, Runs goes on as past any division
 unfoldable pub stepInRuns : State → List Bool → Step → runs.Step
 stepInRuns x os (goes y) = runs.goes (inRuns y os)
@@ -206,5 +211,5 @@ stepInRuns x os (breaks b) = runs.breaks b
 
 -- `unfolding open-Machine` names all of this module's definitions at once
 unfoldable pub open-Machine : Unit {0}
-unfolding imageOf wrapped onNumbers truth bit differ dividedBy calculate decide operandAt constantAt compares at stored popOne popTwo leadsTo calculated branchIf execute executeIf isStart roleAt step andThen afterSteps inRuns outcomeIf outcomeOf decided stepInRuns
+unfolding imageOf wrapped onNumbers truth bit differ dividedBy calculate decide operandAt constantAt compares at stored popOne popTwo leadsTo calculated branchIf execute executeIf isStart roleAt step andThen afterSteps inRuns outcomeIf outcomeOf decided decidedIn stepInRuns
 open-Machine = tt

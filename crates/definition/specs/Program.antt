@@ -12,7 +12,7 @@ use Rattle.definition.specs.Res.{Res, ok, refuse, _>>=_, _>>_, demand}
 use Rattle.definition.specs.Field.{lf, comma, split, firstLine, Field, upTo, below, Numbers, wrong, far, are, numbers}
 use Rattle.definition.specs.Field as fields
 use Rattle.definition.specs.Opcode.{Add, BinaryOp, Arithmetic, binaryOps, UnaryOp, Neg, BoolNot, CompareOp, Eq, Ne, Lt, Le, Gt, Ge, ShortCircuitOp, AndThen, OrElse}
-use Rattle.definition.specs.Tree.{Constant, Pos, Source, Fault, Expr, const, bool, read, binary, unary, compare, shortCircuit, bad, CaseLabel, value, range, badLabel, Stmt, assign, if, case, for, loop, exit, continue, return, badStmt, Block, done, _then_, Arms, noArms, arm, badArm, Program}
+use Rattle.definition.specs.Tree.{Constant, Pos, posNumbers, posOf, Source, Fault, Expr, const, bool, read, binary, unary, compare, shortCircuit, bad, CaseLabel, value, range, badLabel, Stmt, assign, if, case, for, loop, exit, continue, return, badStmt, Block, done, _then_, Arms, noArms, arm, badArm, Program}
 
 -- ---- one line
 
@@ -85,10 +85,7 @@ signed = fields.value width
 unfoldable pub posFields : List Field
 posFields = any ∷ any ∷ []
 
--- the position that numbers begin with, and the numbers behind it
-unfoldable pub posOf : List ℕ → Pos
-posOf ns = record { line = num ns 0; column = num ns 1 }
-
+-- the numbers behind the position that they begin with
 unfoldable pub behindPos : List ℕ → List ℕ
 behindPos ns = drop (length posFields) ns
 
@@ -326,5 +323,5 @@ readProgram text = do
 
 -- `unfolding open-Program` names all of this module's definitions at once
 unfoldable pub open-Program : Unit {0}
-unfolding form made byLetter lineOf lineAt refusal nextLine faultAt num posFields posOf behindPos placed headerForms stmtForms exprForms armForms labelForms exprOf exprBy exprAt labelBy labelsAt blockOf armBy armsAt stmtOf stmtBy stmtAt orElse faultOfExpr faultOfLabels faultOfStmt endsInLF headerOf noFault topStmts readProgram
+unfolding form made byLetter lineOf lineAt refusal nextLine faultAt num posFields posNumbers posOf behindPos placed headerForms stmtForms exprForms armForms labelForms exprOf exprBy exprAt labelBy labelsAt blockOf armBy armsAt stmtOf stmtBy stmtAt orElse faultOfExpr faultOfLabels faultOfStmt endsInLF headerOf noFault topStmts readProgram
 open-Program = tt

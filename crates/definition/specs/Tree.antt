@@ -1,15 +1,23 @@
 -- The tree that a program's lines spell (the source's lowered statements and expressions). It is read from any bytes: where the text
 -- is at fault there is a leaf `bad` with the refusal, and emission refuses at it.
 use Prim.Native.Nat.{ℕ}
-use mathlib.Core.List.{List, []}
+use mathlib.Core.List.{List, [], _∷_}
 use mathlib.Core.Bool.{Bool}
 use lib.Dec.{eqb}
+use lib.ListN.{getD}
 use Rattle.definition.specs.Opcode.{BinaryOp, UnaryOp, CompareOp, ShortCircuitOp}
 
 -- a source position
 pub record Pos : Type 0 where
   pub line : ℕ
   pub column : ℕ
+
+-- its numbers, in the order of its fields, and the position that some numbers begin with
+unfoldable pub posNumbers : Pos → List ℕ
+posNumbers p = p .line ∷ p .column ∷ []
+
+unfoldable pub posOf : List ℕ → Pos
+posOf ns = record { line = getD ns 0 0; column = getD ns 1 0 }
 
 -- a statement's position, and the file line on which the statement stands
 pub record Source : Type 0 where

@@ -20,6 +20,7 @@ use Rattle.emit.specs.View.{world, state, patchView}
 use Rattle.emit.specs.Steps.{Step, Did, Fine, Coded, Filled}
 use Rattle.emit.specs.Parts.{counted, Noted, Branched, Added, cmpOperand, patching, Interns}
 use Rattle.emit.proofs.Tables.{rows-more, rows-behind, rows-before, patch-back, patch-long}
+use Rattle.emit.proofs.Kept.{kept-self, kept-then, patch-tails}
 use Rattle.emit.proofs.Steps.{stays, goes, by-step, then, size-of}
 use Rattle.emit.proofs.Instructions.{coded-by}
 
@@ -31,7 +32,7 @@ patch-fits h more on = let q = more on in omega (arith, h .size)
 
 module _ (p : def.PendingPatch) {e : Emitter} {book : List ℕ} (h : Fine e) (slots : length book ≡ bookSize) where
   pub patch-stays : (e .refused ≡ 0 → ⊥) → Noted (patching p) e book e book
-  patch-stays off = record { fine = h; slots = slots; did = λ code pool room. stays (patching p) off }
+  patch-stays off = record { fine = h; slots = slots; kept = λ code pool. kept-self (world e code book pool); did = λ code pool room. stays (patching p) off }
 
   pub patch-goes : {book′ : List ℕ} → e .refused ≡ 0 → Branched e → book′ ≡ sets book (patchBase + patchSize * e .patches) (patchNumbers p) → Noted (patching p) e book (counted e (e .labels) (e .patches + 1) (e .lines) (e .constants)) book′
   unfolding patched
@@ -41,8 +42,15 @@ module _ (p : def.PendingPatch) {e : Emitter} {book : List ℕ} (h : Fine e) (sl
       let j = patchBase + patchSize * e .patches in
       let ns = patchNumbers p in
       rw put (record {
-        fine = record { size = h .size; labels = h .labels; patches = omega arith; lines = h .lines; constants = h .constants; last = h .last; depth = h .depth; deepest = h .deepest };
+        fine = record { size = h .size; labels = h .labels; patches = omega arith; lines = h .lines; constants = h .constants; last = h .last; depth = h .depth; deepest = h .deepest; place = h .place };
         slots = length-sets book j ns ∙ slots;
+        kept = λ code pool. record {
+          grown = record { size = omega arith; labels = omega arith; patches = omega arith; lines = omega arith; constants = omega arith };
+          code = refl;
+          book = patch-tails (counted e (e .labels) (e .patches + 1) (e .lines) (e .constants)) ns book (e .patches) (patch-long p) few (omega arith);
+          pool = refl;
+          sticky = λ z. absurd (z on);
+        };
         did = λ code pool room. goes (patching p) (world e code book pool) (world (counted e (e .labels) (e .patches + 1) (e .lines) (e .constants)) code (sets book j ns) pool) on on
             (rw (
               rows-more patchIn patchBase patchSize ns book (e .patches) (patch-long p) (omega arith),
@@ -63,7 +71,7 @@ branch-did s r operand p {e} {code = code} h room is a b = by-step (λ on. rw (s
 pub branch-done : (s : Sheet) (r : Role) (p : def.PendingPatch) {e m u : Emitter} {code book code′ book′ book″ : List ℕ} → Fine e → length code ≡ maxCode → p .instructionOffset ≡ e .size
     → Added s r (le16 0) Other e code book m code′ book′ → Noted (patching p) m book′ u book″ → Coded (branch s r [] (p .operandDelta) (p .label)) e code book u code′ book″
 branch-done s r p {code′ = code′} h room is a n =
-    record { fine = n .fine; room = a .coded .room; slots = n .slots; did = λ pool. branch-did s r [] p h room is (a .coded .did pool) (n .did code′ pool (a .coded .room)) }
+    record { fine = n .fine; room = a .coded .room; slots = n .slots; kept = λ pool. kept-then (a .coded .kept pool) (n .kept code′ pool); did = λ pool. branch-did s r [] p h room is (a .coded .did pool) (n .did code′ pool (a .coded .room)) }
 
 module _ (s : Sheet) (l : ℕ) {x : ℕ} {p : def.PendingPatch} {e u : Emitter} {code book code′ book′ : List ℕ} (is : p ≡ record { instructionOffset = x; operandDelta = jmpOperandDelta; label = l }) where
   pub jmp-done : Coded (branch s jmp [] (p .operandDelta) (p .label)) e code book u code′ book′ → Coded (act s (emitJmp l)) e code book u code′ book′
@@ -84,5 +92,6 @@ cmp-br-done s c v k l {p = p} {i = i} {code = code} {book = book} {code′ = cod
     let d = branch-did s cmpBr (comparisonByte s c ∷ le16 v ++ le16 (i .index)) p (q .pooled .fine) room (ap (λ (z : def.PendingPatch). z .instructionOffset) is ∙ at) (a .coded .did pool′) (n .did code′ pool′ (a .coded .room)) in
     record {
       ready = record { fine = n .fine; room = a .coded .room; slots = n .slots; long = q .pooled .long };
+      kept = kept-then (q .pooled .kept code book) (kept-then (a .coded .kept pool′) (n .kept code′ pool′));
       did = then (q .pooled .did s code book) (by-step (λ on. rw (← (q .index on))) (rw is at d));
     }

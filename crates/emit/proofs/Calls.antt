@@ -18,8 +18,9 @@ use Rattle.definition.specs.Walk as walk
 use Rattle.emit.specs.Book.{labelSize, labelBase, labelIn}
 use Rattle.emit.specs.declared.Emitter as code
 use Rattle.emit.specs.View.{World, world, state, view}
-use Rattle.emit.specs.Steps.{Did, Filled, Begun, run}
+use Rattle.emit.specs.Steps.{Did, Ready, Filled, Begun, run}
 use Rattle.emit.proofs.Tables.{length-rows}
+use Rattle.emit.proofs.Kept.{kept-self, kept-then}
 use Rattle.emit.proofs.Steps.{then, by-step}
 
 acts-append : (s : Sheet) (a b : List Call) (e : Emitter) → acts s (a ++ b) e ≡ acts s a e >>= (λ x. acts s b x)
@@ -165,13 +166,16 @@ module _ (s : Sheet) where
 
   -- the same with what is ready for the next step
   pub seq-filled : (m k : Calls) {w v u : World} → Filled (run s m) w v → Filled (run s k) v u → Filled (run s (walk._>>_ m k)) w u
-  seq-filled m k a b = record { ready = b .ready; did = seq m k (a .did) (b .did) }
+  seq-filled m k a b = record { ready = b .ready; kept = kept-then (a .kept) (b .kept); did = seq m k (a .did) (b .did) }
 
   pub said-filled : (c : Call) {w v : World} → Filled (act s c) w v → Filled (run s (say c)) w v
-  said-filled c a = record { ready = a .ready; did = said c (a .did) }
+  said-filled c a = record { ready = a .ready; kept = a .kept; did = said c (a .did) }
 
   pub fresh-filled : (h l : ℕ) (f : ℕ → Calls) {w v u : World} → l ≡ w .e .labels → Filled (act s (createLabel h)) w v → Filled (run s (f l)) v u → Filled (run s (walk._>>=_ (newLabel h) f)) w u
-  fresh-filled h l f is a b = record { ready = b .ready; did = fresh h l f is (a .did) (b .did) }
+  fresh-filled h l f is a b = record { ready = b .ready; kept = kept-then (a .kept) (b .kept); did = fresh h l f is (a .did) (b .did) }
+
+  pub none-filled : (w : World) → Ready w → Filled (run s nothing) w w
+  none-filled w r = record { ready = r; kept = kept-self w; did = none-done w }
 
   -- a walk from the first state on: its labels are numbered from 0
   pub begun-acts : (m : Calls) {p : Pos} {r : code.Emitter} {bytes book pool : List ℕ} {v : World} → Begun p r → Did (run s m) (world r bytes book pool) v → view v ≡ acts s (m 0 .1) (emitterAt p)

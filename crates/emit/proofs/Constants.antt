@@ -8,7 +8,7 @@ use native.Mathlib.Omega.{arith}
 use borrow.Author.Tests.{le-ltb, lt-ltb, eq-eqb, ne-eqb, eqb-true, eqb-false}
 use lib.Dec.{eqb}
 use lib.ListN.{length, take, set, getD, length-set}
-use lib.Seq.{length-take-le, getD-take, take-suc-set}
+use lib.Seq.{length-take-le, getD-take, take-suc-set, drop-set-lt}
 use Rattle.definition.specs.Limits.{maxCode, maxConstants, constantsFull}
 use Rattle.definition.specs.Res.{Res, ok, refuse, _>>=_, _>>_, demand}
 use Rattle.definition.specs.Opcode.{Sheet, loadConst}
@@ -20,6 +20,7 @@ use Rattle.emit.specs.declared.Last.the-variants.{Other}
 use Rattle.emit.specs.View.{world, state}
 use Rattle.emit.specs.Steps.{Did, Fine, Bare, Pooled, Coded, Filled}
 use Rattle.emit.specs.Parts.{counted, Added, Interns}
+use Rattle.emit.proofs.Kept.{tails-self, kept-self, kept-then}
 use Rattle.emit.proofs.Steps.{stays, goes, by-step, stops, then, is-refused, count-of}
 
 -- ---- the lookup
@@ -77,7 +78,7 @@ module _ (pool : List ℕ) (n k : ℕ) where
 
 module _ (k : ℕ) {e : Emitter} {pool : List ℕ} (h : Fine e) (long : length pool ≡ maxConstants) where
   pub intern-stays : (e .refused ≡ 0 → ⊥) → Interns k e pool (record { emitter = e; index = 0 }) pool
-  intern-stays off = record { pooled = record { fine = h; long = long; did = λ s code book. stays (act s (addConstant k)) off }; index = λ z. absurd (off z) }
+  intern-stays off = record { pooled = record { fine = h; long = long; kept = λ code book. kept-self (world e code book pool); did = λ s code book. stays (act s (addConstant k)) off }; index = λ z. absurd (off z) }
 
   module _ {i x : ℕ} (is : i ≡ indexOf k (take (e .constants) pool)) (is-x : x ≡ i) where
     pub intern-has : e .refused ≡ 0 → i < e .constants → Interns k e pool (record { emitter = e; index = x }) pool
@@ -86,6 +87,7 @@ module _ (k : ℕ) {e : Emitter} {pool : List ℕ} (h : Fine e) (long : length p
       pooled = record {
         fine = h;
         long = long;
+        kept = λ code book. kept-self (world e code book pool);
         did = λ s code book. goes (act s (addConstant k)) (world e code book pool) (world e code book pool) on on (rw (count-of pool h long, ← is, lt-ltb _ _ few));
       };
       index = λ z. is-x ∙ is;
@@ -98,6 +100,7 @@ module _ (k : ℕ) {e : Emitter} {pool : List ℕ} (h : Fine e) (long : length p
         pooled = record {
           fine = b .fine;
           long = long;
+          kept = λ code book. b .kept code book pool;
           did = λ s code book. stops (act s (addConstant k)) constantsFull 0 code book pool b (rw (count-of pool h long, ← is, le-ltb _ _ absent, count-of pool h long, le-ltb _ _ full));
         };
         index = λ z. absurd (is-refused b z);
@@ -112,8 +115,15 @@ module _ (k : ℕ) {e : Emitter} {pool : List ℕ} (h : Fine e) (long : length p
           let new : indexOf k (take (e .constants) pool ++ (k ∷ [])) ≡ length (take (e .constants) pool) = index-new (take (e .constants) pool) k (rw (count, ← is) absent) in
           record {
             pooled = record {
-              fine = record { size = h .size; labels = h .labels; patches = h .patches; lines = h .lines; constants = omega arith; last = h .last; depth = h .depth; deepest = h .deepest };
+              fine = record { size = h .size; labels = h .labels; patches = h .patches; lines = h .lines; constants = omega arith; last = h .last; depth = h .depth; deepest = h .deepest; place = h .place };
               long = length-set pool (e .constants) k ∙ long;
+              kept = λ code book. record {
+                grown = record { size = omega arith; labels = omega arith; patches = omega arith; lines = omega arith; constants = omega arith };
+                code = refl;
+                book = tails-self (counted e (e .labels) (e .patches) (e .lines) (e .constants + 1)) book;
+                pool = drop-set-lt (e .constants + 1) pool (e .constants) k (omega arith);
+                sticky = λ z. absurd (z on);
+              };
               did = λ s code book. goes (act s (addConstant k)) (world e code book pool) (world (counted e (e .labels) (e .patches) (e .lines) (e .constants + 1)) code book (set pool (e .constants) k)) on on
                   (rw (count, ← is, le-ltb _ _ absent, count, lt-ltb _ _ few, more));
             };
@@ -127,5 +137,6 @@ pub constant-loaded : (s : Sheet) (k : ℕ) {e r : Emitter} {i : Interned} {code
 unfolding act
 constant-loaded s k {i = i} {code = code} {book = book} {pool′ = pool′} p a = record {
   ready = record { fine = a .coded .fine; room = a .coded .room; slots = a .coded .slots; long = p .pooled .long };
+  kept = kept-then (p .pooled .kept code book) (a .coded .kept pool′);
   did = then (p .pooled .did s code book) (by-step (λ on. rw (p .index on)) (a .coded .did pool′));
 }

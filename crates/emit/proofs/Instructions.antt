@@ -7,7 +7,7 @@ use Prim.Native.Nat.{ℕ, zero, suc, _+_, _-_, _*_, _/_, _%_, _≤_, _<_, max}
 use native.Mathlib.Omega.{arith}
 use borrow.Author.Tests.{le-ltb, lt-ltb, le-leb, lt-leb}
 use lib.Dec.{leb}
-use lib.ListN.{length, take, length-append}
+use lib.ListN.{length, take, drop}
 use lib.Seq.{sets, length-sets}
 use Rattle.definition.specs.Limits.{maxCode, maxLabels, maxBranches, maxLines, codeFull, linesFull, entrySize}
 use Rattle.definition.specs.Res.{Res, ok, refuse, _>>=_, _>>_, demand}
@@ -29,7 +29,8 @@ use Rattle.emit.specs.Book.{labelSize, patchSize, labelBase, patchBase, 
 use Rattle.emit.specs.View.{world, lastView, state}
 use Rattle.emit.specs.Steps.{Step, LastAt, Fine, Bare, Coded}
 use Rattle.emit.specs.Parts.{altered, counted, lined, prepared, Noted, Prepared, Branched, Added, cmpOperand}
-use Rattle.emit.proofs.Tables.{length-rows, rows-more, rows-behind, last-none, last-row, entry-back}
+use Rattle.emit.proofs.Tables.{pushed-sets, length-rows, rows-more, rows-behind, last-none, last-row, entry-back}
+use Rattle.emit.proofs.Kept.{tails-self, kept-self, kept-then, sets-tail, line-tails}
 use Rattle.emit.proofs.Steps.{stays, goes, by-step, stops, then, is-refused, size-of}
 use Rattle.emit.proofs.State.{fine-altered, shift-most}
 
@@ -48,12 +49,12 @@ module _ (book : List ℕ) (n : ℕ) (p : Pos) where
 
 module _ (n : ℕ) {e : Emitter} {book : List ℕ} (h : Fine e) (slots : length book ≡ bookSize) where
   pub prepare-stays : (e .refused ≡ 0 → ⊥) → Prepared n e book e book
-  prepare-stays off = record { noted = record { fine = h; slots = slots; did = λ code pool room. stays (prepared n) off }; fits = λ z. absurd (off z) }
+  prepare-stays off = record { noted = record { fine = h; slots = slots; kept = λ code pool. kept-self (world e code book pool); did = λ code pool room. stays (prepared n) off }; fits = λ z. absurd (off z) }
 
   pub prepare-full : {r : Emitter} → maxCode < e .size + n → Bare (refused (record { number = codeFull; place = 0 })) e r → Prepared n e book r book
   unfolding prepared demand _>>_
   prepare-full full b = record {
-    noted = record { fine = b .fine; slots = slots; did = λ code pool room. stops (prepared n) codeFull 0 code book pool b (rw (size-of code h room, lt-leb _ _ full)) };
+    noted = record { fine = b .fine; slots = slots; kept = λ code pool. b .kept code book pool; did = λ code pool room. stops (prepared n) codeFull 0 code book pool b (rw (size-of code h room, lt-leb _ _ full)) };
     fits = λ z. absurd (is-refused b z);
   }
 
@@ -61,7 +62,7 @@ module _ (n : ℕ) {e : Emitter} {book : List ℕ} (h : Fine e) (slots : length 
     pub prepare-here : e .refused ≡ 0 → true ≡ standsAt (posView (e .position)) (lastEntry (linesIn book (e .lines))) → Prepared n e book e book
     unfolding prepared demand _>>_ _>>=_ recorded lined
     prepare-here on here = record {
-      noted = record { fine = h; slots = slots; did = λ code pool room. goes (prepared n) (world e code book pool) (world e code book pool) on on (rw (size-of code h room, le-leb _ _ fits, recorded, ← here)) };
+      noted = record { fine = h; slots = slots; kept = λ code pool. kept-self (world e code book pool); did = λ code pool room. goes (prepared n) (world e code book pool) (world e code book pool) on on (rw (size-of code h room, le-leb _ _ fits, recorded, ← here)) };
       fits = λ z. fits;
     }
 
@@ -72,6 +73,7 @@ module _ (n : ℕ) {e : Emitter} {book : List ℕ} (h : Fine e) (slots : length 
         noted = record {
           fine = b .fine;
           slots = slots;
+          kept = λ code pool. b .kept code book pool;
           did = λ code pool room. stops (prepared n) linesFull 0 code book pool b
               (rw (size-of code h room, le-leb _ _ fits, recorded, ← off, length-rows entryIn lineBase entrySize book (e .lines), le-ltb _ _ full));
         };
@@ -88,8 +90,15 @@ module _ (n : ℕ) {e : Emitter} {book : List ℕ} (h : Fine e) (slots : length 
           let put′ = rw here at put in
           rw put′ (record {
             noted = record {
-              fine = record { size = h .size; labels = h .labels; patches = h .patches; lines = omega arith; constants = h .constants; last = h .last; depth = h .depth; deepest = h .deepest };
+              fine = record { size = h .size; labels = h .labels; patches = h .patches; lines = omega arith; constants = h .constants; last = h .last; depth = h .depth; deepest = h .deepest; place = h .place };
               slots = length-sets book j ns ∙ slots;
+              kept = λ code pool. record {
+                grown = record { size = omega arith; labels = omega arith; patches = omega arith; lines = omega arith; constants = omega arith };
+                code = refl;
+                book = line-tails (counted e (e .labels) (e .patches) (e .lines + 1) (e .constants)) ns book (e .lines) (length-one x) few (omega arith);
+                pool = refl;
+                sticky = λ z. absurd (z on);
+              };
               did = λ code pool room. goes (prepared n) (world e code book pool) (world (counted e (e .labels) (e .patches) (e .lines + 1) (e .constants)) code (sets book j ns) pool) on on
                   (rw (
                     size-of code h room,
@@ -133,6 +142,9 @@ pushed-bytes xs code code′ n m e h =
     let end : m ≡ n + length xs = ap (λ (t : Store). t .used) e ∙ used-room (at code n) xs h in
     rw (← end) (ap contents e ∙ contents-room (at code n) xs h)
 
+pushed-tail : (xs code code′ : List ℕ) (n m : ℕ) → at code′ m ≡ pushAll (at code n) xs → n + length xs ≤ length code → drop (n + length xs) code′ ≡ drop (n + length xs) code
+pushed-tail xs code code′ n m e h = ap (λ (t : Store). drop (n + length xs) (t .cells)) e ∙ ap (drop (n + length xs)) (pushed-sets xs code n h) ∙ sets-tail xs code n h
+
 module _ (s : Sheet) (r : Role) (operand : List ℕ) (l : Last) (n : ℕ) {e p : Emitter} {code book book′ : List ℕ} (is-n : n ≡ suc (length operand)) (room : length code ≡ maxCode) (prep : Prepared n e book p book′) where
   pub add-stops : (p .refused ≡ 0 → ⊥) → Added s r operand l e code book p code book′
   add-stops off =
@@ -142,6 +154,7 @@ module _ (s : Sheet) (r : Role) (operand : List ℕ) (l : Last) (n : ℕ) {e p :
           fine = prep .noted .fine;
           room = room;
           slots = prep .noted .slots;
+          kept = λ pool. prep .noted .kept code pool;
           did = λ pool. by-step (λ on. add-is s r operand (lastView l) _) (then (prep′ .noted .did code pool room) (stays _ off));
         };
         branched = λ two z. absurd (off z);
@@ -157,11 +170,19 @@ module _ (s : Sheet) (r : Role) (operand : List ℕ) (l : Last) (n : ℕ) {e p :
       let fits : p .size + k ≤ length code = rw room (prep′ .fits on) in
       let bytes : take (p .size + k) code′ ≡ take (p .size) code ++ (opcode s r ∷ operand) = pushed-bytes (opcode s r ∷ operand) code code′ (p .size) _ put fits in
       let v = altered p (p .size + k) l (shift (effect r) (p .depth)) (max (p .deepest) (shift (effect r) (p .depth))) in
+      let tail : drop (p .size + k) code′ ≡ drop (p .size + k) code = pushed-tail (opcode s r ∷ operand) code code′ (p .size) _ put fits in
       record {
         coded = record {
           fine = fine;
           room = ap (λ (t : Store). length (t .cells)) put ∙ length-pushAll (at code (p .size)) (opcode s r ∷ operand) ∙ room;
           slots = prep .noted .slots;
+          kept = λ pool. rw is′ (kept-then (prep .noted .kept code pool) (record {
+            grown = record { size = omega arith; labels = omega arith; patches = omega arith; lines = omega arith; constants = omega arith };
+            code = tail;
+            book = tails-self v book′;
+            pool = refl;
+            sticky = λ z. absurd (z on);
+          }));
           did = λ pool. by-step (λ on. add-is s r operand (lastView l) _) (then (prep′ .noted .did code pool room)
               (rw is′ (goes (λ y. ok (added s r operand (lastView l) (y .lineMap) y)) (world p code book′ pool) (world v code′ book′ pool) on on (rw bytes))));
         };
@@ -218,4 +239,4 @@ last-at (Stored v) n = omega arith
 -- ---- a step under another name
 
 pub coded-by : {f g : Step} {e r : Emitter} {code book code′ book′ : List ℕ} → ((pool : List ℕ) → f (state (world e code book pool)) ≡ g (state (world e code book pool))) → Coded g e code book r code′ book′ → Coded f e code book r code′ book′
-coded-by is d = record { fine = d .fine; room = d .room; slots = d .slots; did = λ pool. by-step (λ on. is pool) (d .did pool) }
+coded-by is d = record { fine = d .fine; room = d .room; slots = d .slots; kept = d .kept; did = λ pool. by-step (λ on. is pool) (d .did pool) }

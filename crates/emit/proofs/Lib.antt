@@ -1,4 +1,5 @@
 pub mod Tables
+pub mod Kept
 pub mod Steps
 pub mod Calls
 pub mod State

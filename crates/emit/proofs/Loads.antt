@@ -26,6 +26,7 @@ use Rattle.emit.specs.Steps.{Step, Did, LastAt, Fine, Bare, Coded}
 use Rattle.emit.specs.Load.{loadForm, loadBy, Reading, noReading, readBy, readOr, reading, readingOf, Loads}
 use Rattle.emit.specs.Parts.{altered, Written, Added}
 use Rattle.emit.proofs.Tables.{sets-front}
+use Rattle.emit.proofs.Kept.{tails-self, kept-self, sets-tail}
 use Rattle.emit.proofs.Steps.{stays, goes, stops, size-of}
 use Rattle.emit.proofs.State.{fine-altered}
 use Rattle.emit.proofs.Instructions.{coded-by}
@@ -55,11 +56,11 @@ inserts l i x h = rw (three-there l i (omega arith)) (four-stores l i x (getD l 
 
 module _ (s : Sheet) {e : Emitter} {code : List ℕ} (h : Fine e) (room : length code ≡ maxCode) where
   pub fold-stays : (e .refused ≡ 0 → ⊥) → Written (foldStore s) e code e code
-  fold-stays off = record { fine = h; room = room; did = λ book pool. stays (foldStore s) off }
+  fold-stays off = record { fine = h; room = room; kept = λ book pool. kept-self (world e code book pool); did = λ book pool. stays (foldStore s) off }
 
   pub fold-full : {r : Emitter} → maxCode ≤ e .size → Bare (refused (record { number = codeFull; place = 0 })) e r → Written (foldStore s) e code r code
   unfolding foldStore demand _>>_
-  fold-full full b = record { fine = b .fine; room = room; did = λ book pool. stops (foldStore s) codeFull 0 code book pool b (rw (size-of code h room, le-ltb _ _ full)) }
+  fold-full full b = record { fine = b .fine; room = room; kept = λ book pool. b .kept code book pool; did = λ book pool. stops (foldStore s) codeFull 0 code book pool b (rw (size-of code h room, le-ltb _ _ full)) }
 
   pub fold-goes : {r : Emitter} {code′ : List ℕ} {b m : ℕ} → b ≡ opcode s dup → m ≡ max (e .deepest) (e .depth + 2) → e .refused ≡ 0 → e .size < maxCode → 3 ≤ e .size
       → code′ ≡ sets code (e .size - 3) (b ∷ take 3 (drop (e .size - 3) code)) → r ≡ altered e (e .size + 1) Other (e .depth + 1) m → Written (foldStore s) e code r code′
@@ -78,6 +79,13 @@ module _ (s : Sheet) {e : Emitter} {code : List ℕ} (h : Fine e) (room : length
       rw (put, is) (record {
         fine = fine-altered (e .size + 1) Other (e .depth + 1) m h (omega arith) (omega arith) tt (omega (arith, h .depth)) (rw is-m (omega (arith, h .depth, h .deepest)));
         room = length-sets code i ns ∙ room;
+        kept = λ book pool. record {
+          grown = record { size = omega arith; labels = omega arith; patches = omega arith; lines = omega arith; constants = omega arith };
+          code = rw four (sets-tail ns code i (rw long (omega arith)));
+          book = tails-self (altered e (e .size + 1) Other (e .depth + 1) m) book;
+          pool = refl;
+          sticky = λ z. absurd (z on);
+        };
         did = λ book pool. goes (foldStore s) (world e code book pool) (world (altered e (e .size + 1) Other (e .depth + 1) m) (sets code i ns) book pool) on on
             (rw (size-of code h room, lt-ltb _ _ fits, bytes, front, behind, ← is-b, one, two, is-m));
       })
@@ -158,7 +166,7 @@ module _ (s : Sheet) (v : ℕ) (form : LoadForm) {e u : Emitter} {code book code
       }
 
 pub written-coded : {f : Step} {e r : Emitter} {code book code′ : List ℕ} → length book ≡ bookSize → Written f e code r code′ → Coded f e code book r code′ book
-written-coded {book = book} slots d = record { fine = d .fine; room = d .room; slots = slots; did = λ pool. d .did book pool }
+written-coded {book = book} slots d = record { fine = d .fine; room = d .room; slots = slots; kept = λ pool. d .kept book pool; did = λ pool. d .did book pool }
 
 -- the step of each form
 pub load-is : (s : Sheet) (v : ℕ) (x : def.Emitter) → loadBy Load s v x ≡ add s loadVar (le16 v) (def.loaded v) x

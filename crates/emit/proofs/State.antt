@@ -17,13 +17,14 @@ use Rattle.emit.specs.Book.{rows}
 use Rattle.emit.specs.View.{World, world, state, standing, view}
 use Rattle.emit.specs.Steps.{Step, Did, LastAt, maxHeight, Fine, Bare, Begun}
 use Rattle.emit.specs.Parts.{altered, stopped, placed, counted}
+use Rattle.emit.proofs.Kept.{grown-self, kept-self, kept-bare}
 use Rattle.emit.proofs.Steps.{stays, goes}
 
 -- ---- what stays fine
 
 pub fine-altered : {e : Emitter} (size : ℕ) (last : Last) (depth deepest : ℕ) → Fine e → e .size ≤ size → size ≤ maxCode → LastAt last size → depth ≤ maxHeight + size → deepest ≤ maxHeight + size + 1 → Fine (altered e size last depth deepest)
 fine-altered size last depth deepest h more fits at d m =
-    record { size = fits; labels = h .labels; patches = omega (arith, h .patches); lines = h .lines; constants = h .constants; last = at; depth = d; deepest = m }
+    record { size = fits; labels = h .labels; patches = omega (arith, h .patches); lines = h .lines; constants = h .constants; last = at; depth = d; deepest = m; place = h .place }
 
 pub shift-most : (x : Effect) (d : ℕ) → shift x d ≤ d + 1
 unfolding shift
@@ -37,17 +38,18 @@ shift-most same d = omega arith
 pub begins : (p : Pos) → Begun (posView p) (record { size = 0; labels = 0; patches = 0; lines = 0; constants = 0; last = Other; depth = 0; deepest = 0; position = p; refused = 0; place = 0 })
 unfolding standing rows emitterAt
 begins p = record {
-  fine = record { size = omega arith; labels = omega arith; patches = omega arith; lines = omega arith; constants = omega arith; last = tt; depth = omega arith; deepest = omega arith };
+  fine = record { size = omega arith; labels = omega arith; patches = omega arith; lines = omega arith; constants = omega arith; last = tt; depth = omega arith; deepest = omega arith; place = λ z. refl };
   is = λ code book pool. refl;
 }
 
 pub bare-stays : {e : Emitter} (c : Call) → Fine e → (e .refused ≡ 0 → ⊥) → Bare c e e
-bare-stays c h off = record { fine = h; did = λ s code book pool. stays (act s c) off }
+bare-stays {e} c h off = record { fine = h; kept = λ code book pool. kept-self (world e code book pool); did = λ s code book pool. stays (act s c) off }
 
 pub refuses : {e : Emitter} (n p : ℕ) → Fine e → e .refused ≡ 0 → 0 < n → Bare (refused (record { number = n; place = p })) e (stopped e n p)
 unfolding act standing _>>=_
 refuses {e} n p h on more = record {
-  fine = record { size = h .size; labels = h .labels; patches = h .patches; lines = h .lines; constants = h .constants; last = h .last; depth = h .depth; deepest = h .deepest };
+  fine = record { size = h .size; labels = h .labels; patches = h .patches; lines = h .lines; constants = h .constants; last = h .last; depth = h .depth; deepest = h .deepest; place = λ z. absurd (omega arith) };
+  kept = kept-bare (grown-self e) on;
   did = λ s code book pool. record { is = rw on (go n (state (world (stopped e n p) code book pool)) more) };
 }
   where
@@ -59,12 +61,14 @@ pub resets : {e : Emitter} (d : ℕ) {d′ : ℕ} → Fine e → e .refused ≡ 
 unfolding act settled
 resets {e} d h on is small = rw is (record {
   fine = fine-altered (e .size) (e .last) d (e .deepest) h (omega arith) (h .size) (h .last) (omega arith) (h .deepest);
+  kept = kept-bare (grown-self e) on;
   did = λ s code book pool. goes (act s (resetStackDepth d)) (world e code book pool) (world (altered e (e .size) (e .last) d (e .deepest)) code book pool) on on refl;
 })
 
 pub places : {e : Emitter} (p : Pos) → Fine e → e .refused ≡ 0 → Bare (setPosition (posView p)) e (placed e p)
 unfolding act settled
 places {e} p h on = record {
-  fine = record { size = h .size; labels = h .labels; patches = h .patches; lines = h .lines; constants = h .constants; last = h .last; depth = h .depth; deepest = h .deepest };
+  fine = record { size = h .size; labels = h .labels; patches = h .patches; lines = h .lines; constants = h .constants; last = h .last; depth = h .depth; deepest = h .deepest; place = h .place };
+  kept = kept-bare (grown-self e) on;
   did = λ s code book pool. goes (act s (setPosition (posView p))) (world e code book pool) (world (placed e p) code book pool) on on refl;
 }

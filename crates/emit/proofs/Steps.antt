@@ -15,6 +15,7 @@ use Rattle.emit.specs.declared.Emitter.{Emitter}
 use Rattle.emit.specs.Book.{bookSize}
 use Rattle.emit.specs.View.{World, world, state, standing, view}
 use Rattle.emit.specs.Steps.{Step, Did, Fine, Ready, Bare, Booked, Created, Pooled, Coded, Filled, Begun}
+use Rattle.emit.proofs.Kept.{kept-then}
 
 bind-assoc : (m : Res def.Emitter) (f g : Step) → (m >>= f) >>= g ≡ m >>= (λ e. f e >>= g)
 unfolding _>>=_
@@ -72,28 +73,28 @@ pub then : {f g : Step} {w v u : World} → Did f w v → Did g v u → Did (λ 
 then {f} {g} {w} p q = record { is = q .is ∙ ap (λ (m : Res def.Emitter). m >>= g) (p .is) ∙ bind-assoc (view w) f g }
 
 pub filled-then : {f g : Step} {w v u : World} → Filled f w v → Filled g v u → Filled (λ e. f e >>= g) w u
-filled-then a b = record { ready = b .ready; did = then (a .did) (b .did) }
+filled-then a b = record { ready = b .ready; kept = kept-then (a .kept) (b .kept); did = then (a .did) (b .did) }
 
 pub filled-by : {f g : Step} {w v : World} → (w .e .refused ≡ 0 → f (state w) ≡ g (state w)) → Filled g w v → Filled f w v
-filled-by e a = record { ready = a .ready; did = by-step e (a .did) }
+filled-by e a = record { ready = a .ready; kept = a .kept; did = by-step e (a .did) }
 
 -- ---- what a method did, with all that is lent
 
 module _ {e r : Emitter} {code book pool : List ℕ} (w : Ready (world e code book pool)) where
   pub bare-filled : (s : Sheet) {c : Call} → Bare c e r → Filled (act s c) (world e code book pool) (world r code book pool)
-  bare-filled s b = record { ready = record { fine = b .fine; room = w .room; slots = w .slots; long = w .long }; did = b .did s code book pool }
+  bare-filled s b = record { ready = record { fine = b .fine; room = w .room; slots = w .slots; long = w .long }; kept = b .kept code book pool; did = b .did s code book pool }
 
   pub booked-filled : (s : Sheet) {c : Call} {book′ : List ℕ} → Booked c e book r book′ → Filled (act s c) (world e code book pool) (world r code book′ pool)
-  booked-filled s b = record { ready = record { fine = b .fine; room = w .room; slots = b .slots; long = w .long }; did = b .did s code pool (w .room) }
+  booked-filled s b = record { ready = record { fine = b .fine; room = w .room; slots = b .slots; long = w .long }; kept = b .kept code pool; did = b .did s code pool (w .room) }
 
   pub created-filled : (s : Sheet) (h : ℕ) {book′ : List ℕ} {l : ℕ} → Created e book r book′ l → Filled (act s (createLabel h)) (world e code book pool) (world r code book′ pool)
-  created-filled s h b = record { ready = record { fine = b .fine; room = w .room; slots = b .slots; long = w .long }; did = b .did s h code pool }
+  created-filled s h b = record { ready = record { fine = b .fine; room = w .room; slots = b .slots; long = w .long }; kept = b .kept code pool; did = b .did s h code pool }
 
   pub pooled-filled : (s : Sheet) {c : Call} {pool′ : List ℕ} → Pooled c e pool r pool′ → Filled (act s c) (world e code book pool) (world r code book pool′)
-  pooled-filled s b = record { ready = record { fine = b .fine; room = w .room; slots = w .slots; long = b .long }; did = b .did s code book }
+  pooled-filled s b = record { ready = record { fine = b .fine; room = w .room; slots = w .slots; long = b .long }; kept = b .kept code book; did = b .did s code book }
 
   pub coded-filled : {f : Step} {code′ book′ : List ℕ} → Coded f e code book r code′ book′ → Filled f (world e code book pool) (world r code′ book′ pool)
-  coded-filled b = record { ready = record { fine = b .fine; room = b .room; slots = b .slots; long = w .long }; did = b .did pool }
+  coded-filled b = record { ready = record { fine = b .fine; room = b .room; slots = b .slots; long = w .long }; kept = b .kept pool; did = b .did pool }
 
 -- the first state of a call
 pub begun-ready : {p : Pos} {r : Emitter} {code book pool : List ℕ} → Begun p r → length code ≡ maxCode → length book ≡ bookSize → length pool ≡ maxConstants → Ready (world r code book pool)

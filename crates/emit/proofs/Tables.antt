@@ -30,11 +30,11 @@ module _ (size : ℕ) where
       let e : j ≡ i + (j - i) = omega arith in
       ap (λ (k : ℕ). take size (drop i (set l k x))) e ∙ rw (drop-set-add i l (j - i) x) (take-set-le size (drop i l) (j - i) x (omega arith))
 
-  sets-behind : (ns l : List ℕ) (i j : ℕ) → i + size ≤ j → take size (drop i (sets l j ns)) ≡ take size (drop i l)
+  pub sets-behind : (ns l : List ℕ) (i j : ℕ) → i + size ≤ j → take size (drop i (sets l j ns)) ≡ take size (drop i l)
   sets-behind [] l i j h = refl
   sets-behind (x ∷ ns) l i j h = sets-behind ns (set l j x) i (suc j) (omega arith) ∙ set-behind l i j x h
 
-  sets-before : (ns l : List ℕ) (i j : ℕ) → j + length ns ≤ i → take size (drop i (sets l j ns)) ≡ take size (drop i l)
+  pub sets-before : (ns l : List ℕ) (i j : ℕ) → j + length ns ≤ i → take size (drop i (sets l j ns)) ≡ take size (drop i l)
   sets-before [] l i j h = refl
   sets-before (x ∷ ns) l i j h = sets-before ns (set l j x) i (suc j) (omega arith) ∙ ap (take size) (drop-set-lt i l j x (omega arith))
 

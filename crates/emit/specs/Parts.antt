@@ -15,7 +15,7 @@ use Rattle.emit.specs.declared.Interned.{Interned}
 use Rattle.emit.specs.declared.Last.{Last}
 use Rattle.emit.specs.Book.{bookSize}
 use Rattle.emit.specs.View.{world, lastView}
-use Rattle.emit.specs.Steps.{Step, Did, Fine, Pooled, Coded}
+use Rattle.emit.specs.Steps.{Step, Did, Fine, Kept, Pooled, Coded}
 
 -- the struct with other size, last instruction and depths
 abbrev pub altered : Emitter → ℕ → Last → ℕ → ℕ → Emitter
@@ -103,6 +103,7 @@ prepared n e = demand (leb (length (e .bytecode) + n) maxCode) codeFull 0 >> (re
 pub record Noted (f : Step) (e : Emitter) (book : List ℕ) (r : Emitter) (book′ : List ℕ) : Type 0 where
   pub fine : Fine r
   pub slots : length book′ ≡ bookSize
+  pub kept : (code pool : List ℕ) → Kept (world e code book pool) (world r code book′ pool)
   pub did : (code pool : List ℕ) → length code ≡ maxCode → Did f (world e code book pool) (world r code book′ pool)
 
 pub record Prepared (n : ℕ) (e : Emitter) (book : List ℕ) (r : Emitter) (book′ : List ℕ) : Type 0 where
@@ -113,6 +114,7 @@ pub record Prepared (n : ℕ) (e : Emitter) (book : List ℕ) (r : Emitter) (boo
 pub record Written (f : Step) (e : Emitter) (code : List ℕ) (r : Emitter) (code′ : List ℕ) : Type 0 where
   pub fine : Fine r
   pub room : length code′ ≡ maxCode
+  pub kept : (book pool : List ℕ) → Kept (world e code book pool) (world r code′ book pool)
   pub did : (book pool : List ℕ) → Did f (world e code book pool) (world r code′ book pool)
 
 -- there is a byte for a patch more

@@ -1,9 +1,9 @@
 -- What the contracts of emission say. A step takes one state of the definition's emitter to the next, or refuses: the `act` of a call, or the calls of a walk.
-use Prim.Native.Nat.{ℕ, _+_, _*_, _≤_}
+use Prim.Native.Nat.{ℕ, _+_, _*_, _≤_, _<_}
 use mathlib.Core.Path.{_≡_}
 use mathlib.Core.List.{List}
-use lib.ListN.{length}
-use Rattle.definition.specs.Limits.{maxCode, maxLabels, maxLines, maxConstants}
+use lib.ListN.{length, drop}
+use Rattle.definition.specs.Limits.{maxCode, maxLabels, maxBranches, maxLines, maxConstants, entrySize}
 use Rattle.definition.specs.Res.{Res, ok, _>>=_}
 use Rattle.definition.specs.Opcode.{Sheet}
 use Rattle.definition.specs.Tree.{Pos}
@@ -13,7 +13,7 @@ use Rattle.definition.specs.Walk.{Calls}
 use Rattle.emit.specs.declared.Emitter.{Emitter}
 use Rattle.emit.specs.declared.Last.{Last}
 use Rattle.emit.specs.declared.Last.the-variants.{Other, Loaded, Stored}
-use Rattle.emit.specs.Book.{bookSize}
+use Rattle.emit.specs.Book.{labelSize, patchSize, labelBase, patchBase, lineBase, bookSize, row}
 use Rattle.emit.specs.View.{World, world, view}
 
 abbrev pub Step : Type 0
@@ -50,6 +50,8 @@ pub record Fine (e : Emitter) : Type 0 where
   -- an instruction adds a byte and at most one value; folding a store adds a byte and passes the depth that it leaves by one
   pub depth : e .depth ≤ maxHeight + e .size
   pub deepest : e .deepest ≤ maxHeight + e .size + 1
+  -- a place comes with a refusal
+  pub place : e .refused ≡ 0 → e .place ≡ 0
 
 -- what is lent is exactly as long as its limit
 pub record Ready (w : World) : Type 0 where
@@ -58,17 +60,46 @@ pub record Ready (w : World) : Type 0 where
   pub slots : length (w .book) ≡ bookSize
   pub long : length (w .pool) ≡ maxConstants
 
+-- ---- what no state shows
+
+-- counts never fall: bytes, labels, patches, line entries, constants
+pub record Risen (a a′ b b′ c c′ d d′ k k′ : ℕ) : Type 0 where
+  pub size : a ≤ a′
+  pub labels : b ≤ b′
+  pub patches : c ≤ c′
+  pub lines : d ≤ d′
+  pub constants : k ≤ k′
+
+abbrev pub Grown : Emitter → Emitter → Type 0
+Grown e r = Risen (e .size) (r .size) (e .labels) (r .labels) (e .patches) (r .patches) (e .lines) (r .lines) (e .constants) (r .constants)
+
+-- the rows of the book's tables past their counts
+pub record Tails (r : Emitter) (book book′ : List ℕ) : Type 0 where
+  pub labels : (i : ℕ) → r .labels ≤ i → i < maxLabels → row labelBase labelSize book′ i ≡ row labelBase labelSize book i
+  pub patches : (i : ℕ) → r .patches ≤ i → i < maxBranches → row patchBase patchSize book′ i ≡ row patchBase patchSize book i
+  pub lines : (i : ℕ) → r .lines ≤ i → i < maxLines → row lineBase entrySize book′ i ≡ row lineBase entrySize book i
+
+-- what lies past the counts stays as it is; and all of it, once there is a refusal
+pub record Kept (w v : World) : Type 0 where
+  pub grown : Grown (w .e) (v .e)
+  pub code : drop (v .e .size) (v .code) ≡ drop (v .e .size) (w .code)
+  pub book : Tails (v .e) (w .book) (v .book)
+  pub pool : drop (v .e .constants) (v .pool) ≡ drop (v .e .constants) (w .pool)
+  pub sticky : (w .e .refused ≡ 0 → ⊥) → v ≡ w
+
 -- ---- what a method does, by what is lent to it: whatever is not lent stays as it is, whatever that is
 
 -- nothing
 pub record Bare (c : Call) (e r : Emitter) : Type 0 where
   pub fine : Fine r
+  pub kept : (code book pool : List ℕ) → Kept (world e code book pool) (world r code book pool)
   pub did : (s : Sheet) (code book pool : List ℕ) → Did (act s c) (world e code book pool) (world r code book pool)
 
 -- the book
 pub record Booked (c : Call) (e : Emitter) (book : List ℕ) (r : Emitter) (book′ : List ℕ) : Type 0 where
   pub fine : Fine r
   pub slots : length book′ ≡ bookSize
+  pub kept : (code pool : List ℕ) → Kept (world e code book pool) (world r code book′ pool)
   pub did : (s : Sheet) (code pool : List ℕ) → length code ≡ maxCode → Did (act s c) (world e code book pool) (world r code book′ pool)
 
 -- the book, for a new label: its number, whatever height it is to be bound at
@@ -76,12 +107,14 @@ pub record Created (e : Emitter) (book : List ℕ) (r : Emitter) (book′ : List
   pub fine : Fine r
   pub slots : length book′ ≡ bookSize
   pub label : l ≡ e .labels
+  pub kept : (code pool : List ℕ) → Kept (world e code book pool) (world r code book′ pool)
   pub did : (s : Sheet) (h : ℕ) (code pool : List ℕ) → Did (act s (createLabel h)) (world e code book pool) (world r code book′ pool)
 
 -- the pool
 pub record Pooled (c : Call) (e : Emitter) (pool : List ℕ) (r : Emitter) (pool′ : List ℕ) : Type 0 where
   pub fine : Fine r
   pub long : length pool′ ≡ maxConstants
+  pub kept : (code book : List ℕ) → Kept (world e code book pool) (world r code book pool′)
   pub did : (s : Sheet) (code book : List ℕ) → Did (act s c) (world e code book pool) (world r code book pool′)
 
 -- code and book, and the sheet that the step goes by
@@ -89,11 +122,13 @@ pub record Coded (f : Step) (e : Emitter) (code book : List ℕ) (r : Emitter) (
   pub fine : Fine r
   pub room : length code′ ≡ maxCode
   pub slots : length book′ ≡ bookSize
+  pub kept : (pool : List ℕ) → Kept (world e code book pool) (world r code′ book′ pool)
   pub did : (pool : List ℕ) → Did f (world e code book pool) (world r code′ book′ pool)
 
 -- code, book and pool
 pub record Filled (f : Step) (w v : World) : Type 0 where
   pub ready : Ready v
+  pub kept : Kept w v
   pub did : Did f w v
 
 -- an emitter to begin with: empty, whatever the lists hold

@@ -6,8 +6,9 @@ use native.Mathlib.Omega.{arith}
 use lib.ListN.{length, getD, take, drop, length-drop, length-append, List·getD-eq-default, drop-of-length-le}
 use lib.Seq.{getD-drop, drop-drop, drop-at}
 use Rattle.definition.specs.Limits.{entrySize}
+use Rattle.definition.specs.Tree.{posNumbers, posOf}
 use Rattle.definition.specs.Emit.{LineEntry}
-use Rattle.definition.specs.Lent.{posNumbers, posIn, oneEntry, entryIn, entryNumbers, firstEntries, entriesOf}
+use Rattle.definition.specs.Lent.{oneEntry, entryIn, entryNumbers, firstEntries, entriesOf}
 use Rattle.store.specs.Store.{Store, push, pushAll}
 use Rattle.line_map.specs.declared.LineEntry as code
 use Rattle.line_map.specs.View.{entryView}
@@ -19,11 +20,11 @@ unfolding oneEntry posNumbers
 length-one x = refl
 
 pub one-back : (x : LineEntry) (ns : List ℕ) → entryIn (oneEntry x ++ ns) ≡ x
-unfolding oneEntry entryIn posNumbers posIn
+unfolding oneEntry entryIn posNumbers posOf
 one-back x ns = refl
 
 pub in-front : (ns : List ℕ) → entrySize ≤ length ns → oneEntry (entryIn ns) ≡ take entrySize ns
-unfolding oneEntry entryIn posNumbers posIn
+unfolding oneEntry entryIn posNumbers posOf
 in-front [] h = absurd (omega arith)
 in-front (a ∷ []) h = absurd (omega arith)
 in-front (a ∷ b ∷ []) h = absurd (omega arith)
@@ -31,7 +32,7 @@ in-front (a ∷ b ∷ c ∷ ns) h = refl
 
 -- in code
 pub entry-is : (e : code.LineEntry) (ns : List ℕ) → e .offset ≡ getD ns 0 0 → e .pos .line ≡ getD ns 1 0 → e .pos .column ≡ getD ns 2 0 → entryView e ≡ entryIn ns
-unfolding entryIn posIn
+unfolding entryIn posOf
 entry-is e ns a b c = rw (a, b, c, getD-drop 1 ns 0 0, getD-drop 1 ns 1 0)
 
 pub entry-put : (e : code.LineEntry) (s : Store) {t u v : Store} → t ≡ push s (e .offset) → u ≡ push t (e .pos .line) → v ≡ push u (e .pos .column) → v ≡ pushAll s (oneEntry (entryView e))

@@ -67,11 +67,3 @@ iec-commute Ge a b = refl
 pub taken-iec : {s : Sheet} → Good s → (c : CompareOp) (w x k : ℕ) → taken s w (comparisonByte s c) x k ≡ iec c (signedOf w x) (signedOf w k)
 unfolding taken decides
 taken-iec g c w x k = ap (λ o. decides o (signedOf w x) (signedOf w k)) (comparison-of-byte g c)
-
--- branching on false negates
-pub taken-negate : {s : Sheet} → Good s → (c : CompareOp) (w x k : ℕ) → taken s w (comparisonByte s (negate c)) x k ≡ not (iec c (signedOf w x) (signedOf w k))
-taken-negate g c w x k = taken-iec g (negate c) w x k ∙ iec-negate c (signedOf w x) (signedOf w k)
-
--- a constant on the left mirrors
-pub taken-commute : {s : Sheet} → Good s → (c : CompareOp) (w x k : ℕ) → taken s w (comparisonByte s (commute c)) x k ≡ iec c (signedOf w k) (signedOf w x)
-taken-commute g c w x k = taken-iec g (commute c) w x k ∙ iec-commute c (signedOf w x) (signedOf w k)

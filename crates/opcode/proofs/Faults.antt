@@ -9,7 +9,7 @@ use native.Mathlib.Omega.{arith}
 use native.Mathlib.Decide.{ℕ-discrete}
 use borrow.Author.Tests.{eq-eqb, ne-eqb, eqb-true, lt-leb, le-leb, ltb-true, lt-ltb, le-ltb}
 use lib.Dec.{eqb, ltb}
-use lib.ListN.{length, getD, take, drop, length-take, length-drop, length-map}
+use lib.ListN.{length, getD, take, length-take, length-drop, length-map}
 use lib.Seq.{getD-drop, getD-take}
 use Rattle.definition.specs.Field.{lf, split, Read, malformed, outside, is, field, Numbers, wrong, far, are, andThese, numbers, has}
 use Rattle.definition.specs.Opcode.{roleCount, Sheet}

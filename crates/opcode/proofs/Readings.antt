@@ -1,22 +1,24 @@
 -- Reading a sheet: its one line, its fields, and the place at fault.
-use mathlib.Core.Path.{_≡_, refl, ap, ap₂, sym, _∙_}
+use mathlib.Core.Path.{_≡_, refl, ap, ap₂, sym, subst, _∙_}
 use mathlib.Core.Bool.{Bool, true, false, not}
 use mathlib.Core.Option.{some, none}
-use mathlib.Core.List.{List, [], _∷_, _++_, map, map-append}
+use mathlib.Core.List.{List, [], _∷_, _++_, map, map-append, append-nil}
 use Prim.Native.Nat.{ℕ, zero, suc, _+_, _-_, _<_, _≤_}
 use native.Mathlib.Omega.{arith}
 use native.Mathlib.Numerals.{add-one}
 use native.Mathlib.Decide.{decLt, ℕ-discrete}
 use borrow.Author.Tests.{eq-eqb, ne-eqb, lt-ltb, le-ltb, le-leb, ltb-true, ltb-false}
 use lib.Dec.{eqb, ltb}
-use lib.ListN.{length, getD, take, drop, set, length-take, length-drop, length-set, length-map, length-append, drop-of-length-le}
-use lib.Seq.{drop-cons, getD-drop, getD-take, take-nil, take-suc, take-suc-set, take-take, take-append-le, take-all, length-take-le, split-at, drop-append-le}
+use lib.ListN.{length, getD, take, drop, set, length-take, length-drop, length-set, length-map, length-append, drop-of-length-le, take-append-drop}
+use lib.Seq.{drop-cons, getD-drop, getD-take, take-nil, take-suc, take-suc-set, take-take, take-append-le, take-all, length-take-le, split-at, drop-append-le, take-at, drop-at}
 use Rattle.definition.specs.Limits.{badSheet, outputShort}
 use Rattle.definition.specs.Res.{Res, ok, refuse}
 use Rattle.definition.specs.Lent.{zeros}
 use Rattle.definition.specs.Field.{lf, onto, split, firstLine, Read, malformed, outside, is, field, has}
 use Rattle.definition.specs.Opcode.{roleCount}
 use Rattle.definition.specs.Sheet.{fieldCount, opcodesOf, comparisonsOf, maxByte, byte, onlyLine, counted, sheetFields, distinct, times, readAtFault, groupOf, fieldAtFault, faultAt, sheetFault, readSheet}
+use Rattle.store.specs.Fill.{zeroedFrom}
+use Rattle.store.proofs.Fills.{zeroed-behind}
 use Rattle.field.specs.View.{Ends, lineEnd, lineFields}
 use Rattle.field.proofs.Numbers.{up-to-bound}
 use Rattle.field.proofs.Parts.{parts-last, parts-more, line-part, line-is, line-ends, Some, some-part, split-some}
@@ -297,15 +299,34 @@ module _ {text t : List ℕ} {i fault : ℕ} (p : Taking text t i fault) (whole 
 
 -- ---- what reading a sheet answers
 
--- a table of another length
-pub unfit : {room : ℕ} {text table : List ℕ} {r : Res (Unit {0})} → (room ≡ tableSize → ⊥) → (r ≡ refuse outputShort 0) × (table ≡ zeros room) → Answers room text table r
-unfit h e = record { fit = λ q. absurd (h q); unfit = λ _. record { is = e .0; cleared = e .1 } }
+pub refused : (text : List ℕ) {k n : ℕ} {table : List ℕ} {r : Res (Unit {0})} (place : ℕ) → (r ≡ refuse n place) × (table ≡ zeros k) → k ≡ tableSize → n ≡ badSheet → sheetFault text place ≡ true → Reads text table r
+refused text place e q b f = rw (e .0) (record { is = fault-refused text place f; number = b; fault = f; cleared = e .1 ∙ ap zeros q })
 
-fits : {room : ℕ} {text table : List ℕ} {r : Res (Unit {0})} → room ≡ tableSize → Reads text table r → Answers room text table r
-fits h e = record { fit = λ _. e; unfit = λ q. absurd (q h) }
+pub accepted : (text : List ℕ) {u table : List ℕ} → readSheet text ≡ some (sheetIn u) → Listed u table → Reads text table (ok tt)
+accepted text e l = record { is = rw (l .front) e; ready = l .table }
 
-pub refused : (text : List ℕ) {room k n : ℕ} {table : List ℕ} {r : Res (Unit {0})} (place : ℕ) → room ≡ tableSize → (r ≡ refuse n place) × (table ≡ zeros k) → k ≡ tableSize → n ≡ badSheet → sheetFault text place ≡ true → Answers room text table r
-refused text place h e q b f = fits h (rw (e .0) (record { is = fault-refused text place f; number = b; fault = f; cleared = e .1 ∙ ap zeros q }))
+-- a shorter table
+pub unfit : {room : ℕ} {text table : List ℕ} {r : Res (Unit {0})} → room < tableSize → (r ≡ refuse outputShort 0) × (table ≡ zeros room) → Answers room text table r
+unfit h e = record { fit = λ q. absurd (omega arith); unfit = λ _. record { is = e .0; cleared = e .1 } }
 
-pub accepted : (text : List ℕ) {room : ℕ} {u table : List ℕ} → room ≡ tableSize → readSheet text ≡ some (sheetIn u) → Listed u table → Answers room text table (ok tt)
-accepted text h e l = fits h (record { is = rw (l .front) e; ready = l .table })
+-- a table l that stands first in what is lent
+pub fit : (text t l : List ℕ) {u : List ℕ} {a : Res (Unit {0})} → tableSize ≤ length t → length l ≡ length (take tableSize t) → Reads text l a → u ≡ zeroedFrom tableSize (l ++ drop tableSize t) → Answers (length t) text u a
+fit text t l {u} {a} h k d e = record {
+  fit = λ _. record {
+    reads = subst (λ (x : List ℕ). Reads text x a) (sym (ap (take tableSize) (is .1) ∙ take-at l (zeros (length t - tableSize)) tableSize (is .0))) d;
+    behind = ap (drop tableSize) (is .1) ∙ drop-at l (zeros (length t - tableSize)) tableSize (is .0);
+  };
+  unfit = λ q. absurd (omega arith);
+}
+  where
+    is : (length l ≡ tableSize) × (u ≡ l ++ zeros (length t - tableSize))
+    is = zeroed-behind tableSize l t h k e
+
+-- what was read into a table that is no longer
+pub read-whole : {room : ℕ} {text table : List ℕ} {r : Res (Unit {0})} → room ≡ tableSize → Answers room text table r → Reads text table r
+unfolding zeros
+read-whole {room} {text} {table} {r} e a =
+    let f = a .fit (omega arith) in
+    let z : room - tableSize ≡ 0 = omega arith in
+    let nil : drop tableSize table ≡ [] = f .behind ∙ ap zeros z in
+    subst (λ (t : List ℕ). Reads text t r) (sym (append-nil (take tableSize table)) ∙ ap (λ (l : List ℕ). take tableSize table ++ l) (sym nil) ∙ take-append-drop tableSize table) (f .reads)

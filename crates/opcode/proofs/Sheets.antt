@@ -1,11 +1,11 @@
 -- Laws of sheets, over the definition: what an accepted one is, and that an opcode has its role and a role its opcode.
 use mathlib.Core.Path.{_≡_, refl, ap, sym, _∙_}
 use mathlib.Core.Bool.{Bool, true, false, not}
-use mathlib.Core.Option.{Option, some}
+use mathlib.Core.Option.{some}
 use mathlib.Core.List.{List, [], _∷_}
 use Prim.Native.Nat.{ℕ, zero, suc, _+_, _<_, _≤_}
 use native.Mathlib.Omega.{arith}
-use borrow.Author.Tests.{eq-eqb, ne-eqb, eqb-true, eqb-false, not-true}
+use borrow.Author.Tests.{eq-eqb, ne-eqb, eqb-false, not-true}
 use native.Mathlib.Decide.{decLt}
 use lib.Dec.{eqb}
 use lib.ListN.{length, getD}
@@ -47,23 +47,6 @@ module _ {A : Type 0} (d : A) where
   beside-at (x ∷ xs) (y ∷ ys) (suc i) e h l =
       let p = distinct-cons x xs e in
       rw (beside, ne-eqb x (getD xs i 0) (has-not x xs i (p .0) (omega arith))) (beside-at xs ys i (p .1) (omega arith) (omega arith))
-
-  -- y stands at place i of ys, as b does of xs
-  pub record Beside (b : ℕ) (xs : List ℕ) (ys : List A) (y : A) : Type 0 where
-    pub place : ℕ
-    pub low : place < length ys
-    pub left : getD xs place 0 ≡ b
-    pub right : getD ys place d ≡ y
-
-  beside-back : (b : ℕ) (xs : List ℕ) (ys : List A) (y : A) → beside b xs ys ≡ some y → Beside b xs ys y
-  unfolding beside
-  beside-back b [] ys y e = absurd (let z : _≡_ {A = ℕ} 0 1 = cc in omega arith)
-  beside-back b (x ∷ xs) [] y e = absurd (let z : _≡_ {A = ℕ} 0 1 = cc in omega arith)
-  beside-back b (x ∷ xs) (w ∷ ys) y e = go (eqb x b) refl e (beside-back b xs ys y)
-    where
-      go : (t : Bool) → eqb x b ≡ t → _≡_ {A = Option A} (elim t [ true ↦ some w | false ↦ beside b xs ys ]) (some y) → (beside b xs ys ≡ some y → Beside b xs ys y) → Beside b (x ∷ xs) (w ∷ ys) y
-      go true q e more = record { place = 0; low = omega arith; left = eqb-true x b q; right = cc }
-      go false q e more = let r = more e in record { place = suc (r .place); low = omega (arith, r .low); left = r .left; right = r .right }
 
 -- ---- roles and their numbers
 
@@ -132,14 +115,6 @@ module _ {s : Sheet} (g : Good s) where
   pub role-of-opcode : (r : Role) → roleOf s (opcode s r) ≡ some r
   unfolding roleOf opcode roles roleNumbered
   role-of-opcode r = beside-at ret (s .opcodes) roles (number r) (g .opcodes .differ) (omega (arith, g .opcodes .long, number-below r)) (omega (arith, g .opcodes .long)) ∙ ap some (role-number r)
-
-  -- a byte that has a role is its opcode
-  pub opcode-of-role : (b : ℕ) (r : Role) → roleOf s b ≡ some r → opcode s r ≡ b
-  unfolding roleOf opcode roles roleNumbered
-  opcode-of-role b r e =
-      let p = beside-back ret b (s .opcodes) roles r e in
-      let n : number r ≡ p .place = ap number (sym (p .right)) ∙ number-role (p .place) (p .low) in
-      rw n (p .left)
 
   pub comparison-of-byte : (c : CompareOp) → comparisonOf s (comparisonByte s c) ≡ some c
   unfolding comparisonOf comparisonByte

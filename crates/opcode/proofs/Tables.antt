@@ -1,19 +1,17 @@
 -- A table: what it holds of its sheet, and how the role numbers come into it.
 use mathlib.Core.Path.{_≡_, refl, ap, sym, _∙_}
 use mathlib.Core.Option.{some}
-use mathlib.Core.List.{List, [], _∷_, _++_, map, append-nil}
+use mathlib.Core.List.{List, _∷_, _++_, map}
 use Prim.Native.Nat.{ℕ, zero, suc, _+_, _-_, _<_, _≤_}
 use native.Mathlib.Omega.{arith}
 use native.Mathlib.Decide.{ℕ-discrete}
 use borrow.Author.Tests.{eq-eqb, ne-eqb}
-use borrow.Author.Fill.{fill-none, fill-more}
-use borrow.Rule.Slice.PartMut.{midOf, postOf, putMid, same-len-mid}
-use lib.ListN.{length, getD, take, drop, set, replicate, take-append-drop, length-drop, length-set, length-map, length-replicate, getD-replicate, List·getD-append}
-use lib.Seq.{getD-take, getD-drop, getD-append-add, getD-set-same, getD-set-other, take-set-le, drop-cons, slice-empty, ext-getD, length-take-le, drop-length}
+use lib.ListN.{length, getD, take, drop, set, replicate, take-append-drop, length-append, length-drop, length-set, length-map, length-replicate, getD-replicate}
+use lib.Seq.{getD-take, getD-drop, getD-append-add, getD-set-same, getD-set-other, take-at, take-set-le, drop-cons, slice-empty, ext-getD, length-take-le}
 use Rattle.definition.specs.Opcode.{Role, roleCount, CompareOp, number, compareIndex, ret, roles, beside, roleOf, opcode, comparisonByte, Sheet}
 use Rattle.definition.specs.Rules.{roleNumbered}
-use Rattle.definition.specs.Sheet.{fieldCount, opcodesOf, comparisonsOf}
-use Rattle.definition.specs.Lent.{zeros}
+use Rattle.definition.specs.Sheet.{fieldCount, opcodesOf}
+use Rattle.store.specs.Fill.{setFrom}
 use Rattle.field.proofs.Lists.{inside}
 use Rattle.opcode.specs.Table.{byteCount, unlisted, tableSize, sheetIn, IsTable, numberIn, numberOr, tableOf, upFrom}
 use Rattle.opcode.proofs.Roles.{compare-index, seen-at}
@@ -65,31 +63,6 @@ table-by t l h =
     let back : drop fieldCount t ≡ listed (sheetIn t) = ext-getD 0 (drop fieldCount t) (listed (sheetIn t)) (d ∙ sym m) (λ i k. getD-drop fieldCount t i 0 ∙ h i (omega (arith, d)) ∙ sym (listed-at (sheetIn t) i (omega (arith, d)))) in
     record { long = l; is = sym (take-append-drop fieldCount t) ∙ ap (λ (r : List ℕ). take fieldCount t ++ r) back ∙ sym (table-front t) }
 
--- ---- a list of one number
-
-pub zeros-replicate : (n : ℕ) → replicate n 0 ≡ zeros n
-unfolding zeros
-zeros-replicate zero = refl
-zeros-replicate (suc n) = ap (λ (l : List ℕ). 0 ∷ l) (zeros-replicate n)
-
--- the first i of a list d are filled with b
-pub record Filling (d l : List ℕ) (b i : ℕ) : Type 0 where
-  pub long : length l ≡ length d
-  pub low : i ≤ length d
-  pub is : l ≡ replicate i b ++ drop i d
-
-pub filling-starts : (d : List ℕ) (b : ℕ) → Filling d d b 0
-filling-starts d b = record { long = refl; low = omega arith; is = fill-none d b }
-
-module _ {d l : List ℕ} {b i : ℕ} (p : Filling d l b i) where
-  pub filling-goes : i < length l → Filling d (set l i b) b (i + 1)
-  filling-goes h = record { long = length-set l i b ∙ p .long; low = omega (arith, p .long); is = ap (λ (k : List ℕ). set k i b) (p .is) ∙ fill-more i b d (omega (arith, p .long)) }
-
-  pub filling-ends : length l ≤ i → l ≡ replicate (length d) b
-  filling-ends h =
-      let e : i ≡ length d = omega (arith, p .long, p .low) in
-      p .is ∙ rw (e, drop-length d) (append-nil (replicate (length d) b))
-
 -- ---- listing the roles from the last on: those from i on are listed
 
 pub record Listing (t u : List ℕ) (i : ℕ) : Type 0 where
@@ -98,24 +71,32 @@ pub record Listing (t u : List ℕ) (i : ℕ) : Type 0 where
   pub low : i ≤ roleCount
   pub back : (b : ℕ) → b < byteCount → getD u (fieldCount + b) 0 ≡ numberOr (beside b (drop i (opcodesOf (take fieldCount t))) (drop i roles))
 
--- t with its part behind the fields filled
-pub listing-starts : (t l : List ℕ) → length t ≡ tableSize → l ≡ replicate (length (midOf fieldCount (length t - fieldCount) t)) unlisted → Listing (putMid fieldCount (length t - fieldCount) t l) (putMid fieldCount (length t - fieldCount) t l) roleCount
-unfolding beside numberOr
-listing-starts t l n e =
-    let m : length (midOf fieldCount (length t - fieldCount) t) ≡ byteCount = length-take-le (length t - fieldCount) (drop fieldCount t) (omega (arith, length-drop fieldCount t)) ∙ omega arith in
-    let k : length (take fieldCount t) ≡ fieldCount = length-take-le fieldCount t (omega arith) in
-    let u = putMid fieldCount (length t - fieldCount) t l in
-    let f : l ≡ replicate byteCount unlisted = e ∙ ap (λ (j : ℕ). replicate j unlisted) m in
-    let p : (b : ℕ) → b < byteCount → getD u (fieldCount + b) 0 ≡ unlisted = λ b h.
-    rw k at (getD-append-add (take fieldCount t) (l ++ postOf fieldCount (length t - fieldCount) t) b 0)
-    ∙ List·getD-append l (postOf fieldCount (length t - fieldCount) t) 0 b (rw (f, length-replicate {A = ℕ} byteCount unlisted) h)
-    ∙ rw f (getD-replicate byteCount b unlisted 0 h) in
-    record {
-      long = same-len-mid fieldCount (length t - fieldCount) t l (ap length e ∙ length-replicate (length (midOf fieldCount (length t - fieldCount) t)) unlisted) ∙ n;
-      front = refl;
-      low = omega arith;
-      back = λ b h. p b h ∙ rw (slice-empty roleCount (take fieldCount u));
-    }
+-- behind the fields of t no role is listed
+module _ (t : List ℕ) {u : List ℕ} (n : length t ≡ tableSize) (e : u ≡ setFrom fieldCount unlisted t) where
+  fields-long : length (take fieldCount t) ≡ fieldCount
+  fields-long = length-take-le fieldCount t (omega arith)
+
+  none-listed : u ≡ take fieldCount t ++ replicate byteCount unlisted
+  unfolding setFrom
+  none-listed = let m : length t - fieldCount ≡ byteCount = omega arith in e ∙ rw m
+
+  pub fields-kept : take fieldCount u ≡ take fieldCount t
+  fields-kept = ap (take fieldCount) none-listed ∙ take-at (take fieldCount t) (replicate byteCount unlisted) fieldCount fields-long
+
+  unlisted-at : (b : ℕ) → b < byteCount → getD u (fieldCount + b) 0 ≡ unlisted
+  unlisted-at b h =
+      ap (λ (l : List ℕ). getD l (fieldCount + b) 0) none-listed
+      ∙ rw fields-long at (getD-append-add (take fieldCount t) (replicate byteCount unlisted) b 0)
+      ∙ getD-replicate byteCount b unlisted 0 h
+
+  pub listing-starts : Listing u u roleCount
+  unfolding beside numberOr
+  listing-starts = record {
+    long = ap length none-listed ∙ length-append (take fieldCount t) (replicate byteCount unlisted) ∙ omega (arith, fields-long, length-replicate {A = ℕ} byteCount unlisted);
+    front = refl;
+    low = omega arith;
+    back = λ b h. unlisted-at b h ∙ rw (slice-empty roleCount (take fieldCount u));
+  }
 
 -- the first of some opcodes has this role, and any other byte the one that it has among the rest
 module _ (b x : ℕ) (xs : List ℕ) (r : Role) (rs : List Role) where

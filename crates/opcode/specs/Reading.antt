@@ -3,7 +3,7 @@ use mathlib.Core.Path.{_≡_}
 use mathlib.Core.Bool.{true, false}
 use mathlib.Core.Option.{some, none}
 use mathlib.Core.List.{List}
-use Prim.Native.Nat.{ℕ, _+_, _≤_, _<_}
+use Prim.Native.Nat.{ℕ, _+_, _-_, _≤_, _<_}
 use lib.ListN.{take, drop, set}
 use Rattle.definition.specs.Limits.{badSheet, outputShort}
 use Rattle.definition.specs.Res.{Res, ok, refuse}
@@ -34,15 +34,20 @@ abbrev pub Reads : List ℕ → List ℕ → Res (Unit {0}) → Type 0
 Reads text table (ok u) = Accepts text table
 Reads text table (refuse n p) = Refuses text table n p
 
--- 14 for a lent table of another length, which is cleared
+-- 14 for a lent table that is shorter, which is cleared
 pub record Unfit (room : ℕ) (table : List ℕ) (r : Res (Unit {0})) : Type 0 where
   pub is : r ≡ refuse outputShort 0
   pub cleared : table ≡ zeros room
 
+-- in a longer one the table stands first, and 0 behind it
+pub record Fit (room : ℕ) (text table : List ℕ) (r : Res (Unit {0})) : Type 0 where
+  pub reads : Reads text (take tableSize table) r
+  pub behind : drop tableSize table ≡ zeros (room - tableSize)
+
 -- what is answered, and what a lent table of `room` elements then holds
 pub record Answers (room : ℕ) (text table : List ℕ) (r : Res (Unit {0})) : Type 0 where
-  pub fit : room ≡ tableSize → Reads text table r
-  pub unfit : (room ≡ tableSize → ⊥) → Unfit room table r
+  pub fit : tableSize ≤ room → Fit room text table r
+  pub unfit : room < tableSize → Unfit room table r
 
 -- a number that no byte has
 abbrev pub noByte : ℕ

@@ -5,7 +5,7 @@ use mathlib.Core.Option.{Option, some, none}
 use mathlib.Core.List.{List, [], _∷_, _++_, map}
 use Prim.Native.Nat.{ℕ, zero, suc, _+_, _<_}
 use lib.Dec.{ltb}
-use lib.ListN.{length, getD, take, drop}
+use lib.ListN.{length, getD, take}
 use Rattle.definition.specs.Opcode.{Role, number, roleCount, comparisonCount, Sheet, roleOf}
 use Rattle.definition.specs.Sheet.{distinct, fieldCount, opcodesOf, comparisonsOf, maxByte}
 

@@ -2,7 +2,7 @@
 // its role. The table is filled once and then lent as one slice, so that nothing of it is copied at a call.
 ghost use mathlib.Core.Path.{_≡_};
 ghost use Prim.Native.Nat.{_<_};
-ghost use lib.ListN.{length, replicate};
+ghost use lib.ListN.{length};
 ghost use Rattle.definition.specs.Res.{refuse};
 ghost use Rattle.definition.specs.Field.{has};
 ghost use Rattle.definition.specs.Sheet.{fieldCount};
@@ -11,7 +11,7 @@ ghost use Rattle.definition.specs.Opcode.{opcode, comparisonByte};
 ghost use Rattle.field.specs.View.{readOf};
 ghost use Rattle.opcode.specs.View.{roleView, compareView};
 ghost use Rattle.opcode.specs.Table.{tableSize, sheetIn, numberIn, Listed, groupStart};
-ghost use Rattle.opcode.specs.Reading.{answerOf, Answers, Found, Takes, byteOr};
+ghost use Rattle.opcode.specs.Reading.{answerOf, Reads, Answers, Found, Takes, byteOr};
 use crate::CompareOp;
 use crate::Role;
 use definition::BAD_SHEET;
@@ -85,23 +85,12 @@ fn group_start(i: usize) -> usize
     if i < ROLE_COUNT { 0 } else { ROLE_COUNT }
 }
 
-// The same byte all through.
-fn fill(bytes: &mut [u8], b: u8)
-    ensures { λ r. ⌜ now (bytes .exit) ≡ replicate (length (now (bytes .entry))) b ⌝ }
-{
-    let mut i = 0;
-    while i < bytes.len() {
-        bytes[i] = b;
-        i += 1;
-    }
-}
-
 // Each role's number at its opcode, the last role first: what stands there is then the number of the first that has it.
 fn list_roles(sheet: &mut [u8])
     requires { ⌜ length (now sheet) ≡ tableSize ⌝ }
     ensures { λ r. ⌜ Listed (now (sheet .entry)) (now (sheet .exit)) ⌝ }
 {
-    fill(&mut sheet[FIELD_COUNT..], UNLISTED);
+    store::set_bytes(sheet, FIELD_COUNT, UNLISTED);
     let mut i = ROLE_COUNT;
     while 0 < i {
         i -= 1;
@@ -177,17 +166,15 @@ fn read_fields(text: &[u8], sheet: &mut [u8]) -> SheetRead
 fn refuse(sheet: &mut [u8], number: u8, place: u32) -> SheetRead
     ensures { λ r. ⌜ (answerOf r ≡ refuse number place) × (now (sheet .exit) ≡ zeros (length (now (sheet .entry)))) ⌝ }
 {
-    fill(sheet, 0);
+    store::zero_bytes(sheet, 0);
     SheetRead::Refused(number, place)
 }
 
-// A sheet from any bytes, into a table of TABLE_SIZE elements: 7, or 14 for a table of any other length.
-pub fn read_sheet(text: &[u8], sheet: &mut [u8]) -> SheetRead
-    ensures { λ r. ⌜ Answers (length (now (sheet .entry))) (now (text .entry)) (now (sheet .exit)) (answerOf r) ⌝ }
+// A sheet from any bytes, into a table of TABLE_SIZE elements.
+fn read_table(text: &[u8], sheet: &mut [u8]) -> SheetRead
+    requires { ⌜ length (now sheet) ≡ tableSize ⌝ }
+    ensures { λ r. ⌜ Reads (now (text .entry)) (now (sheet .exit)) (answerOf r) ⌝ }
 {
-    if sheet.len() != TABLE_SIZE {
-        return refuse(sheet, OUTPUT_SHORT, 0);
-    }
     match read_fields(text, sheet) {
         SheetRead::Refused(number, place) => refuse(sheet, number, place),
         SheetRead::Accepted => {
@@ -195,4 +182,16 @@ pub fn read_sheet(text: &[u8], sheet: &mut [u8]) -> SheetRead
             SheetRead::Accepted
         }
     }
+}
+
+// A sheet from any bytes, into a table of TABLE_SIZE elements or more: 7, or 14 for a shorter one. What lies behind the table is zeroed.
+pub fn read_sheet(text: &[u8], sheet: &mut [u8]) -> SheetRead
+    ensures { λ r. ⌜ Answers (length (now (sheet .entry))) (now (text .entry)) (now (sheet .exit)) (answerOf r) ⌝ }
+{
+    if sheet.len() < TABLE_SIZE {
+        return refuse(sheet, OUTPUT_SHORT, 0);
+    }
+    let answer = read_table(text, &mut sheet[..TABLE_SIZE]);
+    store::zero_bytes(sheet, TABLE_SIZE);
+    answer
 }

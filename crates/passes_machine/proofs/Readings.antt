@@ -148,7 +148,7 @@ group-plain : (i : ℕ) (rs : List Read) → groupOf i (map plain rs) ≡ map pl
 unfolding groupOf
 group-plain i rs =
     elim (ltb i roleCount)
-    as (λ t. _≡_ {A = List Read} (elim t [ true ↦ opcodesOf (map plain rs) | false ↦ comparisonsOf (map plain rs) ]) (map plain (elim t [ true ↦ take opcodeCount rs | false ↦ drop opcodeCount rs ])))
+    as (λ t. _≡_ {A = List Read} (elim t [ true ↦ opcodesOf (map plain rs) | false ↦ comparisonsOf (map plain rs) ]) (map plain (elim t [ true ↦ opcodesOf rs | false ↦ comparisonsOf rs ])))
     [ true ↦ take-map plain roleCount rs | false ↦ drop-map plain roleCount rs ]
 
 at-plain : (rs : List Read) (i : ℕ) → getD (map plain rs) i malformed ≡ plain (getD rs i malformed)

@@ -12,14 +12,16 @@ use lib.ListN.{length, getD, take, drop}
 use Rattle.definition.specs.Limits.{maxField, badForm, badRange, tooDeep, wrongLines}
 use Rattle.definition.specs.Field as def
 use Rattle.definition.specs.Field.{comma, split, firstLine, Field, upTo, below, value, Read, malformed, outside, field, natural, naturalWithin, within, Numbers, wrong, far, are, andThese, numbers}
+use Rattle.definition.specs.Tree.{posNumbers}
 use Rattle.definition.specs.Program.{Form, is, not, made, byLetter, lineOf, lineAt, posFields}
 use Rattle.field.specs.View.{before, Ends}
 use Rattle.field.proofs.Parts.{parts-last, parts-more, line-is, Some, some-part, split-some}
 use Rattle.line_map.specs.declared.Pos.{Pos}
+use Rattle.line_map.specs.View.{posView}
 use Rattle.program_line.specs.declared.Verdict.{Verdict}
 use Rattle.program_line.specs.declared.Verdict.the-variants.{Good, Far, Wrong}
 use Rattle.program_line.specs.declared.Scan.{Scan}
-use Rattle.program_line.specs.Scan.{restFrom, rest, behindIf, behind, farther, worse, numberIn, held, push, pushAll, left, Bounded, Took, posNumbers, TookPos, Fresh, letterOf, behindLetter, Opened, refusalIf, refusalAt}
+use Rattle.program_line.specs.Scan.{restFrom, rest, behindIf, behind, farther, worse, numberIn, held, push, pushAll, left, Bounded, Took, TookPos, Fresh, letterOf, behindLetter, Opened, refusalIf, refusalAt}
 
 -- ---- one field
 
@@ -112,7 +114,7 @@ module _ {line : List ℕ} {s : Scan} (f : Field) (low : s .at ≤ length line) 
   took-none more = record { is = λ fs. rw (more, held-wrong); within = low; bound = zero-bounded f }
 
 pub took-position : {line : List ℕ} {s t u : Scan} {p : Pos} → Took (upTo maxField) line s (p .line) t → Took (upTo maxField) line t (p .column) u → TookPos line s p u
-unfolding posFields pushAll
+unfolding posFields posNumbers pushAll
 took-position {p = p} a b = record { is = λ fs. a .is _ ∙ ap (push (p .line)) (b .is fs); within = b .within }
 
 -- ---- a line
@@ -162,8 +164,8 @@ module _ {line : List ℕ} {s t : Scan} {r : ℕ} {fs : List Field} {ns : List �
   unfolding push
   ended-number {n = n} a e = record { good = λ h. rw (a .is fs, e .good h); bad = λ h. rw (a .is fs, refused-push) (e .bad h) }
 
-  pub ended-position : {p : Pos} → TookPos line s p t → Ended line fs t r ns → Ended line (posFields ++ fs) s r (posNumbers p ++ ns)
-  ended-position {p = p} a e = record { good = λ h. rw (a .is fs, e .good h) (push-all (posNumbers p) ns); bad = λ h. rw (a .is fs, refused-all (posNumbers p)) (e .bad h) }
+  pub ended-position : {p : Pos} → TookPos line s p t → Ended line fs t r ns → Ended line (posFields ++ fs) s r (posNumbers (posView p) ++ ns)
+  ended-position {p = p} a e = record { good = λ h. rw (a .is fs, e .good h) (push-all (posNumbers (posView p)) ns); bad = λ h. rw (a .is fs, refused-all (posNumbers (posView p))) (e .bad h) }
 
 -- what a letter makes of the numbers of its fields
 pub record Fits {L : Type 0} (forms : List (Form L)) (letter : ℕ) (fields : List Field) (make : List ℕ → L) : Type 0 where

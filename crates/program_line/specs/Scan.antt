@@ -8,8 +8,10 @@ use lib.ListN.{length, drop}
 use Rattle.definition.specs.Limits.{width, badForm, badRange}
 use Rattle.definition.specs.Field as def
 use Rattle.definition.specs.Field.{comma, split, Field, Read, malformed, outside, Numbers, wrong, far, are, numbers}
+use Rattle.definition.specs.Tree.{posNumbers}
 use Rattle.definition.specs.Program.{posFields}
 use Rattle.line_map.specs.declared.Pos.{Pos}
+use Rattle.line_map.specs.View.{posView}
 use Rattle.program_line.specs.declared.Verdict.{Verdict}
 use Rattle.program_line.specs.declared.Verdict.the-variants.{Good, Far, Wrong}
 use Rattle.program_line.specs.declared.Kind.{Kind}
@@ -87,13 +89,9 @@ pub record Took (f : Field) (line : List ℕ) (s : Scan) (n : ℕ) (t : Scan) : 
   pub within : t .at ≤ length line
   pub bound : Bounded f n
 
--- a position's numbers, in the order of its fields
-abbrev pub posNumbers : Pos → List ℕ
-posNumbers p = p .line ∷ p .column ∷ []
-
 -- a position's fields were read
 pub record TookPos (line : List ℕ) (s : Scan) (p : Pos) (t : Scan) : Type 0 where
-  pub is : (fs : List Field) → left line (posFields ++ fs) s ≡ pushAll (posNumbers p) (left line fs t)
+  pub is : (fs : List Field) → left line (posFields ++ fs) s ≡ pushAll (posNumbers (posView p)) (left line fs t)
   pub within : t .at ≤ length line
 
 -- the place behind the letter

@@ -5,20 +5,22 @@ use mathlib.Core.Option.{Option, some, none}
 use mathlib.Core.List.{List, [], _∷_, _++_, append-assoc, append-nil}
 use Prim.Native.Nat.{ℕ, _+_, _-_, _*_, _≤_, _<_}
 use native.Mathlib.Omega.{arith}
-use borrow.Author.Tests.{eq-eqb, ne-eqb, le-leb, lt-leb}
-use lib.ListN.{length, drop, length-append, drop-of-length-le}
+use borrow.Author.Tests.{le-leb, lt-leb}
+use lib.ListN.{length, take, drop, length-append, drop-of-length-le}
 use lib.Seq.{paste}
 use Rattle.definition.specs.Limits.{maxRules, badRule, outputShort}
 use Rattle.definition.specs.Res.{Res, ok, refuse, _>>=_, _>>_, demand, given}
 use Rattle.definition.specs.Field.{lf, split, firstLine}
-use Rattle.definition.specs.Lent.{zeros}
+use Rattle.definition.specs.Lent.{zeros, filled}
 use Rattle.definition.specs.Rules.{Rule, readRule, isEmpty, rulesFrom, readRules}
 use Rattle.field.specs.View.{lineEnd}
 use Rattle.field.proofs.Parts.{Some, some-part, split-some, line-part, line-is, line-ends, parts-last, parts-more}
 use Rattle.rules.specs.declared.Line.{Line}
 use Rattle.rules.specs.declared.RuleAnswer.{RuleAnswer}
 use Rattle.rules.specs.declared.RuleAnswer.the-variants.{Rules, Refused}
-use Rattle.rules.specs.View.{rowSize, tableSize, rowOf, tableOf, readInto, answerOf, tableFor, Answered, lineOf, lineAt}
+use Rattle.rules.specs.View.{rowSize, tableSize, rowOf, rowsOf, tableOf, readInto, answerOf, tableFor, Answered, lineOf, lineAt}
+use Rattle.store.specs.Fill.{zeroedFrom}
+use Rattle.store.proofs.Fills.{zeros-append, length-zeros, zeroed-behind}
 use Rattle.rules.proofs.Lines.{by-end, whole-rule, rule-ended}
 use Rattle.rules.proofs.Table.{table-long, table-none, table-more}
 
@@ -78,24 +80,6 @@ module _ (next : ℕ) where
   unfolding lineOf
   line-some none e g = absurd (let t : false ≡ true = sym (ap (λ (x : Line). x .good) e) ∙ g in let z : _≡_ {A = ℕ} 0 1 = cc in omega arith)
   line-some (some r) e g = (r, refl, ap (λ (x : Line). x .numbers) e, ap (λ (x : Line). x .next) e)
-
--- ---- the table's length
-
-module _ (text : List ℕ) {room : ℕ} where
-  pub read-fit : room ≡ tableSize → readInto room text ≡ readRules text
-  unfolding readInto _>>_ demand
-  read-fit e = rw (eq-eqb room tableSize e)
-
-  read-unfit : (room ≡ tableSize → ⊥) → readInto room text ≡ refuse outputShort 0
-  unfolding readInto _>>_ demand
-  read-unfit e = rw (ne-eqb room tableSize e)
-
-  pub file-unfit : {table : List ℕ} {a : RuleAnswer} → (room ≡ tableSize → ⊥) → Answered room (refuse outputShort 0) a table → Answered room (readInto room text) a table
-  file-unfit e d = rw (read-unfit e) d
-
-  -- what was read into a whole table
-  pub file-fit : {table : List ℕ} {a : RuleAnswer} → room ≡ tableSize → Answered room (readInto room text) a table → Answered tableSize (readRules text) a table
-  file-fit e d = rw (← read-fit e, ← e) d
 
 -- ---- the walk over the lines
 
@@ -173,15 +157,53 @@ module _ {text table : List ℕ} {at count : ℕ} (f : FileRead text table at co
     pub file-less : l .good ≡ true → at < length text → length text - l .next < length text - at
     file-less g here = let (q, o, n, at′) = line-some _ _ is g in omega (arith, at′)
 
-  pub file-done : {room : ℕ} → room ≡ tableSize → length text ≤ at → Answered room (readInto room text) (Rules count) table
+  pub file-done : length text ≤ at → Answered tableSize (readRules text) (Rules count) table
   unfolding prepended rulesFrom split isEmpty _>>_ demand answerOf tableFor tableOf
-  file-done fit h =
+  file-done h =
       let is : readRules text ≡ ok (f .rules) = f .more ∙ rw (drop-of-length-le text h) (ap ok (append-nil (f .rules))) in
-      rw (read-fit text fit, is, fit) (record { is = ap Rules (f .many); holds = f .holds })
+      rw is (record { is = ap Rules (f .many); holds = f .holds })
 
-pub file-refused : (text : List ℕ) {table : List ℕ} {room k : ℕ} {y : Res (List Rule)} {a : RuleAnswer} → room ≡ tableSize → k ≡ tableSize → readRules text ≡ y → Answered k y a table → Answered room (readInto room text) a table
-file-refused text h q e d = rw (read-fit text h, e, h, ← q) d
+pub file-refused : (text : List ℕ) {table : List ℕ} {k : ℕ} {y : Res (List Rule)} {a : RuleAnswer} → k ≡ tableSize → readRules text ≡ y → Answered k y a table → Answered tableSize (readRules text) a table
+file-refused text q e d = rw (e, ← q) d
 
 pub refused-is : {room n p : ℕ} {table : List ℕ} → table ≡ zeros room → Answered room (refuse n p) (Refused n p) table
 unfolding answerOf tableFor
 refused-is e = record { is = refl; holds = e }
+
+-- ---- what is lent
+
+module _ (text : List ℕ) {room : ℕ} where
+  pub read-fit : tableSize ≤ room → readInto room text ≡ readRules text
+  unfolding readInto _>>_ demand
+  read-fit h = rw (le-leb tableSize room h)
+
+  read-unfit : room < tableSize → readInto room text ≡ refuse outputShort 0
+  unfolding readInto _>>_ demand
+  read-unfit h = rw (lt-leb tableSize room h)
+
+  pub file-unfit : {table : List ℕ} {a : RuleAnswer} → room < tableSize → Answered room (refuse outputShort 0) a table → Answered room (readInto room text) a table
+  file-unfit h d = rw (read-unfit h) d
+
+  -- what was read into a table that is no longer
+  pub file-fit : {table : List ℕ} {a : RuleAnswer} → room ≡ tableSize → Answered room (readInto room text) a table → Answered tableSize (readRules text) a table
+  file-fit e d = rw (← read-fit (omega arith), ← e) d
+
+-- a table and 0 behind it
+module _ {l : List ℕ} (n : length l ≡ tableSize) (k : ℕ) where
+  table-behind : (x : Res (List Rule)) → l ≡ tableFor tableSize x → l ++ zeros k ≡ tableFor (tableSize + k) x
+  unfolding tableFor filled
+  table-behind (refuse m p) e = ap (λ (t : List ℕ). t ++ zeros k) e ∙ zeros-append tableSize k
+  table-behind (ok rs) e =
+      let all = rowsOf rs in
+      let few : length all ≤ tableSize = omega (arith, n, ap length e, length-append all (zeros (tableSize - length all)), length-zeros (tableSize - length all)) in
+      let left : tableSize - length all + k ≡ tableSize + k - length all = omega arith in
+      ap (λ (t : List ℕ). t ++ zeros k) e
+      ∙ append-assoc all (zeros (tableSize - length all)) (zeros k)
+      ∙ ap (λ (t : List ℕ). all ++ t) (zeros-append (tableSize - length all) k ∙ ap zeros left)
+
+pub file-behind : (text t l : List ℕ) {u : List ℕ} {a : RuleAnswer} → tableSize ≤ length t → length l ≡ length (take tableSize t) → Answered tableSize (readRules text) a l → u ≡ zeroedFrom tableSize (l ++ drop tableSize t)
+    → Answered (length t) (readInto (length t) text) a u
+file-behind text t l h k d e =
+    let is = zeroed-behind tableSize l t h k e in
+    let room : tableSize + (length t - tableSize) ≡ length t = omega arith in
+    rw (read-fit text h) (record { is = d .is; holds = is .1 ∙ table-behind (is .0) (length t - tableSize) (readRules text) (d .holds) ∙ ap (λ (n : ℕ). tableFor n (readRules text)) room })

@@ -1,7 +1,7 @@
 -- The lookup, row by row.
 use mathlib.Core.Path.{_≡_, refl, ap, sym, _∙_}
 use mathlib.Core.Bool.{Bool, true, false, _&&_}
-use mathlib.Core.Option.{some, none}
+use mathlib.Core.Option.{none}
 use mathlib.Core.List.{List, [], _∷_, map}
 use Prim.Native.Nat.{ℕ, zero, suc, _+_, _-_, _*_, _≤_, _<_, min}
 use native.Mathlib.Nat.{min-eq-left}
@@ -15,7 +15,6 @@ use Rattle.definition.specs.Rules as def
 use Rattle.definition.specs.Rules.{keep, ruleOf, roleNumbered, testNumbered, actionNumbered, testHolds, fits, matches}
 use Rattle.rules.specs.declared.Action.{Action}
 use Rattle.rules.specs.declared.Instruction.{Instruction}
-use Rattle.rules.specs.declared.Found.{Found}
 use Rattle.rules.specs.declared.Found.the-variants.{At, Nothing}
 use Rattle.rules.specs.View.{rowSize, passAt, firstAt, secondAt, testAt, numberAt, oneAt, oneOperandAt, twoAt, twoOperandAt, actionView, instructionView, rulesIn, rowAt, ruleAt, rowCount, rowFits, foundFrom, foundIn, actionsIn, IsRules, RowAt, Inside, pairAt, Finds}
 use Rattle.rules.proofs.Rows.{number-back, has-number}
@@ -150,20 +149,7 @@ module _ {table : List ℕ} {count : ℕ} (t : IsRules table count) where
   pub actions-there : {i : ℕ} → i < count → actionsIn table i ≡ ruleAt table i .one ∷ ruleAt table i .two ∷ []
   actions-there h = actions-whole table _ (omega (arith, rules-whole))
 
--- ---- for whoever asks: `find`, then `actions` of the rule found
-module _ {table : List ℕ} {count pass : ℕ} {a b : Instruction} {f : Found} (d : Finds table count pass a b f) where
-  pub lookup-inside : {i : ℕ} → f ≡ At i → i < count
-  unfolding Inside
-  lookup-inside e = rw e at (d .inside)
-
-  pub lookup-at : {i : ℕ} → f ≡ At i → matches pass (rulesIn table count) (instructionView a) (instructionView b) ≡ some (ruleAt table i .one, ruleAt table i .two)
-  unfolding pairAt
-  lookup-at e = sym (d .is) ∙ rw e
-
-  pub lookup-none : f ≡ Nothing → matches pass (rulesIn table count) (instructionView a) (instructionView b) ≡ none
-  unfolding pairAt
-  lookup-none e = sym (d .is) ∙ rw e
-
+-- ---- the two actions of a rule
 module _ (d : Action) {x y : def.Action} where
   pub first-action : (l : List Action) → map actionView l ≡ x ∷ y ∷ [] → actionView (getD l 0 d) ≡ x
   first-action [] e = absurd (let z : _≡_ {A = ℕ} 0 1 = cc in omega arith)

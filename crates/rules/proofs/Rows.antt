@@ -1,5 +1,5 @@
 -- Roles, tests and actions by their numbers, and a rule by its row.
-use mathlib.Core.Path.{_≡_, refl, ap, sym, _∙_}
+use mathlib.Core.Path.{_≡_, refl, sym, _∙_}
 use mathlib.Core.Bool.{Bool, true, false}
 use mathlib.Core.Logic.{_⊎_, inl, inr, ⊎-elim}
 use mathlib.Core.Option.{some, none}
@@ -16,16 +16,6 @@ use Rattle.opcode.proofs.Sheets.{role-number, number-below}
 use Rattle.rules.specs.View.{passAt, firstAt, secondAt, testAt, numberAt, oneAt, oneOperandAt, twoAt, twoOperandAt, firstIsTag, rewriteTag, used, testTag, testNumber, actionTag, actionOperand, rowOf, Bounded}
 
 -- ---- roles
-
-element : {A : Type 0} (l : List A) (n : ℕ) (d : A) → n < length l → getElem? l n ≡ some (getD l n d)
-element [] n d h = absurd (omega arith)
-element (y ∷ l) zero d h = refl
-element (y ∷ l) (suc n) d h = element l n d (omega arith)
-
--- every role stands at its number
-pub role-there : (r : Role) → getElem? roles (number r) ≡ some r
-unfolding roleNumbered roles
-role-there r = element roles (number r) ret (number-below r) ∙ ap some (role-number r)
 
 pub number-small : (r : Role) → number r < length roles
 unfolding roles

@@ -4,53 +4,21 @@ use mathlib.Core.List.{List, [], _∷_, _++_, append-assoc, append-nil}
 use Prim.Native.Nat.{ℕ, zero, suc, _+_, _-_, _*_, _≤_, _<_}
 use native.Mathlib.Numerals.{add-one}
 use native.Mathlib.Omega.{arith}
-use borrow.Author.Fill.{fill-more}
-use lib.ListN.{length, getD, take, drop, set, replicate, length-append, length-set}
-use lib.Seq.{take-at, drop-append-add, drop-length, drop-drop, getD-drop, paste, paste-zero, paste-suc}
+use lib.ListN.{length, getD, take, drop, set, length-append, length-set}
+use lib.Seq.{take-at, drop-append-add, drop-drop, getD-drop, paste, paste-zero, paste-suc}
 use Rattle.definition.specs.Limits.{maxRules}
 use Rattle.definition.specs.Lent.{zeros, filled}
 use Rattle.definition.specs.Opcode.{number}
 use Rattle.definition.specs.Rules.{Rule}
 use Rattle.rules.specs.View.{rowSize, firstAt, secondAt, tableSize, rowOf, rowsOf, tableOf, rulesIn, Each, IsRules, RowAt}
+use Rattle.store.proofs.Fills.{length-zeros}
 use Rattle.rules.proofs.Rows.{rule-back, number-small}
-
--- ---- clearing
-
-zeros-are : (n : ℕ) → zeros n ≡ replicate n 0
-unfolding zeros
-zeros-are zero = refl
-zeros-are (suc n) = ap (λ (l : List ℕ). 0 ∷ l) (zeros-are n)
-
-zeros-long : (n : ℕ) → length (zeros n) ≡ n
-unfolding zeros
-zeros-long zero = refl
-zeros-long (suc n) = ap suc (zeros-long n)
 
 drop-zeros : (k n : ℕ) → drop k (zeros n) ≡ zeros (n - k)
 unfolding zeros
 drop-zeros zero n = ap zeros (let e : n ≡ n - 0 = omega arith in e)
 drop-zeros (suc k) zero = ap zeros (let e : 0 ≡ 0 - suc k = omega arith in e)
 drop-zeros (suc k) (suc n) = drop-zeros k n ∙ ap zeros (let e : n - k ≡ suc n - suc k = omega arith in e)
-
-pub record Clearing (d table : List ℕ) (i : ℕ) : Type 0 where
-  pub near : i ≤ length d
-  pub long : length table ≡ length d
-  pub is : table ≡ zeros i ++ drop i d
-
-pub clears-start : (d : List ℕ) → Clearing d d 0
-unfolding zeros
-clears-start d = record { near = omega arith; long = refl; is = refl }
-
-module _ {d table : List ℕ} {i : ℕ} (c : Clearing d table i) where
-  pub clears-next : i < length table → Clearing d (set table i 0) (i + 1)
-  clears-next h =
-      let h′ : i < length d = omega (arith, c .long) in
-      record { near = omega arith; long = length-set table i 0 ∙ c .long; is = rw (c .is, zeros-are i, zeros-are (i + 1)) (fill-more i 0 d h′) }
-
-  pub cleared : length table ≤ i → table ≡ zeros (length d)
-  cleared h =
-      let e : i ≡ length d = omega (arith, c .long, c .near) in
-      c .is ∙ rw (e, drop-length d) (append-nil (zeros (length d)))
 
 -- ---- storing a row
 
@@ -87,7 +55,7 @@ rows-more (q ∷ rs) r = ap (λ (l : List ℕ). rowOf q ++ l) (rows-more rs r) �
 
 pub table-long : (rs : List Rule) → length rs ≤ maxRules → length (tableOf rs) ≡ tableSize
 unfolding tableOf filled
-table-long rs h = length-append (rowsOf rs) (zeros (tableSize - length (rowsOf rs))) ∙ omega (arith, rows-long rs, zeros-long (tableSize - length (rowsOf rs)))
+table-long rs h = length-append (rowsOf rs) (zeros (tableSize - length (rowsOf rs))) ∙ omega (arith, rows-long rs, length-zeros (tableSize - length (rowsOf rs)))
 
 pub table-none : tableOf [] ≡ zeros tableSize
 unfolding tableOf filled rowsOf

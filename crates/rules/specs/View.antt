@@ -4,7 +4,7 @@ use mathlib.Core.Bool.{Bool, true, false, _&&_}
 use mathlib.Core.Option.{Option, some, none}
 use mathlib.Core.List.{List, [], _∷_, _++_}
 use Prim.Native.Nat.{ℕ, zero, suc, _+_, _*_, _/_, _≤_, _<_, min}
-use lib.Dec.{eqb, ltb}
+use lib.Dec.{eqb, leb, ltb}
 use lib.ListN.{length, getD, take, drop, getElem?}
 use Rattle.definition.specs.Limits.{maxRules, outputShort}
 use Rattle.definition.specs.Res.{Res, ok, refuse, _>>_, demand}
@@ -126,9 +126,9 @@ tableOf rs = filled tableSize (rowsOf rs)
 
 -- ---- what reading answers
 
--- reading into a table of `room` numbers: 14 for any but a whole table
+-- reading into a table of `room` numbers: 14 for a shorter one
 unfoldable pub readInto : ℕ → List ℕ → Res (List Rule)
-readInto room text = demand (eqb room tableSize) outputShort 0 >> readRules text
+readInto room text = demand (leb tableSize room) outputShort 0 >> readRules text
 
 unfoldable pub answerOf : Res (List Rule) → RuleAnswer
 answerOf (ok rs) = Rules (length rs)

@@ -2,12 +2,11 @@
 ghost use mathlib.Core.Path.{_≡_};
 ghost use mathlib.Core.Option.{none};
 ghost use mathlib.Core.List.{map};
-ghost use Prim.Native.Nat.{ℕ, _≤_, _+_, _*_, min};
+ghost use Prim.Native.Nat.{ℕ, _≤_, _+_, _*_};
 ghost use lib.ListN.{length};
 ghost use lib.Seq.{paste};
 ghost use Rattle.definition.specs.Res.{refuse};
-ghost use Rattle.definition.specs.Lent.{zeros};
-ghost use Rattle.definition.specs.Rules.{ruleOf, testNumbered, actionNumbered, testable, allowed, removed, cancel, hasOperand, isVariable, goodRule, testHolds};
+ghost use Rattle.definition.specs.Rules.{readRules, ruleOf, testNumbered, actionNumbered, testable, allowed, removed, cancel, hasOperand, isVariable, goodRule, testHolds};
 ghost use Rattle.opcode.specs.View.{roleView, effectView};
 ghost use Rattle.rules.specs.View.{actionView, rowSize, tableSize, readInto, Answered, Numbered, Bounded, used, rowOf, lineOf, lineAt, rowAt, rowFits, foundIn, actionsIn};
 use definition::BAD_RULE;
@@ -310,16 +309,6 @@ fn read_line(text: &[u8], at: usize) -> Line
 
 // ---- the file
 
-fn clear(table: &mut [u16])
-    ensures { λ r. ⌜ now (table .exit) ≡ zeros (length (now (table .entry))) ⌝ }
-{
-    let mut i = 0;
-    while i < table.len() {
-        table[i] = 0;
-        i += 1;
-    }
-}
-
 fn put(table: &mut [u16], at: usize, row: [u16; ROW_SIZE])
     requires { ⌜ at + rowSize ≤ length (now table) ⌝ }
     ensures { λ r. ⌜ now (table .exit) ≡ paste (now (table .entry)) at row rowSize ⌝ }
@@ -336,18 +325,16 @@ fn refuse(table: &mut [u16], number: u8, place: usize) -> RuleAnswer
     requires { ⌜ place ≤ tableSize ⌝ }
     ensures { λ r. ⌜ Answered (length (now (table .entry))) (refuse number place) r (now (table .exit)) ⌝ }
 {
-    clear(table);
+    store::zero_numbers(table, 0);
     RuleAnswer::Refused(number, place as u32)
 }
 
-// The rules of a file, from any bytes, into a table of TABLE_SIZE numbers: 9, or 14 for a table of any other length.
-pub fn read_rules(text: &[u8], table: &mut [u16]) -> RuleAnswer
-    ensures { λ r. ⌜ Answered (length (now (table .entry))) (readInto (length (now (table .entry))) (now (text .entry))) r (now (table .exit)) ⌝ }
+// The rules of a file, from any bytes, into a table of TABLE_SIZE numbers.
+fn read_table(text: &[u8], table: &mut [u16]) -> RuleAnswer
+    requires { ⌜ length (now table) ≡ tableSize ⌝ }
+    ensures { λ r. ⌜ Answered tableSize (readRules (now (text .entry))) r (now (table .exit)) ⌝ }
 {
-    if table.len() != TABLE_SIZE {
-        return refuse(table, OUTPUT_SHORT, 0);
-    }
-    clear(table);
+    store::zero_numbers(table, 0);
     let mut at = 0;
     let mut count = 0;
     while at < text.len() {
@@ -364,6 +351,18 @@ pub fn read_rules(text: &[u8], table: &mut [u16]) -> RuleAnswer
         at = line.next;
     }
     RuleAnswer::Rules(count)
+}
+
+// The rules of a file, from any bytes, into a table of TABLE_SIZE numbers or more: 9, or 14 for a shorter one. What lies behind the table is zeroed.
+pub fn read_rules(text: &[u8], table: &mut [u16]) -> RuleAnswer
+    ensures { λ r. ⌜ Answered (length (now (table .entry))) (readInto (length (now (table .entry))) (now (text .entry))) r (now (table .exit)) ⌝ }
+{
+    if table.len() < TABLE_SIZE {
+        return refuse(table, OUTPUT_SHORT, 0);
+    }
+    let answer = read_table(text, &mut table[..TABLE_SIZE]);
+    store::zero_numbers(table, TABLE_SIZE);
+    answer
 }
 
 // ---- the lookup
@@ -411,18 +410,12 @@ fn fits(table: &[u16], at: usize, pass: u8, a: Instruction, b: Instruction) -> b
     )
 }
 
-fn least(a: usize, b: usize) -> usize
-    ensures { λ r. ⌜ r ≡ min a b ⌝ }
-{
-    if a < b { a } else { b }
-}
-
 // The first rule of a pass that fits two instructions, among so many of a table of any length. Of a table that was read it is the
 // definition's (proofs/Lookup.antt, `found-finds`).
 pub fn find(table: &[u16], count: usize, pass: u8, a: Instruction, b: Instruction) -> Found
     ensures { λ r. ⌜ r ≡ foundIn (now (table .entry)) count pass a b ⌝ }
 {
-    let rows = least(count, table.len() / ROW_SIZE);
+    let rows = numbers::least(count, table.len() / ROW_SIZE);
     let mut i = 0;
     while i < rows {
         if fits(table, i, pass, a, b) {

@@ -1,6 +1,6 @@
 -- No refusal of the call has number 0, so an answer of number 0 is finished code.
 use Prim.Native.Nat.{ℕ}
-use mathlib.Core.Path.{_≡_, refl, sym, _∙_, ap}
+use mathlib.Core.Path.{_≡_, refl, _∙_, ap}
 use mathlib.Core.List.{List, [], _∷_, _++_}
 use mathlib.Core.Bool.{Bool, true, false}
 use mathlib.Core.Option.{Option, some, none}
@@ -8,18 +8,17 @@ use lib.Dec.{eqb, ltb}
 use lib.ListN.{length}
 use native.Mathlib.Omega.{arith}
 use Rattle.definition.specs.Limits.{maxLines, badSheet, codeFull, labelsFull, linesFull, constantsFull, outputShort}
-use Rattle.definition.specs.Res.{Res, ok, refuse, _>>=_, _>>_, demand, given}
+use Rattle.definition.specs.Res.{Res, ok, refuse, _>>_, demand}
 use Rattle.definition.specs.Opcode.{Role, Sheet, dup, loadVar}
 use Rattle.definition.specs.Sheet.{readSheet}
 use Rattle.definition.specs.Rules.{readRules}
 use Rattle.definition.specs.Tree.{Fault, Program}
 use Rattle.definition.specs.Program.{faultOfBlock, noFault, topStmts, readProgram}
 use Rattle.definition.specs.Emit.{Call, createLabel, bindLabel, loadVariable, storeVariable, loadConstant, addConstant, emitOpcode, emitJmp, emitJmpIfNot, emitCmpBr, resetStackDepth, setPosition, refused, Emitter, emitterAt, LineEntry, Last, other, loaded, stored, recorded, standsAt, lastEntry, le16, add, foldStore, loadAfter, pooledIf, pooled, branch, act, acts}
-use Rattle.definition.specs.Stmt.{emitStmts}
-use Rattle.definition.specs.Compile.{FinalizedFunction, emitProgram, compileProgram, compileFiles, Room, compileInto, Answer, answer}
+use Rattle.definition.specs.Compile.{FinalizedFunction, emitProgram, compileProgram, compileFiles, Room, compileInto, answer}
 use Rattle.definition.specs.Claims.{Each, empty, _also_}
 use Rattle.field.proofs.Results.{never, ok-bind, ok-demand, ok-is}
-use Rattle.runs.proofs.Refusals.{Number, Numbered, numbered-bind, numbered-demand, numbered-given, rules-numbered, read-numbered}
+use Rattle.runs.proofs.Refusals.{Numbered, numbered-bind, numbered-demand, numbered-given, rules-numbered, read-numbered}
 use Rattle.runs.proofs.Faultless.{Told, program-tells}
 
 -- ---- emission

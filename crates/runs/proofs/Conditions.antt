@@ -1,5 +1,5 @@
--- Fused comparisons: a condition that is fused branches exactly as IEC 61131-3's comparison of it, as it is written, says. One law over the
--- condition, `fused`; then where each of the four places, IF, WHILE, REPEAT and FOR's end test, emits it.
+-- Fused comparisons: a condition that is fused branches exactly as IEC 61131-3's comparison of it, as it is written, says (`fused`); and the
+-- bytes that are emitted for it.
 use Prim.Native.Nat.{ℕ, suc, _<_, zero-le, suc-le-suc}
 use mathlib.Core.Path.{_≡_, refl, sym, _∙_, ap, subst}
 use mathlib.Core.List.{List, [], _∷_, _++_}
@@ -10,16 +10,13 @@ use lib.ListN.{length, getD}
 use borrow.Author.Tests.{eqb-true, eq-eqb, ltb-true}
 use native.Mathlib.Nat.{le-of-suc-le-suc, not-suc-le-zero}
 use Rattle.definition.specs.Res.{ok}
-use Rattle.definition.specs.Limits.{width}
 use Rattle.definition.specs.Opcode.{CompareOp, negate, commute, cmpBr, Sheet, opcode, comparisonByte}
 use Rattle.definition.specs.Iec.{signedOf, iec, taken}
-use Rattle.definition.specs.Sheet.{readSheet}
 use Rattle.definition.specs.Tree.{Expr, const, bool, read, binary, unary, compare, shortCircuit, bad}
-use Rattle.definition.specs.Emit.{Emitter, PendingPatch, other, le16, indexOf, withConstant, pooledIf, pooled, added, patched, branch, act, emitCmpBr, addConstant, bindLabel}
-use Rattle.definition.specs.Walk.{Calls, _>>=_, _>>_, say, newLabel}
+use Rattle.definition.specs.Emit.{Emitter, PendingPatch, cmpBrOperandDelta, other, le16, indexOf, withConstant, pooledIf, pooled, added, patched, branch, act, emitCmpBr}
+use Rattle.definition.specs.Walk.{say}
 use Rattle.definition.specs.CompileExpr.{ClassifiedCmp, readOf, constantOf, zip, orClassified, classify, emitClassifiedCmpBr}
-use Rattle.definition.specs.Stmt.{Loops, branchUnlessBy, branchUnless, loopBody, endTestBy, whileBy, repeatBy}
-use Rattle.opcode.proofs.Faults.{good}
+use Rattle.opcode.specs.Table.{Good}
 use Rattle.opcode.proofs.Branches.{iec-negate, iec-commute, taken-iec}
 use Rattle.definition.specs.Fused.{side, holds, goes}
 use Rattle.field.proofs.Results.{never, ok-demand, ok-bind, ok-is}
@@ -51,25 +48,25 @@ constant-side values (bad f) k e = never (cc)
 
 -- ---- classification keeps what the condition says
 
-unfoldable pub asks : (ℕ → ℕ) → ClassifiedCmp → Bool
-asks values f = iec (f .op) (signedOf width (values (f .variable))) (signedOf width (f .constant))
+unfoldable pub asks : ℕ → (ℕ → ℕ) → ClassifiedCmp → Bool
+asks w values f = iec (f .op) (signedOf w (values (f .variable))) (signedOf w (f .constant))
 
-module _ (values : ℕ → ℕ) (c : CompareOp) (a b : Expr) (f : ClassifiedCmp) where
+module _ (w : ℕ) (values : ℕ → ℕ) (c : CompareOp) (a b : Expr) (f : ClassifiedCmp) where
   abbrev Goal : Type 0
-  Goal = asks values f ≡ iec c (signedOf width (side values a)) (signedOf width (side values b))
+  Goal = asks w values f ≡ iec c (signedOf w (side values a)) (signedOf w (side values b))
 
   straight : (v k : ℕ) → readOf a ≡ some v → constantOf b ≡ some k → some (record { op = c; variable = v; constant = k }) ≡ some f → Goal
   unfolding asks
   straight v k p q e =
       let g : f ≡ record { op = c; variable = v; constant = k } = cc in
-      ap (λ x. asks values x) g ∙ (ap (λ x. iec c (signedOf width x) (signedOf width k)) (sym (read-side values a v p)) ∙ ap (λ x. iec c (signedOf width (side values a)) (signedOf width x)) (sym (constant-side values b k q)))
+      ap (λ x. asks w values x) g ∙ (ap (λ x. iec c (signedOf w x) (signedOf w k)) (sym (read-side values a v p)) ∙ ap (λ x. iec c (signedOf w (side values a)) (signedOf w x)) (sym (constant-side values b k q)))
 
   mirrored : (v k : ℕ) → readOf b ≡ some v → constantOf a ≡ some k → some (record { op = commute c; variable = v; constant = k }) ≡ some f → Goal
   unfolding asks
   mirrored v k p q e =
       let g : f ≡ record { op = commute c; variable = v; constant = k } = cc in
-      ap (λ x. asks values x) g ∙ (iec-commute c (signedOf width (values v)) (signedOf width k)
-      ∙ (ap (λ x. iec c (signedOf width k) (signedOf width x)) (sym (read-side values b v p)) ∙ ap (λ x. iec c (signedOf width x) (signedOf width (side values b))) (sym (constant-side values a k q))))
+      ap (λ x. asks w values x) g ∙ (iec-commute c (signedOf w (values v)) (signedOf w k)
+      ∙ (ap (λ x. iec c (signedOf w k) (signedOf w x)) (sym (read-side values b v p)) ∙ ap (λ x. iec c (signedOf w x) (signedOf w (side values b))) (sym (constant-side values a k q))))
 
   by-sides : (x y z u : Option ℕ) → readOf a ≡ x → constantOf b ≡ y → readOf b ≡ z → constantOf a ≡ u → orClassified (zip c x y) (zip (commute c) z u) ≡ some f → Goal
   unfolding orClassified zip
@@ -81,16 +78,16 @@ module _ (values : ℕ → ℕ) (c : CompareOp) (a b : Expr) (f : ClassifiedCmp)
   by-sides none y (some w) none p q r t e = never (cc)
   by-sides none y none u p q r t e = never (cc)
 
-classified : (values : ℕ → ℕ) (c : Expr) (f : ClassifiedCmp) → classify c ≡ some f → asks values f ≡ holds values c
+classified : (w : ℕ) (values : ℕ → ℕ) (c : Expr) (f : ClassifiedCmp) → classify c ≡ some f → asks w values f ≡ holds w values c
 unfolding classify holds
-classified values (const k) f e = never (cc)
-classified values (bool b) f e = never (cc)
-classified values (read v) f e = never (cc)
-classified values (binary o a b) f e = never (cc)
-classified values (unary o a) f e = never (cc)
-classified values (compare c a b) f e = by-sides values c a b f (readOf a) (constantOf b) (readOf b) (constantOf a) refl refl refl refl e
-classified values (shortCircuit o a b) f e = never (cc)
-classified values (bad g) f e = never (cc)
+classified w values (const k) f e = never (cc)
+classified w values (bool b) f e = never (cc)
+classified w values (read v) f e = never (cc)
+classified w values (binary o a b) f e = never (cc)
+classified w values (unary o a) f e = never (cc)
+classified w values (compare c a b) f e = by-sides w values c a b f (readOf a) (constantOf b) (readOf b) (constantOf a) refl refl refl refl e
+classified w values (shortCircuit o a b) f e = never (cc)
+classified w values (bad g) f e = never (cc)
 
 -- ---- the law
 
@@ -106,12 +103,12 @@ emits f false target = refl
 
 -- For a condition that is fused, the branch, with the comparison byte that is emitted for it, is taken exactly when IEC's comparison of
 -- the condition as it is written holds, branching on true, or does not hold, branching on false.
-pub fused : (sheet : List ℕ) (s : Sheet) → readSheet sheet ≡ some s → (c : Expr) (f : ClassifiedCmp) → classify c ≡ some f → (values : ℕ → ℕ) (on : Bool)
-    → taken s width (comparisonByte s (emittedOp f on)) (values (f .variable)) (f .constant) ≡ goes on (holds values c)
+pub fused : {s : Sheet} → Good s → (c : Expr) (f : ClassifiedCmp) → classify c ≡ some f → (w : ℕ) (values : ℕ → ℕ) (on : Bool)
+    → taken s w (comparisonByte s (emittedOp f on)) (values (f .variable)) (f .constant) ≡ goes on (holds w values c)
 unfolding emittedOp goes asks
-fused sheet s r c f e values true = taken-iec (good sheet s r) (f .op) width (values (f .variable)) (f .constant) ∙ classified values c f e
-fused sheet s r c f e values false = taken-iec (good sheet s r) (negate (f .op)) width (values (f .variable)) (f .constant)
-    ∙ (iec-negate (f .op) (signedOf width (values (f .variable))) (signedOf width (f .constant)) ∙ ap not (classified values c f e))
+fused g c f e w values true = taken-iec g (f .op) w (values (f .variable)) (f .constant) ∙ classified w values c f e
+fused g c f e w values false = taken-iec g (negate (f .op)) w (values (f .variable)) (f .constant)
+    ∙ (iec-negate (f .op) (signedOf w (values (f .variable))) (signedOf w (f .constant)) ∙ ap not (classified w values c f e))
 
 -- ---- the branch in the code: comparison byte, variable, and an index at which the pool holds the constant
 
@@ -135,55 +132,47 @@ index-last k (x ∷ xs) = by (eqb x k) (index-last k xs)
     by true l = suc-le-suc zero-le
     by false l = suc-le-suc l
 
-pooled-index : (b : Bool) (k : ℕ) (e e′ : Emitter) → ltb (indexOf k (e .constants)) (length (e .constants)) ≡ b → pooledIf b k e ≡ ok e′
-    → (e′ .bytecode ≡ e .bytecode) × (indexOf k (e′ .constants) < length (e′ .constants))
+-- a constant that is pooled: it has an index in the pool, and the rest is as it was
+record Pools (k : ℕ) (e e′ : Emitter) : Type 0 where
+  code : e′ .bytecode ≡ e .bytecode
+  patches : e′ .patches ≡ e .patches
+  inside : indexOf k (e′ .constants) < length (e′ .constants)
+
+pools : (b : Bool) (k : ℕ) (e e′ : Emitter) → ltb (indexOf k (e .constants)) (length (e .constants)) ≡ b → pooledIf b k e ≡ ok e′ → Pools k e e′
 unfolding pooledIf withConstant
-pooled-index true k e e′ t p = subst (λ x. (x .bytecode ≡ e .bytecode) × (indexOf k (x .constants) < length (x .constants))) (sym (ok-is p)) (refl, ltb-true _ _ t)
-pooled-index false k e e′ t p = subst (λ x. (x .bytecode ≡ e .bytecode) × (indexOf k (x .constants) < length (x .constants))) (sym (ok-is (ok-demand _ _ _ _ e′ p .1))) (refl, index-last k (e .constants))
+pools true k e e′ t p = subst (λ x. Pools k e x) (sym (ok-is p)) (record { code = refl; patches = refl; inside = ltb-true _ _ t })
+pools false k e e′ t p = subst (λ x. Pools k e x) (sym (ok-is (ok-demand _ _ _ _ e′ p .1))) (record { code = refl; patches = refl; inside = index-last k (e .constants) })
 
-pub record Coded (s : Sheet) (op : CompareOp) (variable constant : ℕ) (e e′ : Emitter) : Type 0 where
+-- the branch's bytes
+unfoldable pub fusedBytes : Sheet → CompareOp → ℕ → ℕ → List ℕ
+fusedBytes s op variable index = opcode s cmpBr ∷ comparisonByte s op ∷ ((le16 variable ++ le16 index) ++ le16 0)
+
+unfoldable pub fusedPatch : Emitter → ℕ → PendingPatch
+fusedPatch e l = record { instructionOffset = length (e .bytecode); operandDelta = cmpBrOperandDelta; label = l }
+
+pub record Coded (s : Sheet) (op : CompareOp) (variable constant label : ℕ) (e e′ : Emitter) : Type 0 where
   pub index : ℕ
+  pub inside : index < length (e′ .constants)
   pub pool : getD (e′ .constants) index 0 ≡ constant
-  pub bytes : e′ .bytecode ≡ e .bytecode ++ (opcode s cmpBr ∷ comparisonByte s op ∷ ((le16 variable ++ le16 index) ++ le16 0))
+  pub bytes : e′ .bytecode ≡ e .bytecode ++ fusedBytes s op variable index
+  pub patches : e′ .patches ≡ e .patches ++ (fusedPatch e label ∷ [])
+  pub last : e′ .last ≡ other
 
-pub coded : (s : Sheet) (op : CompareOp) (v k target : ℕ) (e e′ : Emitter) → act s (emitCmpBr op v k target) e ≡ ok e′ → Coded s op v k e e′
-unfolding act branch pooled patched added
-coded s op v k target e e′ p =
+pub coded : (s : Sheet) (op : CompareOp) (v k l : ℕ) (e e′ : Emitter) → act s (emitCmpBr op v k l) e ≡ ok e′ → Coded s op v k l e e′
+unfolding act branch pooled patched added fusedBytes fusedPatch
+coded s op v k l e e′ p =
     let a = ok-bind _ _ e′ p in
-    let i = pooled-index _ k e (a .0) refl (a .1) in
+    let i = pools _ k e (a .0) refl (a .1) in
     let b = ok-bind _ _ e′ (a .2) in
     let q = add-ok s cmpBr _ other (a .0) (b .0) (b .1) in
-    let P : PendingPatch = record { instructionOffset = length (a .0 .bytecode); operandDelta = 6; label = target } in
+    let P : PendingPatch = record { instructionOffset = length (a .0 .bytecode); operandDelta = cmpBrOperandDelta; label = l } in
     let w : e′ ≡ patched P (added s cmpBr _ other (q .0) (a .0)) = ok-is (b .2) ∙ ap (λ x. patched P x) (q .1) in
     record {
       index = indexOf k (a .0 .constants);
-      pool = ap (λ (x : Emitter). getD (x .constants) (indexOf k (a .0 .constants)) 0) w ∙ indexed k (a .0 .constants) (i .1);
-      bytes = ap (λ (x : Emitter). x .bytecode) w ∙ ap (λ x. x ++ (opcode s cmpBr ∷ comparisonByte s op ∷ ((le16 v ++ le16 (indexOf k (a .0 .constants))) ++ le16 0))) (i .0);
+      inside = subst (λ (x : Emitter). indexOf k (a .0 .constants) < length (x .constants)) (sym w) (i .inside);
+      pool = ap (λ (x : Emitter). getD (x .constants) (indexOf k (a .0 .constants)) 0) w ∙ indexed k (a .0 .constants) (i .inside);
+      bytes = ap (λ (x : Emitter). x .bytecode) w ∙ ap (λ x. x ++ (opcode s cmpBr ∷ comparisonByte s op ∷ ((le16 v ++ le16 (indexOf k (a .0 .constants))) ++ le16 0))) (i .code);
+      patches = ap (λ (x : Emitter). x .patches) w ∙ (ap (λ x. x ++ (P ∷ [])) (i .patches)
+          ∙ ap (λ x. e .patches ++ (record { instructionOffset = length x; operandDelta = cmpBrOperandDelta; label = l } ∷ [])) (i .code));
+      last = ap (λ (x : Emitter). x .last) w;
     }
-
--- ---- the four places
-
--- IF: next is jumped to unless the condition holds
-pub in-if : (c : Expr) (f : ClassifiedCmp) (next : ℕ) → classify c ≡ some f → branchUnless c next ≡ emitClassifiedCmpBr f false next
-unfolding branchUnless branchUnlessBy
-in-if c f next e = ap (λ x. branchUnlessBy x c next) e
-
--- WHILE: out of the loop unless the condition holds, and back to its start if it does
-pub in-while : (i : ℕ) (c : Expr) (f : ClassifiedCmp) (end : ℕ) (nextUsed : Bool) (body : Loops → Calls) (loops : Loops) → classify c ≡ some f
-    → whileBy (classify c) i c end nextUsed body loops ≡ (say (addConstant (f .constant)) >> (newLabel 0 >>= λ start.
-    emitClassifiedCmpBr f false end >> (say (bindLabel start) >> (loopBody i end nextUsed body loops >> emitClassifiedCmpBr f true start))))
-unfolding whileBy
-in-while i c f end nextUsed body loops e = ap (λ x. whileBy x i c end nextUsed body loops) e
-
--- REPEAT: back to the head unless the condition holds
-pub in-repeat : (i : ℕ) (c : Expr) (f : ClassifiedCmp) (head end : ℕ) (nextUsed : Bool) (body : Loops → Calls) (loops : Loops) → classify c ≡ some f
-    → repeatBy (classify c) i c head end nextUsed body loops ≡ (say (addConstant (f .constant)) >> (say (bindLabel head) >> (loopBody i end nextUsed body loops >> emitClassifiedCmpBr f false head)))
-unfolding repeatBy
-in-repeat i c f head end nextUsed body loops e = ap (λ x. repeatBy x i c head end nextUsed body loops) e
-
--- FOR: out of the loop unless the control is within the end; the condition is that comparison, the control on the left
-pub in-for : (within : CompareOp) (v k : ℕ) (to : Expr) (end : ℕ) → constantOf to ≡ some k
-    → (classify (compare within (read v) to) ≡ some (record { op = within; variable = v; constant = k }))
-    × (endTestBy (constantOf to) within v to end ≡ emitClassifiedCmpBr (record { op = within; variable = v; constant = k }) false end)
-unfolding classify readOf constantOf orClassified zip endTestBy
-in-for within v k to end e = (ap (λ x. orClassified (zip within (some v) x) (zip (commute within) (readOf to) none)) e, ap (λ x. endTestBy x within v to end) e)

@@ -1,40 +1,33 @@
--- Finished code: every run of it over any outcomes is fine, and every branch of it, reached or not, leads where the three maps move its
--- label's place. The two theorems are `runs` and `branches`, at the end.
+-- Finished code of one program: every run of it over any outcomes is fine, every branch of it, reached or not, leads where the three maps
+-- move its label's place, and each place of it has one height.
 use Prim.Native.Nat.{ℕ, _+_, _-_, suc, zero, _≤_, _<_, zero-le}
 use mathlib.Core.Path.{_≡_, refl, sym, _∙_, ap, subst}
 use mathlib.Core.List.{List, [], _∷_, _++_, map, map-map, map-append}
 use mathlib.Core.Bool.{Bool, true}
 use mathlib.Core.Option.{Option, some, none}
-use lib.ListN.{length, getD, take}
-use lib.Seq.{take-append-seam}
+use lib.ListN.{length, getD}
 use native.Mathlib.Omega.{arith}
 use native.Mathlib.Nat.{le-trans}
 use Rattle.definition.specs.Limits.{maxCode}
 use Rattle.definition.specs.Res.{ok}
 use Rattle.definition.specs.Field.{has}
 use Rattle.definition.specs.Opcode.{Sheet, opcode}
-use Rattle.definition.specs.Sheet.{readSheet}
-use Rattle.definition.specs.Rules.{Rule, readRules, matches}
+use Rattle.definition.specs.Rules.{Rule, matches}
 use Rattle.definition.specs.Tree.{Program}
-use Rattle.definition.specs.Program.{readProgram}
 use Rattle.definition.specs.Emit.{Emitter, PendingPatch, Call}
 use Rattle.definition.specs.Stmt.{emitStmts}
-use Rattle.definition.specs.Rewrite.{OffsetMap, movedTo}
+use Rattle.definition.specs.Rewrite.{decode, startsFrom, OffsetMap, movedTo}
 use Rattle.definition.specs.Optimize.{optimize}
-use Rattle.definition.specs.Compile.{boundOr0, boundLabel, FinalizedFunction, jumpTargets, finalizeFunction, emitProgram, compileProgram, compileFiles, Room, compileInto, answer}
-use Rattle.definition.specs.Lent.{zeros, filled}
-use Rattle.definition.specs.Runs.{target, run, start}
-use Rattle.opcode.specs.Table.{Good}
-use Rattle.opcode.proofs.Faults.{good}
-use Rattle.opcode.proofs.Sheets.{role-of-opcode}
-use Rattle.field.proofs.Results.{never, ok-demand, ok-bind, ok-is, ok-given, some-is}
+use Rattle.definition.specs.Compile.{boundOr0, boundLabel, jumpTargets, finalizeFunction, emitProgram}
+use Rattle.definition.specs.Runs.{State, target, run, start}
+use Rattle.field.proofs.Results.{never}
 use Rattle.runs.proofs.Heights.{Bound}
-use Rattle.definition.specs.Claims.{Fine, branchPlaces, inTurn, LeadsTo, Each, empty, _also_, BranchLeads, Branches}
+use Rattle.definition.specs.Claims.{Either, left, right, Fine, branchPlaces, inTurn, LeadsTo, Each, empty, _also_, BranchLeads, Branches, OneHeight}
 use Rattle.runs.proofs.Rows.{Row, bytes-of, place-at, aim-at, row-of, row-inside, row-aim, row-bytes, height-first, place-first, place-end, place-within, patchHere, patchesBy, patches-same, each-patch, Linked}
 use Rattle.runs.proofs.Emitted.{Stands, Placed, Acted, created, emitted}
-use Rattle.runs.proofs.Passes.{Reads, Fine as FineMatcher, rules-fine, looked-moved, Piped, optimize-piped, moved-in-turn}
+use Rattle.runs.proofs.Passes.{Reads, Fine as FineMatcher, decode-rows, looked-moved, Piped, optimize-piped, moved-in-turn}
 use Rattle.runs.proofs.Patched.{aimedRows, aimed-first, aimed-heights, aimed-count, aimed-linked, aimed-places, aimed-patches, aimedRow, aimed-aims, aimed-row, aimed-byte, aimed-long, patchWith, movedPatch, patchJumps-with, patched-rows, row-target, inside-rows}
-use Rattle.runs.proofs.Running.{has-first, has-later, run-fine, row-fine, row-leads, branch-places}
+use Rattle.runs.proofs.Running.{has-first, has-later, row-at, run-fine, row-fine, row-leads, branch-places, height-of, height-place, start-row}
 
 -- ---- patches and what holds of each
 
@@ -185,9 +178,9 @@ module _ (s : Sheet) (back : Reads s) (rules : List Rule) (fine : (pass : ℕ) �
       }
 
   -- a branch's label is bound within the code, and its two bytes lie in rewritten code
-  near : Each (λ (x : PendingPatch). boundLabel (e .labels) (x .label) ≤ maxCode) (e .patches)
+  pub program-near : Each (λ (x : PendingPatch). boundLabel (e .labels) (x .label) ≤ maxCode) (e .patches)
   unfolding rows₀
-  near = each-so (λ x u.
+  program-near = each-so (λ x u.
       let r = label-row (x .label) u in
       let at = r .place in
       let a = place-within s rows₀ (r .index) in
@@ -195,9 +188,9 @@ module _ (s : Sheet) (back : Reads s) (rules : List Rule) (fine : (pass : ℕ) �
       let c = acted .inv .short in
       omega arith) each-used
 
-  inside : Each (λ (x : PendingPatch). movedTo moves (x .instructionOffset) + x .operandDelta + 2 ≤ length (optimize s rules code₀ protected .bytecode)) (e .patches)
+  pub program-inside : Each (λ (x : PendingPatch). movedTo moves (x .instructionOffset) + x .operandDelta + 2 ≤ length (optimize s rules code₀ protected .bytecode)) (e .patches)
   unfolding movedPatch
-  inside = each-back {P = λ (x : PendingPatch). x .instructionOffset + x .operandDelta + 2 ≤ length (optimize s rules code₀ protected .bytecode)} (movedPatch moves) (e .patches)
+  program-inside = each-back {P = λ (x : PendingPatch). x .instructionOffset + x .operandDelta + 2 ≤ length (optimize s rules code₀ protected .bytecode)} (movedPatch moves) (e .patches)
       (subst (λ xs. Each (λ (x : PendingPatch). x .instructionOffset + x .operandDelta + 2 ≤ length (optimize s rules code₀ protected .bytecode)) xs) (sym patches-moved)
       (inside-rows s 0 (λ i. place-at (piped .rows) i) (piped .linked) (λ i. let n : place-at (piped .rows) i ≡ 0 + place-at (piped .rows) i = omega arith in n) _ (let b = ap length (piped .bytes) in omega arith)))
 
@@ -226,11 +219,11 @@ module _ (s : Sheet) (back : Reads s) (rules : List Rule) (fine : (pass : ℕ) �
 
   -- ---- the two claims, of one program
 
-  program-runs : (os : List Bool) (n : ℕ) → Fine s (finalizeFunction s rules e .bytecode) (finalizeFunction s rules e .depth) (run s (finalizeFunction s rules e .bytecode) n (start os))
+  pub program-runs : (os : List Bool) (n : ℕ) → Fine s (finalizeFunction s rules e .bytecode) (finalizeFunction s rules e .depth) (run s (finalizeFunction s rules e .bytecode) n (start os))
   unfolding finalizeFunction start
   program-runs os n = subst (λ c. Fine s c (e .maxDepth) (run s c n (start os))) (sym code-rows) (row-fine s rows linked T leads back (run-fine s rows linked T leads back n (start os) (begins os) zero-le))
 
-  program-short : length (finalizeFunction s rules e .bytecode) ≤ maxCode
+  pub program-short : length (finalizeFunction s rules e .bytecode) ≤ maxCode
   program-short = subst (λ c. length c ≤ maxCode) (sym code-rows) short
 
   place-in-turn : (i : ℕ) → i ≤ length rows₀ → movedTo moves (place-at rows₀ i) ≡ inTurn s rules code₀ protected (place-at rows₀ i)
@@ -308,86 +301,46 @@ module _ (s : Sheet) (back : Reads s) (rules : List Rule) (fine : (pass : ℕ) �
   each-leads = subst (λ xs. Each (λ (x : PendingPatch). BranchLeads s rules e (finalizeFunction s rules e .bytecode) x) xs) (sym (acted .inv .patches))
       (each-patch (λ x. BranchLeads s rules e (finalizeFunction s rules e .bytecode) x) (λ i. place-at rows₀ i) rows₀ branch-leads)
 
--- ---- the two theorems
+  pub program-branches : Branches s rules e (finalizeFunction s rules e .bytecode)
+  program-branches = record { emitted = emitted-places; finished = finished-places; leads = each-leads }
 
--- what the call read and emitted, where it gave back f
-pub record Compiled (sheet rules program : List ℕ) (f : FinalizedFunction) : Type 0 where
-  pub s : Sheet
-  pub rs : List Rule
-  pub p : Program
-  pub e : Emitter
-  pub sheetRead : readSheet sheet ≡ some s
-  pub rulesRead : readRules rules ≡ ok rs
-  pub programRead : readProgram program ≡ ok p
-  pub emission : emitProgram s p ≡ ok e
-  pub finish : f ≡ finalizeFunction s rs e
+  -- ---- heights by place
 
-pub compiled : (place : ℕ) (sheet rules program : List ℕ) (f : FinalizedFunction) → compileFiles place sheet rules program ≡ ok f → Compiled sheet rules program f
-unfolding compileFiles compileProgram
-compiled place sheet rules program f q =
-    let a = ok-bind _ _ f q in
-    let b = ok-bind _ _ f (a .2) in
-    let c = ok-bind _ _ f (b .2) in
-    let d = ok-bind _ _ f (c .2) in
-    record {
-      s = a .0;
-      rs = b .0;
-      p = c .0;
-      e = d .0;
-      sheetRead = ok-given (readSheet sheet) _ _ (a .0) (a .1);
-      rulesRead = b .1;
-      programRead = c .1;
-      emission = d .1;
-      finish = ok-is (d .2);
-    }
+  -- a start or the end is some row's place
+  place-row : (p : ℕ) → Either (has (startsFrom 0 (decode s (bytes-of s rows))) p ≡ true) (p ≡ length (bytes-of s rows)) → (i : ℕ) × (i ≤ length rows) × (p ≡ place-at rows i)
+  place-row p (left h) =
+      let x = start-row s rows 0 p (sym (ap (λ is. has (startsFrom 0 is) p) (decode-rows s back linked)) ∙ h) in
+      (x .0, (let n = x .1 in omega arith), x .2 ∙ (let n : 0 + place-at rows (x .0) ≡ place-at rows (x .0) = omega arith in n))
+  place-row p (right q) = (length rows, (let n : length rows ≤ length rows = omega arith in n), q ∙ place-end s rows)
 
--- with lent outputs that are long enough, the call is the same; and finished code is what its code output starts with
-pub into : (place : ℕ) (room : Room) (sheet rules program : List ℕ) (f : FinalizedFunction) → compileInto place room sheet rules program ≡ ok f → compileFiles place sheet rules program ≡ ok f
-unfolding compileInto
-into place room sheet rules program f q = ok-demand _ _ _ _ f q .1
+  -- an instruction starts before the end
+  start-before : (p : ℕ) → has (startsFrom 0 (decode s (bytes-of s rows))) p ≡ true → p < length (bytes-of s rows)
+  start-before p h =
+      let x = start-row s rows 0 p (sym (ap (λ is. has (startsFrom 0 is) p) (decode-rows s back linked)) ∙ h) in
+      let a = row-at s 0 linked (x .0) (x .1) .1 .inside in
+      let q = x .2 in
+      omega arith
 
-pub lent : (room : Room) (f : FinalizedFunction) → take (answer room (ok f) .codeLength) (answer room (ok f) .code) ≡ f .bytecode
-unfolding answer filled
-lent room f = take-append-seam (f .bytecode) (zeros (room .code - length (f .bytecode)))
+  pub program-before : (p : ℕ) → has (startsFrom 0 (decode s (finalizeFunction s rules e .bytecode))) p ≡ true → p < length (finalizeFunction s rules e .bytecode)
+  program-before p h = subst (λ c. p < length c) (sym code-rows) (start-before p (subst (λ c. has (startsFrom 0 (decode s c)) p ≡ true) code-rows h))
 
-module _ (place : ℕ) (sheet rules program : List ℕ) (f : FinalizedFunction) (q : compileFiles place sheet rules program ≡ ok f) where
-  abbrev made : Compiled sheet rules program f
-  made = compiled place sheet rules program f q
+  stands-at : (x : State) → Either (has (startsFrom 0 (decode s (bytes-of s rows))) (x .place) ≡ true) (x .place ≡ length (bytes-of s rows)) → x .height ≡ height-of rows 0 (x .place) → Stands rows 0 (x .place) (x .height)
+  stands-at x w h =
+      let i = place-row (x .place) w in
+      record { index = i .0; within = i .1; place = i .2; height = sym (height-place rows 0 (i .0)) ∙ (ap (λ p. height-of rows 0 p) (sym (i .2)) ∙ sym h) }
 
-  back : Reads (made .s)
-  back = role-of-opcode (good sheet (made .s) (made .sheetRead))
+  height-is : (p h : ℕ) → Stands rows 0 p h → h ≡ height-of rows 0 p
+  height-is p h st = sym (st .height) ∙ (sym (height-place rows 0 (st .index)) ∙ ap (λ x. height-of rows 0 x) (sym (st .place)))
 
-  fine : (pass : ℕ) → FineMatcher (made .s) (λ a b. matches pass (made .rs) a b)
-  fine = rules-fine (made .s) back rules (made .rulesRead)
+  rows-heights : OneHeight s (bytes-of s rows) (e .maxDepth)
+  unfolding start
+  rows-heights = record {
+    heightAt = λ p. height-of rows 0 p;
+    first = sym (height-is 0 0 (begins []));
+    held = λ os n. height-is _ _ (run-fine s rows linked T leads back n (start os) (begins os) zero-le .stands);
+    from = λ x w h le n. let f = run-fine s rows linked T leads back n x (stands-at x w h) le in (row-fine s rows linked T leads back f, height-is _ _ (f .stands));
+  }
 
-  -- Whoever runs finished code from place 0 with an empty stack, over any outcomes and for any number of steps, stands at an
-  -- instruction's start or at the end, has never popped an empty stack, is (and so was at every step before) at most the depth high,
-  -- and has height 0 if the run has finished.
-  pub runs : (s : Sheet) → readSheet sheet ≡ some s → (outcomes : List Bool) (n : ℕ) → Fine s (f .bytecode) (f .depth) (run s (f .bytecode) n (start outcomes))
-  runs s r os n = subst (λ t. Fine t (f .bytecode) (f .depth) (run t (f .bytecode) n (start os))) (let w : made .s ≡ s = some-is (sym (made .sheetRead) ∙ r) in w)
-      (subst (λ g. Fine (made .s) (g .bytecode) (g .depth) (run (made .s) (g .bytecode) n (start os))) (sym (made .finish))
-      (program-runs (made .s) back (made .rs) fine (made .p) (made .e) (made .emission) os n))
-
-  -- Every branch of finished code, reached or not: the nth by place is the nth in emitted code, and it leads to exactly the place to
-  -- which the three maps, in turn, move the place where its label is bound.
-  pub branches : Branches (made .s) (made .rs) (made .e) (f .bytecode)
-  branches = subst (λ g. Branches (made .s) (made .rs) (made .e) (g .bytecode)) (sym (made .finish)) (record {
-    emitted = emitted-places (made .s) back (made .rs) fine (made .p) (made .e) (made .emission);
-    finished = finished-places (made .s) back (made .rs) fine (made .p) (made .e) (made .emission);
-    leads = each-leads (made .s) back (made .rs) fine (made .p) (made .e) (made .emission);
-  })
-
-  -- Finished code is at most as long as code may be.
-  pub fits : length (f .bytecode) ≤ maxCode
-  fits = subst (λ g. length (g .bytecode) ≤ maxCode) (sym (made .finish)) (program-short (made .s) back (made .rs) fine (made .p) (made .e) (made .emission))
-
--- What patching asks of emitted code: each pending patch's label is bound within the code, and its two bytes lie in rewritten code.
-module _ (rules : List ℕ) (s : Sheet) (rs : List Rule) (g : Good s) (rulesRead : readRules rules ≡ ok rs) (p : Program) (e : Emitter) (emission : emitProgram s p ≡ ok e) where
-  reads : Reads s
-  reads = role-of-opcode g
-
-  pub labels-near : Each (λ (x : PendingPatch). boundLabel (e .labels) (x .label) ≤ maxCode) (e .patches)
-  labels-near = near s reads rs (rules-fine s reads rules rulesRead) p e emission
-
-  pub patches-inside : Each (λ (x : PendingPatch). movedTo (optimize s rs (e .bytecode) (jumpTargets e) .map) (x .instructionOffset) + x .operandDelta + 2 ≤ length (optimize s rs (e .bytecode) (jumpTargets e) .bytecode)) (e .patches)
-  patches-inside = inside s reads rs (rules-fine s reads rules rulesRead) p e emission
+  pub program-heights : OneHeight s (finalizeFunction s rules e .bytecode) (finalizeFunction s rules e .depth)
+  unfolding finalizeFunction
+  program-heights = subst (λ c. OneHeight s c (e .maxDepth)) (sym code-rows) rows-heights

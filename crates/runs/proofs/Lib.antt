@@ -14,4 +14,7 @@ pub mod Patched
 pub mod Running
 pub mod Finished
 pub mod Conditions
+pub mod Tested
+pub mod Decided
+pub mod Safe
 pub mod Values

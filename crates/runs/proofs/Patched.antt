@@ -29,9 +29,10 @@ reached d next = elim (ltb d 32768) [
   | false ↦ elim (leb (65536 - d) next) [ true ↦ some (next + d - 65536) | false ↦ none ]
 ]
 
-pub reached-back : (t n : ℕ) → t ≤ maxCode → n ≤ maxCode → reached (displacement t n) n ≡ some t
+-- a target that is near the next place is read back
+reached-near : (t n : ℕ) → t ≤ n + 32767 → n ≤ t + 32768 → reached (displacement t n) n ≡ some t
 unfolding displacement reached
-reached-back t n a b = near (ltb ((t + 65536 - n) % 65536) 32768) refl
+reached-near t n a b = near (ltb ((t + 65536 - n) % 65536) 32768) refl
   where
     d : ℕ
     d = (t + 65536 - n) % 65536
@@ -43,6 +44,10 @@ reached-back t n a b = near (ltb ((t + 65536 - n) % 65536) 32768) refl
     near : (c : Bool) → ltb d 32768 ≡ c → elim c [ true ↦ some (n + d) | false ↦ elim (leb (65536 - d) n) [ true ↦ some (n + d - 65536) | false ↦ none ] ] ≡ some t
     near true e = ap (λ x. some x) (let l = ltb-true d 32768 e in let q : n + d ≡ t = omega arith in q)
     near false e = back (leb (65536 - d) n) refl (ltb-false d 32768 e)
+
+-- within the code every place is near
+pub reached-back : (t n : ℕ) → t ≤ maxCode → n ≤ maxCode → reached (displacement t n) n ≡ some t
+reached-back t n a b = reached-near t n (omega arith) (omega arith)
 
 -- behind these bytes stand the two of a displacement
 target-back : (front rest : List ℕ) (t : ℕ) → t ≤ maxCode → length front + 2 ≤ maxCode → target (front ++ (le16 (displacement t (length front + 2)) ++ rest)) (length front + 2) ≡ some t

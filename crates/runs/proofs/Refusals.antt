@@ -11,7 +11,7 @@ use Rattle.definition.specs.Limits.{badText, badRule, tooDeep, wrongLines, maxN
 use Rattle.definition.specs.Res.{Res, ok, refuse, _>>=_, _>>_, demand, given}
 use Rattle.definition.specs.Field.{comma, split, firstLine, Numbers, wrong, far, are, numbers}
 use Rattle.definition.specs.Rules.{rulesFrom, readRule}
-use Rattle.definition.specs.Tree.{Source, Fault, Pos, Expr, const, bool, read, binary, unary, compare, shortCircuit, bad, CaseLabel, value, range, badLabel, Stmt, assign, if, case, for, loop, exit, continue, return, badStmt, Block, done, _then_, Arms, noArms, arm, badArm}
+use Rattle.definition.specs.Tree.{Source, Fault, Pos, Expr, CaseLabel, value, range, badLabel, Stmt, Arms}
 use Rattle.definition.specs.Program.{Cursor, Form, Line, is, not, Header, StmtLine, A, I, S, F, L, X, N, R, ExprLine, K, B, D, O, U, C, H, ArmLine, M, Reader, made, byLetter, lineOf, lineAt, refusal, nextLine, faultAt, form, headerForms, stmtForms, exprForms, armForms, labelForms, exprOf, exprBy, exprAt, labelBy, labelsAt, blockOf, armBy, armsAt, stmtOf, stmtBy, stmtAt, orElse, faultOfExpr, faultOfLabels, faultOfStmt, faultOfBlock, faultOfArms, headerOf, noFault, topStmts, readProgram}
 use Rattle.definition.specs.Claims.{Each, empty, _also_}
 

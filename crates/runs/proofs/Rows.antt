@@ -94,7 +94,7 @@ pub row-bytes : (s : Sheet) (rs : List Row) (i : ℕ) (r : Row) → row-of rs i 
 unfolding row-of bytes-of place-at
 row-bytes s [] i r e k lt = never (cc)
 row-bytes s (q ∷ rs) zero r e k lt =
-    let p : q ≡ r = cc in
+    let p : q ≡ r = some-is e in
     ap (λ x. getD ((opcode s (q .role) ∷ q .operand) ++ bytes-of s rs) x 0) (let n : 0 + k ≡ k = omega arith in n)
     ∙ subst (λ x. getD ((opcode s (q .role) ∷ q .operand) ++ bytes-of s rs) k 0 ≡ getD (opcode s (x .role) ∷ x .operand) k 0) p
     (List·getD-append (opcode s (q .role) ∷ q .operand) (bytes-of s rs) 0 k (subst (λ x. k < suc (length (x .operand))) (sym p) lt))

@@ -3,7 +3,7 @@ use Prim.Native.Nat.{ℕ, _+_, _-_, suc, zero, _≤_, _<_, zero-le, suc-le-suc}
 use mathlib.Core.Path.{_≡_, refl, sym, _∙_, ap, subst}
 use mathlib.Core.List.{List, [], _∷_, _++_, map, map-append}
 use mathlib.Core.Bool.{Bool, true, false}
-use mathlib.Core.Option.{Option, some, none}
+use mathlib.Core.Option.{Option, some}
 use lib.ListN.{length, getD, length-append}
 use lib.Seq.{getD-append-add}
 use lib.Dec.{eqb, ltb}
@@ -47,7 +47,7 @@ has-later x ys y e = by (eqb y x)
     by true = refl
     by false = e
 
-row-at : {Λ : ℕ → ℕ} {D e : ℕ} (s : Sheet) (at : ℕ) {rs : List Row} → Linked Λ D rs e → (i : ℕ) → i < length rs → (r : Row) × RowAt Λ D s at rs e i r
+pub row-at : {Λ : ℕ → ℕ} {D e : ℕ} (s : Sheet) (at : ℕ) {rs : List Row} → Linked Λ D rs e → (i : ℕ) → i < length rs → (r : Row) × RowAt Λ D s at rs e i r
 unfolding aim-at height-at place-at bytes-of startsFrom insOf
 row-at s at finished i lt = absurd (not-suc-le-zero lt)
 row-at {e = e} s at (follows {r = r} {rs = rs} k f l) zero lt = (

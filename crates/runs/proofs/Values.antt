@@ -12,7 +12,7 @@ use Rattle.definition.specs.Opcode.{Role, dup, pop, loadVar, storeVar, loadCons
 use Rattle.definition.specs.Rules.{hasRole}
 use Rattle.definition.specs.Runs.{target, offCode, open-Runs}
 use Rattle.definition.specs.Runs as runs
-use Rattle.definition.specs.Machine.{Image, State, Step, goes, finishes, stops, breaks, calculate, calculated, leadsTo, branchIf, compares, truth, execute, executeIf, isStart, roleAt, step, andThen, afterSteps, inRuns, outcomeOf, decided, stepInRuns, open-Machine}
+use Rattle.definition.specs.Machine.{Image, State, Step, goes, finishes, stops, breaks, calculate, calculated, leadsTo, branchIf, compares, truth, execute, executeIf, isStart, roleAt, step, andThen, afterSteps, inRuns, outcomeOf, decided, decidedIn, stepInRuns, open-Machine}
 
 -- a run that has what its role needs, and the outcome of a branch, goes on behind the instruction or where it leads
 enough : (r : Role) (code : List ℕ) (p h : ℕ) (os : List Bool) → needs r ≤ h → runs.outOfOutcomes (flow r) os ≡ false
@@ -89,11 +89,6 @@ same-step m x os = go (eqb (x .place) (length (m .bytecode))) (isStart m (x .pla
     go false true (some r) = executes r m (x .place) (x .stack) (x .variables) os
 
 -- ---- runs
-
--- the outcomes that the values decide in a run's first n steps
-unfoldable pub decidedIn : Image → ℕ → State → List Bool
-decidedIn m zero x = []
-decidedIn m (suc n) x = decided m x ++ andThen (step m x) [] (λ y. decidedIn m n y)
 
 -- A run with values that goes on for n steps stands, at the same place and height, where the run over their outcomes does.
 pub same-run : (m : Image) (n : ℕ) (x y : State) → afterSteps m n x ≡ some y → (os : List Bool)

@@ -4,8 +4,8 @@ use mathlib.Core.List.{List, [], _∷_, _++_, append-assoc, append-nil}
 use Prim.Native.Nat.{ℕ, zero, suc, _+_, _-_, _≤_, _<_, min}
 use native.Mathlib.Numerals.{add-one}
 use native.Mathlib.Omega.{arith, min-cases}
-use lib.ListN.{length, take, drop, set, getD, replicate, length-set, length-append}
-use lib.Seq.{take-suc-set, take-suc, take-all, take-at, drop-at}
+use lib.ListN.{length, take, drop, set, getD, replicate, length-set, length-append, length-drop}
+use lib.Seq.{take-suc-set, take-suc, take-all, take-at, drop-at, length-take-le}
 use Rattle.definition.specs.Lent.{zeros, filled}
 use Rattle.store.specs.Fill.{setFrom, zeroedFrom, fitted}
 
@@ -67,13 +67,17 @@ unfolding setFrom zeroedFrom
 zero-is from l e = e ∙ ap (λ (r : List ℕ). take from l ++ r) (zeros-replicate (length l - from))
 
 -- all of it
-pub set-all : {out : List ℕ} (x : ℕ) (l : List ℕ) → out ≡ setFrom 0 x l → out ≡ replicate (length l) x
-unfolding setFrom
-set-all x l e = let z : length l - 0 ≡ length l = omega arith in e ∙ rw z
-
 pub zero-all : {out : List ℕ} (l : List ℕ) → out ≡ zeroedFrom 0 l → out ≡ zeros (length l)
 unfolding zeroedFrom
 zero-all l e = let z : length l - 0 ≡ length l = omega arith in e ∙ rw z
+
+-- behind its first n, which l took the place of
+pub zeroed-behind : {out : List ℕ} (n : ℕ) (l t : List ℕ) → n ≤ length t → length l ≡ length (take n t) → out ≡ zeroedFrom n (l ++ drop n t) → (length l ≡ n) × (out ≡ l ++ zeros (length t - n))
+unfolding zeroedFrom
+zeroed-behind n l t h e z =
+    let long : length l ≡ n = e ∙ length-take-le n t h in
+    let k : length (l ++ drop n t) - n ≡ length t - n = omega (arith, long, length-append l (drop n t), length-drop n t) in
+    (long, z ∙ rw (take-at l (drop n t) n long, k))
 
 -- ---- filling
 

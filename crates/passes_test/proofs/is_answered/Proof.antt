@@ -1,5 +1,5 @@
 -- Made by `answers` from crates/passes_test/answers/is_answered.txt: edit that file, not this one.
-use Rattle.passes_answer.proofs.Ending.{put-within, put-part}
+use Rattle.passes_answer.proofs.Ending.{told-within, told-part}
 use borrow.Author.Needs.{needs}
 use Rattle.passes_test.proofs.is_answered.Statement.{statement}
 use Rattle.passes_test.proofs.is_answered.Tie as tie
@@ -8,9 +8,8 @@ pub is-answered-spec : {M : Type 1} → statement M
 is-answered-spec =
     tie.close
     (tie.spec
-    (λ c. search needs)  -- slice-aggregate-answer
     (λ c κs. search needs)  -- answer-requires
-    (λ c. put-within _ _ _ _ (c .before .answer .ensures .is))  -- array-share-prefix-out
-    (λ c. put-part _ _ _ _ (c .before .before .answer .ensures .is))  -- slice-aggregate-is-same
+    (λ c. told-within (c .answer .ensures))  -- array-share-prefix-out
+    (λ c. told-part (c .before .answer .ensures))  -- slice-aggregate-is-same
     (λ c κs. search needs)  -- is-same-requires
     (λ c. search needs))  -- returns

@@ -1,42 +1,22 @@
 -- Made by `answers` from crates/rules/answers/read_rules.txt: edit that file, not this one.
-use Prim.Native.Nat.{_-_}
-use borrow.Author.Tests.{not-true, not-false}
-use lib.ListN.{length}
-use Rattle.rules.proofs.File.{FileRead, file-unfit, file-starts, file-full, file-bad, file-next, file-less, file-done, file-refused}
+use mathlib.Core.Path.{sym}
+use lib.Seq.{length-take-le}
+use Rattle.rules.specs.View.{tableSize}
+use Rattle.rules.proofs.File.{file-unfit, file-behind}
+use borrow.Author.Needs.{needs}
 use Rattle.rules.proofs.read_rules.Statement.{statement}
 use Rattle.rules.proofs.read_rules.Tie as tie
-use borrow.Author.Needs.{needs}
-
-abbrev Inv-loop : tie.InvT-loop
-Inv-loop text table₀ at₀ count₀ table at count = FileRead text table at count
-
-abbrev μ-loop : tie.MeasureT-loop
-μ-loop text table₀ at₀ count₀ table at count = length text - at
 
 pub read-rules-spec : {M : Type 1} → statement M
 read-rules-spec =
     tie.close
     (tie.spec
-    Inv-loop
-    μ-loop
     (λ c κs. search needs)  -- refuse-requires
     (λ c. search needs)  -- same-length
     (λ c. file-unfit _ (c .before .before .before .before .if1 .taken) (c .before .before .refuse .ensures))  -- returns
-    (λ c κs. search needs)  -- clear-requires
-    (λ c. file-starts _ (c .before .before .before .before .if1 .left) (c .before .before .clear .ensures))  -- loop-holds
-    (λ c. search needs)  -- add-refuse
-    (λ c κs. search needs)  -- refuse-requires-2
+    (λ c. search needs)  -- slice-relend-prefix-read-table
+    (λ c. sym (length-take-le tableSize (c .before .before .before .before .args .table .now) (c .before .if1 .left)))  -- slice-aggregate-read-table
+    (λ c κs. length-take-le tableSize (c .before .before .before .before .args .table .now) (c .before .if1 .left))  -- read-table-requires
+    (λ c κs. search needs)  -- zero-numbers-requires
     (λ c. search needs)  -- same-length-2
-    (λ c. file-refused _ (c .before .before .before .before .before .before .before .before .before .before .before .if1 .left) (c .before .before .before .before .before .before .loop .inv .long) (file-full (c .before .before .before .before .before .before .loop .inv) (search needs) (search needs)) (c .before .before .refuse2 .ensures))  -- returns-2
-    (λ c κs. search needs)  -- read-line-requires
-    (λ c. search needs)  -- add-refuse-2
-    (λ c κs. search needs)  -- refuse-requires-3
-    (λ c. search needs)  -- same-length-3
-    (λ c. file-refused _ (c .before .before .before .before .before .before .before .before .before .before .before .before .before .before .if1 .left) (c .before .before .before .before .before .before .before .before .before .loop .inv .long) (file-bad (c .before .before .before .before .before .before .before .before .before .loop .inv) (search needs) (c .before .before .before .before .before .before .read-line .ensures) (search needs) (not-true _ (c .before .before .before .before .if3 .taken))) (c .before .before .refuse3 .ensures))  -- returns-3
-    (λ c. search needs)  -- mul-put
-    (λ c κs. search needs)  -- put-requires
-    (λ c. search needs)  -- add-count
-    (λ c. file-less (c .before .before .before .before .before .before .before .before .before .before .loop .inv) (search needs) (c .before .before .before .before .before .before .before .read-line .ensures) (not-false _ (c .before .before .before .before .before .if3 .left)) (search needs))  -- loop-less
-    (λ c. file-next (c .before .before .before .before .before .before .before .before .before .before .loop .inv) (search needs) (c .before .before .before .before .before .before .before .read-line .ensures) (not-false _ (c .before .before .before .before .before .if3 .left)) (c .before .before .put .ensures))  -- loop-again
-    (λ c. search needs)  -- same-length-4
-    (λ c. file-done (c .before .loop .inv) (c .before .before .before .before .before .before .if1 .left) (search needs)))  -- returns-4
+    (λ c. file-behind (c .before .before .before .before .before .before .before .before .before .before .before .args .text .now) (c .before .before .before .before .before .before .before .before .before .before .before .args .table .now) (c .before .before .before .before .before .before .read-table .last .1 .0) (c .before .before .before .before .before .before .before .before .if1 .left) (c .before .before .before .before .before .before .read-table .kept .1 .0) (c .before .before .before .before .before .before .read-table .ensures) (c .before .before .zero-numbers .ensures)))  -- returns-2

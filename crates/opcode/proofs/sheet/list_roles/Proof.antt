@@ -3,9 +3,7 @@ use mathlib.Core.Path.{_∙_, sym, refl}
 use Prim.Native.Nat.{_-_}
 use native.Mathlib.Omega.{arith}
 use lib.ListN.{length}
-use borrow.Rule.Slice.PartMut.{take-put}
-use Rattle.definition.specs.Sheet.{fieldCount}
-use Rattle.opcode.proofs.Tables.{Listing, listing-starts, listing-goes, listing-ends}
+use Rattle.opcode.proofs.Tables.{Listing, fields-kept, listing-starts, listing-goes, listing-ends}
 use Rattle.opcode.proofs.sheet.list_roles.Statement.{statement}
 use Rattle.opcode.proofs.sheet.list_roles.Tie as tie
 use borrow.Author.Needs.{needs}
@@ -22,11 +20,8 @@ list-roles-spec =
     (tie.spec
     Inv-loop
     μ-loop
-    (λ c. search needs)  -- sub-fill
-    (λ c. search needs)  -- part-fill-start
-    (λ c. search needs)  -- part-fill-end
-    (λ c κs. search needs)  -- fill-requires
-    (λ c. listing-starts (c .before .before .before .before .before .args .sheet .now) _ (c .before .before .before .before .before .pre) (c .before .before .fill .ensures))  -- loop-holds
+    (λ c κs. search needs)  -- set-bytes-requires
+    (λ c. listing-starts (c .before .before .before .before .before .args .sheet .now) (c .before .before .before .before .before .pre) (c .before .before .set-bytes .ensures))  -- loop-holds
     (λ c. search needs)  -- sub-i
     (λ c. omega (arith, c .before .before .loop .inv .long, c .before .before .loop .inv .low))  -- slice-read-opcode
     (λ c. omega (arith, c .slice-known3 .given (c .before .before .loop .i - 1)))  -- cast-opcode
@@ -36,4 +31,4 @@ list-roles-spec =
     (λ c. search needs)  -- loop-less
     (λ c. listing-goes (c .before .before .loop .inv) (c .before .loop-test .taken) _ _ refl refl (omega (arith, c .slice-known3 .given (c .before .before .loop .i - 1))))  -- loop-again
     (λ c. c .before .loop .inv .long ∙ sym (c .before .before .before .before .before .before .before .pre))  -- same-length
-    (λ c. record { front = c .before .loop .inv .front ∙ take-put fieldCount (length (c .before .before .before .before .before .before .before .args .sheet .now) - fieldCount) (c .before .before .before .before .before .before .before .args .sheet .now) (c .before .before .before .before .fill .last .0) (omega (arith, c .before .before .before .before .before .before .before .pre)); table = listing-ends (c .before .loop .inv) (omega (arith, c .loop-test .left)) }))  -- returns
+    (λ c. record { front = c .before .loop .inv .front ∙ fields-kept (c .before .before .before .before .before .before .before .args .sheet .now) (c .before .before .before .before .before .before .before .pre) (c .before .before .before .before .set-bytes .ensures); table = listing-ends (c .before .loop .inv) (omega (arith, c .loop-test .left)) }))  -- returns
