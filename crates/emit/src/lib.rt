@@ -37,7 +37,7 @@ use opcode::Role;
 use opcode::sheet;
 
 pub mod book; // book.rt: the book's tables, written and read back
-mod bytes; // bytes.rt: operands, and a byte put before the store that ends the code
+pub mod bytes; // bytes.rt: operands, and a byte put before the store that ends the code
 pub mod load; // load.rt: how a load is emitted, and what it did
 pub mod patch; // patch.rt: pending patches
 mod pool; // pool.rt: the pool's lookup

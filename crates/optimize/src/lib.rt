@@ -42,7 +42,7 @@ pub enum Remapped {
 }
 
 // The new offset of an old one; 0 past the map's end.
-fn moved_to(moves: &[u16], x: u16) -> u16
+pub fn moved_to(moves: &[u16], x: u16) -> u16
     ensures { λ r. ⌜ r ≡ movedTo (mapIn (now (moves .entry))) x ⌝ }
 {
     let at = numbers::wide(x);
@@ -77,7 +77,7 @@ fn mark(protected: &[u16], marks: &mut [u8])
 }
 
 // The starts of the instructions and their end, each listed at its own place of a table.
-fn list_boundaries(sheet: &[u8], code: &[u8], table: &mut [u16]) -> usize
+pub fn list_boundaries(sheet: &[u8], code: &[u8], table: &mut [u16]) -> usize
     requires { ⌜ IsTable (now sheet) ⌝ }
     requires { ⌜ length (now code) ≤ maxCode ⌝ }
     requires { ⌜ Clear (now table) ⌝ }

@@ -26,7 +26,7 @@ use Rattle.definition.specs.Claims.{Either, left, right, Fine, branchPlaces, in
 use Rattle.runs.proofs.Rows.{Row, bytes-of, place-at, aim-at, row-of, row-inside, row-aim, row-bytes, height-first, place-first, place-end, place-within, patchHere, patchesBy, patches-same, each-patch, Linked}
 use Rattle.runs.proofs.Emitted.{Stands, Placed, Acted, created, emitted}
 use Rattle.runs.proofs.Passes.{Reads, Fine as FineMatcher, decode-rows, looked-moved, Piped, optimize-piped, moved-in-turn}
-use Rattle.runs.proofs.Patched.{aimedRows, aimed-first, aimed-heights, aimed-count, aimed-linked, aimed-places, aimed-patches, aimedRow, aimed-aims, aimed-row, aimed-byte, aimed-long, patchWith, movedPatch, patchJumps-with, patched-rows, row-target}
+use Rattle.runs.proofs.Patched.{aimedRows, aimed-first, aimed-heights, aimed-count, aimed-linked, aimed-places, aimed-patches, aimedRow, aimed-aims, aimed-row, aimed-byte, aimed-long, patchWith, movedPatch, patchJumps-with, patched-rows, row-target, inside-rows}
 use Rattle.runs.proofs.Running.{has-first, has-later, row-at, run-fine, row-fine, row-leads, branch-places, height-of, height-place, start-row}
 
 -- ---- patches and what holds of each
@@ -44,6 +44,14 @@ map-patches m f (r ∷ rs) = map-append (movedPatch m) (patchHere (r .aim) (f 0)
 map-same : {A : Type 0} (f g : A → ℕ) {xs : List A} → Each (λ x. f x ≡ g x) xs → map f xs ≡ map g xs
 map-same f g empty = refl
 map-same f g (_also_ {x = x} {xs = xs} p ps) = ap (λ y. y ∷ map f xs) p ∙ ap (λ ys. g x ∷ ys) (map-same f g ps)
+
+pub each-so : {A : Type 0} {P Q : A → Type 0} {xs : List A} → ((x : A) → P x → Q x) → Each P xs → Each Q xs
+each-so f empty = empty
+each-so f (_also_ {x = x} p ps) = f x p also each-so f ps
+
+each-back : {A B : Type 0} {P : B → Type 0} (f : A → B) (xs : List A) → Each P (map f xs) → Each (λ x. P (f x)) xs
+each-back f [] empty = empty
+each-back f (x ∷ xs) (p also ps) = p also each-back f xs ps
 
 -- what holds of each patch's label holds of each row's
 each-aim : (Q : ℕ → Type 0) (f : ℕ → ℕ) (rs : List Row) → Each (λ (p : PendingPatch). Q (p .label)) (patchesBy f rs) → (i l : ℕ) → aim-at rs i ≡ some l → Q l
@@ -168,6 +176,23 @@ module _ (s : Sheet) (back : Reads s) (rules : List Rule) (fine : (pass : ℕ) �
         place = m ∙ sym (aimed-places T 0 (piped .linked) (piped .go (r .index)));
         height = aimed-heights T 0 (piped .rows) 0 (piped .go (r .index)) ∙ (piped .heights (r .index) (r .within) (subst (λ x. has protected x ≡ true) (r .place) (u .kept)) ∙ r .height);
       }
+
+  -- a branch's label is bound within the code, and its two bytes lie in rewritten code
+  pub program-near : Each (λ (x : PendingPatch). boundLabel (e .labels) (x .label) ≤ maxCode) (e .patches)
+  unfolding rows₀
+  program-near = each-so (λ x u.
+      let r = label-row (x .label) u in
+      let at = r .place in
+      let a = place-within s rows₀ (r .index) in
+      let b = ap length (acted .inv .bytes) in
+      let c = acted .inv .short in
+      omega arith) each-used
+
+  pub program-inside : Each (λ (x : PendingPatch). movedTo moves (x .instructionOffset) + x .operandDelta + 2 ≤ length (optimize s rules code₀ protected .bytecode)) (e .patches)
+  unfolding movedPatch
+  program-inside = each-back {P = λ (x : PendingPatch). x .instructionOffset + x .operandDelta + 2 ≤ length (optimize s rules code₀ protected .bytecode)} (movedPatch moves) (e .patches)
+      (subst (λ xs. Each (λ (x : PendingPatch). x .instructionOffset + x .operandDelta + 2 ≤ length (optimize s rules code₀ protected .bytecode)) xs) (sym patches-moved)
+      (inside-rows s 0 (λ i. place-at (piped .rows) i) (piped .linked) (λ i. let n : place-at (piped .rows) i ≡ 0 + place-at (piped .rows) i = omega arith in n) _ (let b = ap length (piped .bytes) in omega arith)))
 
   same-length : length (bytes-of s rows) ≡ length (bytes-of s (piped .rows))
   unfolding rows

@@ -15,7 +15,7 @@ use Rattle.definition.specs.Emit.{le16, PendingPatch}
 use Rattle.definition.specs.Rewrite.{OffsetMap, movedTo}
 use Rattle.definition.specs.Compile.{boundLabel, displacement, overwrite, patchJump, patchJumps}
 use Rattle.definition.specs.Runs.{target}
-use Rattle.definition.specs.Claims.{branches}
+use Rattle.definition.specs.Claims.{branches, Each, empty, _also_}
 use Rattle.field.proofs.Results.{never, some-is}
 use Rattle.runs.proofs.Roles.{branch-size}
 use Rattle.runs.proofs.Rows.{Row, next-height, bytes-of, place-at, place-first, aim-at, row-of, height-at, first-height, patchHere, patchesBy, patches-same, Leads, nowhere, to, RowOk, Linked, finished, follows}
@@ -271,3 +271,22 @@ row-target s T front (follows {r = r} {rs = rs} k f x) (suc i) l e t m =
     ap (λ y. target y (length front + (suc (length o) + place-at rs (suc i)))) code
     ∙ (ap (λ y. target ((front ++ (op ∷ o′)) ++ bytes-of s (aimedRows T (length (front ++ (op ∷ o′))) rs)) y) (let q : length front + (suc (length o) + place-at rs (suc i)) ≡ length (front ++ (op ∷ o′)) + place-at rs (suc i) = omega arith in q)
     ∙ row-target s T (front ++ (op ∷ o′)) x i l e t (subst (λ y. length y ≤ maxCode) code m))
+
+-- ---- the two bytes of each branch lie in the code
+
+one-inside : {Λ : ℕ → ℕ} {g : ℕ} {b : Bool} {a : Option ℕ} (at : ℕ) (o : List ℕ) (more : List PendingPatch) (n : ℕ) → Leads Λ g b a → (b ≡ true → 2 ≤ length o) → at + suc (length o) ≤ n
+    → Each (λ (p : PendingPatch). p .instructionOffset + p .operandDelta + 2 ≤ n) more → Each (λ (p : PendingPatch). p .instructionOffset + p .operandDelta + 2 ≤ n) (patchHere a at o ++ more)
+unfolding patchHere
+one-inside at o more n nowhere two le m = m
+one-inside at o more n (to p) two le m = (let w = two refl in let q : at + (length o - 1) + 2 ≤ n = omega arith in q) also m
+
+pub inside-rows : {Λ : ℕ → ℕ} {D e : ℕ} (s : Sheet) (base : ℕ) (f : ℕ → ℕ) {rs : List Row} → Linked Λ D rs e → ((i : ℕ) → f i ≡ base + place-at rs i) → (n : ℕ) → base + length (bytes-of s rs) ≤ n
+    → Each (λ (p : PendingPatch). p .instructionOffset + p .operandDelta + 2 ≤ n) (patchesBy f rs)
+unfolding patchesBy place-at bytes-of
+inside-rows s base f finished h n le = empty
+inside-rows s base f (follows {r = r} {rs = rs} k g l) h n le =
+    let o : List ℕ = r .operand in
+    let long : length ((opcode s (r .role) ∷ o) ++ bytes-of s rs) ≡ suc (length o) + length (bytes-of s rs) = length-append (opcode s (r .role) ∷ o) (bytes-of s rs) in
+    let first : f 0 ≡ base + 0 = h 0 in
+    one-inside (f 0) o (patchesBy (λ i. f (suc i)) rs) n (k .leads) (λ b. branch-operand k b) (omega arith)
+    (inside-rows s (base + suc (length o)) (λ i. f (suc i)) l (λ i. let q : f (suc i) ≡ base + (suc (length o) + place-at rs i) = h (suc i) in omega arith) n (omega arith))

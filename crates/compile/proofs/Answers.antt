@@ -1,0 +1,139 @@
+-- The parts of the call: 14, what follows emission, and the answer.
+use mathlib.Core.Path.{_≡_, refl, sym, _∙_}
+use mathlib.Core.Bool.{Bool, true, false, _&&_}
+use mathlib.Core.List.{List, []}
+use Prim.Native.Nat.{ℕ, zero, suc, _*_, _≤_, _<_}
+use native.Mathlib.Omega.{arith}
+use borrow.Author.Tests.{le-leb, lt-leb, leb-true}
+use lib.Dec.{leb}
+use lib.ListN.{length, take}
+use lib.Seq.{length-take-le}
+use Rattle.definition.specs.Limits.{maxCode, maxConstants, maxLines, entrySize}
+use Rattle.definition.specs.Res.{Res, ok, refuse, _>>=_}
+use Rattle.definition.specs.Opcode.{Sheet}
+use Rattle.definition.specs.Rules.{Rule, readRules}
+use Rattle.definition.specs.Emit as def
+use Rattle.definition.specs.Emit.{PendingPatch, emitterAt}
+use Rattle.definition.specs.Stmt.{emitStmts}
+use Rattle.definition.specs.Tree.{Program}
+use Rattle.definition.specs.Lent.{filled}
+use Rattle.definition.specs.Compile as compile
+use Rattle.definition.specs.Compile.{FinalizedFunction, jumpTargets, finalizeFunction, emitProgram, Room, roomy, answer}
+use Rattle.store.specs.Fill.{zeroedFrom}
+use Rattle.store.proofs.Fills.{zero-all}
+use Rattle.emit.specs.declared.Emitter.{Emitter}
+use Rattle.opcode.specs.Table.{Good}
+use Rattle.emit.specs.View.{World, world, state, standing, view}
+use Rattle.emit.specs.Steps.{Fine, Begun, Did, run}
+use Rattle.opcode.proofs.Sheets.{role-of-opcode}
+use Rattle.runs.proofs.Passes.{Reads, rules-fine}
+use Rattle.runs.proofs.Finished.{each-so, program-near, program-inside}
+use Rattle.compile.specs.declared.FinalizedFunction as ours
+use Rattle.compile.specs.declared.call.Answer.{Answer}
+use Rattle.compile.specs.declared.call.Outcome.{Outcome}
+use Rattle.compile.specs.declared.call.Outcome.the-variants.{Refused, Finished}
+use Rattle.compile.specs.View.{Patchable, Finalizes}
+use Rattle.compile.specs.Call.{roomOf, room, Roomy, answerView, finishing, outcomeOf, Held, Ends, settled}
+
+-- ---- a refusal
+
+pub refused : (number place : ℕ) (code constants lines : List ℕ) {b k l : List ℕ} → b ≡ zeroedFrom 0 code → k ≡ zeroedFrom 0 constants → l ≡ zeroedFrom 0 lines
+    → answerView (record { number = number; place = place; bytes = 0; depth = 0; constants = 0; entries = 0 }) b k l ≡ answer (room code constants lines) (refuse number place)
+unfolding answer
+refused number place code constants lines eb ek el = rw (zero-all code eb, zero-all constants ek, zero-all lines el)
+
+-- ---- 14
+
+module _ (code constants lines : ℕ) where
+  pub no-code : code < maxCode → false ≡ roomy (roomOf code constants lines)
+  unfolding roomy
+  no-code h = rw (lt-leb _ _ h)
+
+  module _ (b : maxCode ≤ code) where
+    pub no-constants : constants < maxConstants → false ≡ roomy (roomOf code constants lines)
+    unfolding roomy
+    no-constants h = rw (le-leb _ _ b, lt-leb _ _ h)
+
+    pub by-lines : maxConstants ≤ constants → leb (maxLines * entrySize) lines ≡ roomy (roomOf code constants lines)
+    unfolding roomy
+    by-lines h = rw (le-leb _ _ b, le-leb _ _ h)
+
+pub roomy-is : {r : Room} → roomy r ≡ true → Roomy r
+unfolding roomy
+roomy-is {r} = go (leb maxCode (r .code)) refl (leb maxConstants (r .constants)) refl
+  where
+    go : (t : Bool) → leb maxCode (r .code) ≡ t → (u : Bool) → leb maxConstants (r .constants) ≡ u → t && (u && leb (maxLines * entrySize) (r .lines)) ≡ true → Roomy r
+    go true a true b e = record { code = leb-true _ _ a; constants = leb-true _ _ b; lines = leb-true _ _ e }
+    go true a false b e = absurd (let z : _≡_ {A = ℕ} 0 1 = cc in omega arith)
+    go false a u b e = absurd (let z : _≡_ {A = ℕ} 0 1 = cc in omega arith)
+
+-- ---- behind emission
+
+stopped : {A : Type 0} (n p : ℕ) (a : A) → (n ≡ 0 → ⊥) → standing n p a ≡ refuse n p
+unfolding standing
+stopped zero p a off = absurd (off refl)
+stopped (suc n) p a off = refl
+
+going : {A : Type 0} (n p : ℕ) (a : A) → n ≡ 0 → standing n p a ≡ ok a
+unfolding standing
+going n p a on = rw on
+
+module _ (s : Sheet) (rs : List Rule) (e : Emitter) (code book constants lines : List ℕ) where
+  abbrev ended : Res FinalizedFunction
+  ended = finishing s rs (view (world e code book constants))
+
+  pub ends-refused : {b k l : List ℕ} → (e .refused ≡ 0 → ⊥) → Ends ended code constants lines b k l (Refused (e .refused) (e .place))
+  unfolding _>>=_
+  ends-refused off =
+      let is : ended ≡ refuse (e .refused) (e .place) = rw (stopped (e .refused) (e .place) (state (world e code book constants)) off) in
+      record { is = rw is; held = λ f q. absurd (let bad : refuse (e .refused) (e .place) ≡ ok f = sym is ∙ q in let z : _≡_ {A = ℕ} 0 1 = cc in omega arith) }
+
+  pub ends-finished : {b k l : List ℕ} {r : ours.FinalizedFunction} → e .refused ≡ 0 → Fine e → Roomy (room code constants lines) → Finalizes s rs e code book lines b l r → k ≡ zeroedFrom (e .constants) constants
+      → Ends ended code constants lines b k l (Finished (r .size) (r .«max_stack_depth») (e .constants) (r .entries))
+  unfolding _>>=_ finalizeFunction filled zeroedFrom
+  ends-finished {b} {k} {l} {r} on fine roomy fin zeroed =
+      let F : FinalizedFunction = finalizeFunction s rs (state (world e code book constants)) in
+      let h = fin .is constants in
+      let many : length (take (e .constants) constants) ≡ e .constants = length-take-le (e .constants) constants (omega (arith, fine .constants, roomy .constants)) in
+      let is : ended ≡ ok F = rw (going (e .refused) (e .place) (state (world e code book constants)) on) in
+      let pool : k ≡ filled (length constants) (take (e .constants) constants) = zeroed ∙ rw many in
+      record {
+        is = rw (is, h .size, h .depth, h .entries, many);
+        held = λ f q. (let same : F ≡ f = (let two : ok F ≡ ok f = sym is ∙ q in cc) in rw (← same) (record { code = h .code; constants = pool; lines = h .lines }));
+      }
+
+-- what the pool holds is nothing to patching
+pub any-pool : (s : Sheet) (rs : List Rule) (e : Emitter) (code book pool : List ℕ) → Patchable s rs (state (world e code book pool)) → Patchable s rs (state (world e code book []))
+unfolding jumpTargets
+any-pool s rs e code book pool q = record { near = q .near; inside = q .inside }
+
+-- what emission gives can be patched
+pub patchable : (rules : List ℕ) (s : Sheet) (rs : List Rule) → Good s → readRules rules ≡ ok rs → (p : Program) (d : def.Emitter) → emitProgram s p ≡ ok d → Patchable s rs d
+patchable rules s rs g r p d q =
+    let back : Reads s = role-of-opcode g in
+    let fine = rules-fine s back rules r in
+    record {
+      near = each-so (λ (x : PendingPatch) n. record { is = n }) (program-near s back rs fine p d q);
+      inside = each-so (λ (x : PendingPatch) n. record { is = n }) (program-inside s back rs fine p d q);
+    }
+
+-- the calls of a program's walk, run from an empty emitter, are its emission
+pub emitted : (s : Sheet) (p : Program) {e : Emitter} {v : World} (code book pool : List ℕ) → Begun (p .pos) e → Did (run s (emitStmts (p .body))) (world e code book pool) v → view v ≡ emitProgram s p
+unfolding _>>=_ run emitProgram emitterAt
+emitted s p code book pool b d = d .is ∙ rw (b .is code book pool)
+
+-- ---- the answer
+
+pub settled-finished : {o : Outcome} {a d n e : ℕ} (code constants lines : List ℕ) → o ≡ Finished a d n e
+    → answerView (record { number = 0; place = 0; bytes = a; depth = d; constants = n; entries = e }) code constants lines ≡ settled o code constants lines
+settled-finished code constants lines q = rw q
+
+pub settled-refused : {o : Outcome} {n p : ℕ} {x : compile.Answer} (code constants lines : List ℕ) → o ≡ Refused n p → x ≡ answer (room code constants lines) (refuse n p) → x ≡ settled o code constants lines
+settled-refused code constants lines q is = is ∙ rw q
+
+-- what an outcome settles to is the definition's answer
+pub settled-is : (x : Res FinalizedFunction) {bytes words numbers b k l : List ℕ} {o : Outcome} → Ends x bytes words numbers b k l o → length b ≡ length bytes → length k ≡ length words → length l ≡ length numbers
+    → settled o b k l ≡ answer (room bytes words numbers) x
+unfolding answer
+settled-is (refuse n p) ends eb ek el = rw (ends .is, eb, ek, el)
+settled-is (ok f) ends eb ek el = let h = ends .held f refl in rw (ends .is, h .code, h .constants, h .lines)

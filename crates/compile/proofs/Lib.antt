@@ -1,0 +1,4 @@
+pub mod Patches
+pub mod Places
+pub mod Whole
+pub mod Answers

@@ -1,0 +1,70 @@
+-- What this crate's functions give, said of the definition.
+use Prim.Native.Nat.{ℕ, _+_, _≤_}
+use mathlib.Core.Path.{_≡_}
+use mathlib.Core.List.{List, map}
+use mathlib.Core.Option.{Option}
+use lib.ListN.{length}
+use Rattle.definition.specs.Limits.{maxCode}
+use Rattle.definition.specs.Opcode.{Sheet}
+use Rattle.definition.specs.Rules.{Rule}
+use Rattle.definition.specs.Emit as def
+use Rattle.definition.specs.Emit.{PendingPatch}
+use Rattle.definition.specs.Rewrite.{OffsetMap, movedTo}
+use Rattle.definition.specs.Optimize.{Pipeline, optimize}
+use Rattle.definition.specs.Lent.{filled, entryNumbers}
+use Rattle.definition.specs.Compile as compile
+use Rattle.definition.specs.Compile.{boundLabel, jumpTargets, finalizeFunction}
+use Rattle.definition.specs.Claims.{Each}
+use Rattle.optimize.specs.View.{mapIn}
+use Rattle.emit.specs.declared.Emitter.{Emitter}
+use Rattle.emit.specs.Book.{labelsIn, patchesIn}
+use Rattle.emit.specs.View.{world, state}
+use Rattle.compile.specs.declared.FinalizedFunction.{FinalizedFunction}
+
+-- ---- branches
+
+-- the places where the labels of pending patches are bound
+unfoldable pub targetsOf : List (Option ℕ) → List PendingPatch → List ℕ
+targetsOf labels patches = map (λ (p : PendingPatch). boundLabel labels (p .label)) patches
+
+-- in a book
+abbrev pub targetsIn : Emitter → List ℕ → List ℕ
+targetsIn e book = targetsOf (labelsIn book (e .labels)) (patchesIn book (e .patches))
+
+-- a patch's label is bound within what code may be
+pub record Near (labels : List (Option ℕ)) (p : PendingPatch) : Type 0 where
+  pub is : boundLabel labels (p .label) ≤ maxCode
+
+-- its two bytes lie in code of this size, once it is moved
+pub record Inside (m : OffsetMap) (size : ℕ) (p : PendingPatch) : Type 0 where
+  pub is : movedTo m (p .instructionOffset) + p .operandDelta + 2 ≤ size
+
+-- what the three passes make of emitted code
+abbrev pub passed : Sheet → List Rule → def.Emitter → Pipeline
+passed s rules d = optimize s rules (d .bytecode) (jumpTargets d)
+
+-- emitted code whose branches can be patched: whatever a program's emission gives is such (crate runs)
+pub record Patchable (s : Sheet) (rules : List Rule) (d : def.Emitter) : Type 0 where
+  pub near : Each (Near (d .labels)) (d .patches)
+  pub inside : Each (Inside (passed s rules d .map) (length (passed s rules d .bytecode))) (d .patches)
+
+-- ---- what the functions give
+
+-- the code after three passes and then 0, and a table that moves as their composed map does; the code's length is answered
+pub record Moved (p : Pipeline) (code code′ total′ : List ℕ) (r : ℕ) : Type 0 where
+  pub bytes : code′ ≡ filled (length code) (p .bytecode)
+  pub end : r ≡ length (p .bytecode)
+  pub within : r ≤ length code
+  pub moved : (x : ℕ) → movedTo (mapIn total′) x ≡ movedTo (p .map) x
+
+-- finished code and line list in the lent outputs, and 0 up to their ends
+pub record Holds (f : compile.FinalizedFunction) (bytes numbers bytes′ numbers′ : List ℕ) (r : FinalizedFunction) : Type 0 where
+  pub code : bytes′ ≡ filled (length bytes) (f .bytecode)
+  pub lines : numbers′ ≡ filled (length numbers) (entryNumbers (f .lineMap))
+  pub size : r .size ≡ length (f .bytecode)
+  pub depth : r .«max_stack_depth» ≡ f .depth
+  pub entries : r .entries ≡ length (f .lineMap)
+
+-- whatever the pool, which is finished as it stands
+pub record Finalizes (s : Sheet) (rules : List Rule) (e : Emitter) (code book lines code′ lines′ : List ℕ) (r : FinalizedFunction) : Type 0 where
+  pub is : (pool : List ℕ) → Holds (finalizeFunction s rules (state (world e code book pool))) code lines code′ lines′ r

@@ -1,0 +1,166 @@
+// From the emitter to finished code (compile.rs `finalize_function`, emit.rs `patch_jumps`).
+ghost use mathlib.Core.Path.{_≡_};
+ghost use mathlib.Core.List.{[]};
+ghost use Prim.Native.Nat.{_*_, _≤_};
+ghost use lib.ListN.{length};
+ghost use Rattle.definition.specs.Limits.{maxCode, maxLines, entrySize};
+ghost use Rattle.definition.specs.Lent.{entriesOf};
+ghost use Rattle.definition.specs.Optimize.{optimize};
+ghost use Rattle.definition.specs.Compile.{patchJump, patchJumps};
+ghost use Rattle.definition.specs.Claims.{Each};
+ghost use Rattle.opcode.specs.Table.{sheetIn};
+ghost use Rattle.rules.specs.View.{rulesIn};
+ghost use Rattle.rewrite.specs.View.{Clear};
+ghost use Rattle.optimize.specs.View.{mapIn, Tables};
+ghost use Rattle.emit.specs.Book.{bookSize, labelsIn, patchesIn, linesIn};
+ghost use Rattle.emit.specs.View.{world, state, patchView};
+ghost use Rattle.emit.specs.Steps.{Fine};
+ghost use Rattle.compile.specs.View.{targetsIn, Near, Inside, Patchable, Moved, Finalizes};
+use definition::ENTRY_SIZE;
+use definition::MAX_BRANCHES;
+use emit::Emitter;
+use emit::book;
+use emit::bytes;
+use emit::patch::PendingPatch;
+
+pub mod call; // call.rt: the call, but for emission
+
+// Finished code: its bytes and depth, and how many line entries it has.
+pub struct FinalizedFunction {
+    pub size: usize,
+    pub max_stack_depth: usize,
+    pub entries: usize,
+}
+
+// Where the labels of pending patches are bound, in the order of emission: each is protected.
+fn jump_targets(e: Emitter, book: &[u16], targets: &mut [u16])
+    requires { ⌜ Fine e ⌝ }
+    requires { ⌜ length (now book) ≡ bookSize ⌝ }
+    requires { ⌜ length (now targets) ≡ e .patches ⌝ }
+    requires { ⌜ Each (Near (labelsIn (now book) (e .labels))) (patchesIn (now book) (e .patches)) ⌝ }
+    ensures { λ r. ⌜ now (targets .exit) ≡ targetsIn e (now (book .entry)) ⌝ }
+{
+    let mut i = 0;
+    while i < targets.len() {
+        let patch = book::patch_at(book, i);
+        let place = e.bound_label(book, patch.label);
+        targets[i] = numbers::narrow(place);
+        i += 1;
+    }
+}
+
+// The three passes over emitted code, with the map from its places to where they moved. The targets are lent, one for each branch.
+fn optimize_emitted(
+    sheet: &[u8],
+    rules: &[u16],
+    count: usize,
+    e: Emitter,
+    book: &[u16],
+    code: &mut [u8],
+    targets: &mut [u16],
+    total: &mut [u16],
+) -> usize
+    requires { ⌜ Tables (now sheet) (now rules) count ⌝ }
+    requires { ⌜ Fine e ⌝ }
+    requires { ⌜ length (now book) ≡ bookSize ⌝ }
+    requires { ⌜ length (now code) ≤ maxCode ⌝ }
+    requires { ⌜ length (now targets) ≡ e .patches ⌝ }
+    requires { ⌜ Clear (now total) ⌝ }
+    requires { ⌜ Each (Near (labelsIn (now book) (e .labels))) (patchesIn (now book) (e .patches)) ⌝ }
+    ensures { λ r. ⌜ Moved (optimize (sheetIn (now (sheet .entry))) (rulesIn (now (rules .entry)) count) (now (code .entry)) (targetsIn e (now (book .entry)))) (now (code .entry)) (now (code .exit)) (now (total .exit)) r ⌝ }
+{
+    jump_targets(e, book, targets);
+    optimize::list_boundaries(sheet, code, total);
+    optimize::optimize(sheet, rules, count, code, targets, total)
+}
+
+// One branch: the low sixteen bits of its target's place less the next, low byte first, over its two offset bytes.
+fn patch_jump(e: Emitter, book: &[u16], moves: &[u16], patch: PendingPatch, code: &mut [u8])
+    requires { ⌜ Fine e ⌝ }
+    requires { ⌜ length (now book) ≡ bookSize ⌝ }
+    requires { ⌜ length (now code) ≤ maxCode ⌝ }
+    requires { ⌜ Near (labelsIn (now book) (e .labels)) (patchView patch) ⌝ }
+    requires { ⌜ Inside (mapIn (now moves)) (length (now code)) (patchView patch) ⌝ }
+    ensures { λ r. ⌜ now (code .exit) ≡ patchJump (labelsIn (now (book .entry)) (e .labels)) (mapIn (now (moves .entry))) (patchView patch) (now (code .entry)) ⌝ }
+    ensures { λ r. ⌜ length (now (code .exit)) ≡ length (now (code .entry)) ⌝ }
+{
+    let from = optimize::moved_to(moves, patch.instruction_offset);
+    let at = numbers::wide(from) + numbers::wide(patch.operand_delta);
+    let next = numbers::narrow(at + 2);
+    let place = e.bound_label(book, patch.label);
+    let target = optimize::moved_to(moves, numbers::narrow(place));
+    let displacement = std::num::wrapping_sub_u16(target, next);
+    bytes::push_u16(code, at, displacement);
+}
+
+// Every pending patch, in the order of emission.
+fn patch_jumps(e: Emitter, book: &[u16], moves: &[u16], code: &mut [u8])
+    requires { ⌜ Fine e ⌝ }
+    requires { ⌜ length (now book) ≡ bookSize ⌝ }
+    requires { ⌜ length (now code) ≤ maxCode ⌝ }
+    requires { ⌜ Each (Near (labelsIn (now book) (e .labels))) (patchesIn (now book) (e .patches)) ⌝ }
+    requires { ⌜ Each (Inside (mapIn (now moves)) (length (now code))) (patchesIn (now book) (e .patches)) ⌝ }
+    ensures { λ r. ⌜ now (code .exit) ≡ patchJumps (labelsIn (now (book .entry)) (e .labels)) (mapIn (now (moves .entry))) (patchesIn (now (book .entry)) (e .patches)) (now (code .entry)) ⌝ }
+    ensures { λ r. ⌜ length (now (code .exit)) ≡ length (now (code .entry)) ⌝ }
+{
+    let mut i = 0;
+    while i < e.patches {
+        let patch = book::patch_at(book, i);
+        patch_jump(e, book, moves, patch, code);
+        i += 1;
+    }
+}
+
+// The numbers of the first n line entries, where they lie.
+fn emitted_lines<'a>(book: &'a [u16], n: usize) -> &'a [u16]
+    requires { ⌜ length (now book) ≡ bookSize ⌝ }
+    requires { ⌜ n ≤ maxLines ⌝ }
+    ensures { λ r. ⌜ entriesOf (now r) ≡ linesIn (now (book .entry)) n ⌝ }
+    ensures { λ r. ⌜ length (now r) ≡ entrySize * n ⌝ }
+{
+    let end = book::LINE_BASE + ENTRY_SIZE * n;
+    &book[book::LINE_BASE..end]
+}
+
+// `finalize_function`: three passes, then patching, then line mapping. Both outputs are 0 behind what they hold.
+pub fn finalize_function(
+    sheet: &[u8],
+    rules: &[u16],
+    count: usize,
+    e: Emitter,
+    code: &mut [u8],
+    book: &[u16],
+    lines: &mut [u16],
+) -> FinalizedFunction
+    requires { ⌜ Tables (now sheet) (now rules) count ⌝ }
+    requires { ⌜ Fine e ⌝ }
+    requires { ⌜ maxCode ≤ length (now code) ⌝ }
+    requires { ⌜ length (now book) ≡ bookSize ⌝ }
+    requires { ⌜ maxLines * entrySize ≤ length (now lines) ⌝ }
+    requires { ⌜ Patchable (sheetIn (now sheet)) (rulesIn (now rules) count) (state (world e (now code) (now book) [])) ⌝ }
+    ensures { λ r. ⌜ Finalizes (sheetIn (now (sheet .entry))) (rulesIn (now (rules .entry)) count) e (now (code .entry)) (now (book .entry)) (now (lines .entry)) (now (code .exit)) (now (lines .exit)) r ⌝ }
+{
+    let emitted = e.size;
+    let branches = e.patches;
+    let mut targets = [0u16; MAX_BRANCHES];
+    let mut total = [0u16; rewrite::SLOTS];
+    let n = optimize_emitted(
+        sheet,
+        rules,
+        count,
+        e,
+        book,
+        &mut code[..emitted],
+        &mut targets[..branches],
+        &mut total,
+    );
+    patch_jumps(e, book, &total, &mut code[..n]);
+    store::zero_bytes(code, n);
+    let entries = emitted_lines(book, e.lines);
+    let kept = optimize::remap_line_map(&total, n, entries, lines);
+    FinalizedFunction {
+        size: n,
+        max_stack_depth: e.deepest,
+        entries: kept,
+    }
+}
