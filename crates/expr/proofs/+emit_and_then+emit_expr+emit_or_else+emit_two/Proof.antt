@@ -1,6 +1,6 @@
 -- Made by `answers` from crates/expr/answers/+emit_and_then+emit_expr+emit_or_else+emit_two.txt: edit that file, not this one.
 use Prim.Native.Nat.{_+_, _*_, ℕ, _<_}
-use mathlib.Core.Path.{refl, _∙_, ap, sym}
+use mathlib.Core.Path.{_∙_, ap, sym}
 use native.Mathlib.Omega.{arith}
 use denote.Ref.{now}
 use Rattle.program.proofs.Laws.{line-there}
@@ -8,7 +8,7 @@ use Rattle.program_line.specs.declared.ExprLine.the-variants.{ShortCircuit}
 use Rattle.emit.proofs.Steps.{coded-filled}
 use Rattle.expr.specs.Lines.{linesLeft}
 use Rattle.expr.proofs.Lines.{passed-fewer, read-most}
-use Rattle.expr.proofs.Laws.{after-created, after-coded, after-booked, after-bare, line-is, bad-some, went-bad, went-const, went-bool, went-read, went-binary, went-compare, went-unary, went-and, went-or, two-done, and-done, or-done}
+use Rattle.expr.proofs.Laws.{line-is, bad-some, went-bad, went-const, went-bool, went-read, went-binary, went-compare, went-unary, went-and, went-or, two-done, and-done, or-done}
 use borrow.Fn.Kinds.{In}
 use borrow.Fn.PlainCycle.{Measures, is, falls, and}
 use Rattle.expr.proofs.emit_and_then.Reads as emit-and-then
@@ -108,9 +108,9 @@ pub +emit-and-then+emit-expr+emit-or-else+emit-two-spec : {M : Type 1} → state
     emit-and-then.Post
     (λ c κs. (c .before .before .before .before .before .before .pre .1 .1 .0 .fine, c .before .before .before .before .before .before .pre .1 .1 .0 .slots))  -- emit-and-then-create-label-requires
     (λ c κs. (c .before .before .before .before .create-label .ensures .fine, c .before .before .before .before .create-label .ensures .slots))  -- emit-and-then-create-label-requires-2
-    (λ c κs. (omega (arith, c .before .before .before .before .before .before .before .before .before .before .before .before .before .before .before .before .before .before .pre .0), (c .before .before .before .before .before .before .before .before .before .before .before .before .before .before .before .before .before .before .pre .1 .0, (after-created (after-created (c .before .before .before .before .before .before .before .before .before .before .before .before .before .before .before .before .before .before .pre .1 .1 .0) (c .before .before .before .before .before .before .before .before .before .before .before .create-label .ensures)) (c .before .before .before .before .before .before .create-label2 .ensures), c .before .before .before .before .before .before .before .before .before .before .before .before .before .before .before .before .before .before .pre .1 .1 .1))))  -- emit-and-then-emit-expr-requires
+    (λ c κs. (omega (arith, c .before .before .before .before .before .before .before .before .before .before .before .before .before .before .before .before .before .before .pre .0), (c .before .before .before .before .before .before .before .before .before .before .before .before .before .before .before .before .before .before .pre .1 .0, (record { fine = c .before .before .before .before .before .before .create-label2 .ensures .fine; room = c .before .before .before .before .before .before .before .before .before .before .before .before .before .before .before .before .before .before .pre .1 .1 .0 .room; slots = c .before .before .before .before .before .before .create-label2 .ensures .slots; long = c .before .before .before .before .before .before .before .before .before .before .before .before .before .before .before .before .before .before .pre .1 .1 .0 .long }, c .before .before .before .before .before .before .before .before .before .before .before .before .before .before .before .before .before .before .pre .1 .1 .1))))  -- emit-and-then-emit-expr-requires
     (λ c κs. (c .before .before .before .before .before .before .before .before .before .before .emit-expr .ensures .ready .fine, (c .before .before .before .before .before .before .before .before .before .before .emit-expr .ensures .ready .room, c .before .before .before .before .before .before .before .before .before .before .emit-expr .ensures .ready .slots)))  -- emit-and-then-emit-jmp-if-not-requires
-    (λ c κs. (omega (arith, c .before .before .before .before .before .before .before .before .before .before .before .before .before .before .before .before .before .before .before .before .before .before .before .before .before .before .before .before .before .before .before .before .before .before .before .before .before .pre .0, read-most _ _ _ _ (c .before .before .before .before .before .before .before .before .before .before .before .before .before .before .before .before .before .before .emit-expr .ensures .is)), (c .before .before .before .before .before .before .before .before .before .before .before .before .before .before .before .before .before .before .emit-expr .ensures .near, (after-coded (c .before .before .before .before .before .before .before .before .before .before .before .before .before .before .before .before .before .before .emit-expr .ensures .ready) (c .before .before .before .before .before .before .before .emit-jmp-if-not .ensures), c .before .before .before .before .before .before .before .before .before .before .before .before .before .before .before .before .before .before .before .before .before .before .before .before .before .before .before .before .before .before .before .before .before .before .before .before .before .pre .1 .1 .1))))  -- emit-and-then-emit-expr-requires-2
+    (λ c κs. (omega (arith, c .before .before .before .before .before .before .before .before .before .before .before .before .before .before .before .before .before .before .before .before .before .before .before .before .before .before .before .before .before .before .before .before .before .before .before .before .before .pre .0, read-most _ _ _ _ (c .before .before .before .before .before .before .before .before .before .before .before .before .before .before .before .before .before .before .emit-expr .ensures .is)), (c .before .before .before .before .before .before .before .before .before .before .before .before .before .before .before .before .before .before .emit-expr .ensures .near, (record { fine = c .before .before .before .before .before .before .before .emit-jmp-if-not .ensures .fine; room = c .before .before .before .before .before .before .before .emit-jmp-if-not .ensures .room; slots = c .before .before .before .before .before .before .before .emit-jmp-if-not .ensures .slots; long = c .before .before .before .before .before .before .before .before .before .before .before .before .before .before .before .before .before .before .emit-expr .ensures .ready .long }, c .before .before .before .before .before .before .before .before .before .before .before .before .before .before .before .before .before .before .before .before .before .before .before .before .before .before .before .before .before .before .before .before .before .before .before .before .before .pre .1 .1 .1))))  -- emit-and-then-emit-expr-requires-2
     (λ c κs. (c .before .before .before .before .before .before .before .before .before .before .emit-expr2 .ensures .ready .fine, (c .before .before .before .before .before .before .before .before .before .before .emit-expr2 .ensures .ready .room, c .before .before .before .before .before .before .before .before .before .before .emit-expr2 .ensures .ready .slots)))  -- emit-and-then-emit-jmp-requires
     (λ c κs. (c .before .before .before .before .before .emit-jmp .ensures .fine, c .before .before .before .before .before .emit-jmp .ensures .slots))  -- emit-and-then-bind-label-requires
     (λ c κs. c .before .before .bind-label .ensures .fine)  -- emit-and-then-reset-stack-depth-requires
@@ -241,7 +241,7 @@ pub +emit-and-then+emit-expr+emit-or-else+emit-two-spec : {M : Type 1} → state
     emit-or-else.Post
     (λ c κs. (c .before .before .before .before .before .before .pre .1 .1 .0 .fine, c .before .before .before .before .before .before .pre .1 .1 .0 .slots))  -- emit-or-else-create-label-requires
     (λ c κs. (c .before .before .before .before .create-label .ensures .fine, c .before .before .before .before .create-label .ensures .slots))  -- emit-or-else-create-label-requires-2
-    (λ c κs. (omega (arith, c .before .before .before .before .before .before .before .before .before .before .before .before .before .before .before .before .before .before .pre .0), (c .before .before .before .before .before .before .before .before .before .before .before .before .before .before .before .before .before .before .pre .1 .0, (after-created (after-created (c .before .before .before .before .before .before .before .before .before .before .before .before .before .before .before .before .before .before .pre .1 .1 .0) (c .before .before .before .before .before .before .before .before .before .before .before .create-label .ensures)) (c .before .before .before .before .before .before .create-label2 .ensures), c .before .before .before .before .before .before .before .before .before .before .before .before .before .before .before .before .before .before .pre .1 .1 .1))))  -- emit-or-else-emit-expr-requires
+    (λ c κs. (omega (arith, c .before .before .before .before .before .before .before .before .before .before .before .before .before .before .before .before .before .before .pre .0), (c .before .before .before .before .before .before .before .before .before .before .before .before .before .before .before .before .before .before .pre .1 .0, (record { fine = c .before .before .before .before .before .before .create-label2 .ensures .fine; room = c .before .before .before .before .before .before .before .before .before .before .before .before .before .before .before .before .before .before .pre .1 .1 .0 .room; slots = c .before .before .before .before .before .before .create-label2 .ensures .slots; long = c .before .before .before .before .before .before .before .before .before .before .before .before .before .before .before .before .before .before .pre .1 .1 .0 .long }, c .before .before .before .before .before .before .before .before .before .before .before .before .before .before .before .before .before .before .pre .1 .1 .1))))  -- emit-or-else-emit-expr-requires
     (λ c κs. (c .before .before .before .before .before .before .before .before .before .before .emit-expr .ensures .ready .fine, (c .before .before .before .before .before .before .before .before .before .before .emit-expr .ensures .ready .room, c .before .before .before .before .before .before .before .before .before .before .emit-expr .ensures .ready .slots)))  -- emit-or-else-emit-jmp-if-not-requires
     (λ c κs. (c .before .before .before .before .before .before .emit-jmp-if-not .ensures .fine, (c .before .before .before .before .before .before .emit-jmp-if-not .ensures .room, c .before .before .before .before .before .before .emit-jmp-if-not .ensures .slots)))  -- emit-or-else-emit-opcode-requires
     (λ c κs. (c .before .before .before .before .before .before .emit-opcode .ensures .fine, (c .before .before .before .before .before .before .emit-opcode .ensures .room, c .before .before .before .before .before .before .emit-opcode .ensures .slots)))  -- emit-or-else-emit-jmp-requires
