@@ -11,7 +11,7 @@ use lib.ListN.{length}
 use lib.IntN.{pos, _+ℤ_, _-ℤ_}
 use lib.Signed.{ltZ, quotZ}
 use borrow.Author.Tests.{ne-eqb, eq-eqb, eqb-false}
-use Rattle.definition.specs.Opcode.{Role, dup, pop, loadVar, storeVar, loadConst, loadTrue, loadFalse, arithmetic, logic, neg, boolNot, compare, jmp, jmpIfNot, cmpBr, ret, Add, size, traits, row, number as roleNumber}
+use Rattle.definition.specs.Opcode.{Role, dup, pop, loadVar, storeVar, loadConst, loadTrue, loadFalse, arithmetic, logic, neg, boolNot, compare, jmp, jmpIfNot, cmpBr, ret, Add, size, traits, traitsOf, number as roleNumber}
 use Rattle.definition.specs.Iec.{signedOf, iec, decides, taken}
 use Rattle.definition.specs.Rules.{hasRole}
 use Rattle.definition.specs.Runs.{Break, offCode, target}
@@ -222,28 +222,28 @@ as-standing x p st a b = ap (λ q. standing q (x .stack) (x .variables)) a ∙ a
 
 module _ (m : Image) (p : ℕ) (st : List ℕ) (vs : ℕ → ℕ) where
   loads-variable : (w : ℕ) → Stands m p loadVar → operandAt (m .bytecode) (p + 1) ≡ w → step m (standing p st vs) ≡ goes (standing (p + 3) (vs w ∷ st) vs)
-  unfolding execute at size traits row
+  unfolding execute at size traits traitsOf
   loads-variable w h e = step-at m (standing p st vs) loadVar h ∙ ap (λ k. goes (standing (p + 3) (vs k ∷ st) vs)) e
 
   loads-constant : (k : ℕ) → Stands m p loadConst → constantAt m (p + 1) ≡ k → step m (standing p st vs) ≡ goes (standing (p + 3) (k ∷ st) vs)
-  unfolding execute at size traits row constantAt
+  unfolding execute at size traits traitsOf constantAt
   loads-constant k h e = step-at m (standing p st vs) loadConst h ∙ ap (λ a. goes (standing (p + 3) (a ∷ st) vs)) e
 
   stores-variable : (w a : ℕ) → Stands m p storeVar → operandAt (m .bytecode) (p + 1) ≡ w → step m (standing p (a ∷ st) vs) ≡ goes (standing (p + 3) st (stored vs w a))
-  unfolding execute at size traits row popOne
+  unfolding execute at size traits traitsOf popOne
   stores-variable w a h e = step-at m (standing p (a ∷ st) vs) storeVar h ∙ ap (λ k. goes (standing (p + 3) st (stored vs k a))) e
 
   adds : (a b : ℕ) → Stands m p (arithmetic Add) → step m (standing p (b ∷ a ∷ st) vs) ≡ goes (standing (p + 1) (wrapped (m .width) (signedOf (m .width) a +ℤ signedOf (m .width) b) ∷ st) vs)
-  unfolding execute at size traits row popTwo calculated calculate onNumbers
+  unfolding execute at size traits traitsOf popTwo calculated calculate onNumbers
   adds a b h = step-at m (standing p (b ∷ a ∷ st) vs) (arithmetic Add) h
 
   jumps-to : (t : ℕ) → Stands m p jmp → target (m .bytecode) (p + 3) ≡ some t → step m (standing p st vs) ≡ goes (standing t st vs)
-  unfolding execute at size traits row leadsTo
+  unfolding execute at size traits traitsOf leadsTo
   jumps-to t h e = step-at m (standing p st vs) jmp h ∙ ap (λ o. leadsTo o st vs) e
 
   -- the end test, by what its comparison says
   tests-end : (b : Bool) (v to : ℕ) → Tests m p v to → ltZ (signedOf (m .width) to) (signedOf (m .width) (vs v)) ≡ b → step m (standing p st vs) ≡ branchIf b (m .bytecode) (p + 8) st vs
-  unfolding execute size traits row compares taken decides iec
+  unfolding execute size traits traitsOf compares taken decides iec
   tests-end b v to h e =
       step-at m (standing p st vs) cmpBr (h .test)
       ∙ ap (λ t. branchIf t (m .bytecode) (p + 8) st vs)

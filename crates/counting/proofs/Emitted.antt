@@ -11,7 +11,7 @@ use lib.Seq.{getD-set-other}
 use borrow.Author.Tests.{ltb-true, eq-eqb}
 use Rattle.definition.specs.Limits.{maxCode}
 use Rattle.definition.specs.Res.{ok, _>>=_, _>>_}
-use Rattle.definition.specs.Opcode.{Sheet, opcode, comparisonByte, dup, loadVar, storeVar, loadConst, jmp, jmpIfNot, cmpBr, size, traits, row}
+use Rattle.definition.specs.Opcode.{Sheet, opcode, comparisonByte, dup, loadVar, storeVar, loadConst, jmp, jmpIfNot, cmpBr, size, traits, traitsOf}
 use Rattle.definition.specs.Emit.{le16, Emitter, Last, other, loaded, stored, PendingPatch, add, folded, foldStore, loadAfter, withConstant, pooledIf, pooled, labelled, settled, indexOf, act, acts, Call, createLabel, bindLabel, loadVariable, storeVariable, loadConstant, addConstant, emitOpcode, emitJmp, emitJmpIfNot, emitCmpBr, resetStackDepth, setPosition, refused}
 use Rattle.definition.specs.Walk.{next, after}
 use Rattle.definition.specs.Count.{oneIf}
@@ -164,7 +164,7 @@ still {s = s} {rows = rows} c l e e′ u r f h n q p = subst (λ x. Acts s (rows
 })
 
 load-plain : (s : Sheet) (rows : List Row) (v : ℕ) (l : Last) (e e′ : Emitter) → FormedBy s rows e → foldsInto l v ≡ false → loadAfter l s v e ≡ ok e′ → Adds s (rows ++ (rowOf loadVar (le16 v) none ∷ [])) (loaded v) e e′
-unfolding loadAfter foldsInto size traits row le16
+unfolding loadAfter foldsInto size traits traitsOf le16
 load-plain s rows v other e e′ f n p = add-adds s rows loadVar (le16 v) (loaded v) e e′ f refl p
 load-plain s rows v (loaded w) e e′ f n p =
     add-adds s rows loadVar (le16 v) (loaded v) e e′ f refl (sym (ap (λ b. elim b [ true ↦ add s dup [] other e | false ↦ add s loadVar (le16 v) (loaded v) e ]) n) ∙ p)
@@ -172,7 +172,7 @@ load-plain s rows v (stored w) e e′ f n p =
     add-adds s rows loadVar (le16 v) (loaded v) e e′ f refl (sym (ap (λ b. elim b [ true ↦ foldStore s e | false ↦ add s loadVar (le16 v) (loaded v) e ]) n) ∙ p)
 
 pub acted : (s : Sheet) (rows : List Row) (c : Call) (e e′ : Emitter) → FormedBy s rows e → OneByte c → folds c (e .last) ≡ false → act s c e ≡ ok e′ → Acts s (rows ++ rowsOf s c (e′ .constants)) c (lastOf c (e .last)) e e′
-unfolding act rowsOf lastOf relabelled Names folds OneByte size traits row labelled settled le16
+unfolding act rowsOf lastOf relabelled Names folds OneByte size traits traitsOf labelled settled le16
 acted s rows (createLabel h) e e′ f o n p = still (createLabel h) (e .last) e e′ _ refl f refl tt refl (ok-demand _ _ _ _ e′ p .1)
 acted s rows (bindLabel k) e e′ f o n p = still (bindLabel k) other e e′ _ refl f refl tt refl p
 acted s rows (loadVariable v) e e′ f o n p = plainly tt refl (load-plain s rows v (e .last) e e′ f n p)
@@ -307,7 +307,7 @@ goes-plain s R c e e′ w o n p =
 -- a DUP put before the store that is last
 pub folded-formed : (s : Sheet) (v : ℕ) (front : List Row) (code : List ℕ) (ps : List PendingPatch) → Formed s (front ++ (rowOf storeVar (le16 v) none ∷ [])) code ps → length code < maxCode
     → Formed s (front ++ (rowOf dup [] none ∷ rowOf storeVar (le16 v) none ∷ [])) (take (length code - 3) code ++ (opcode s dup ∷ drop (length code - 3) code)) ps
-unfolding codeOf patchesOf patchHere bytesOf operandOf unpatched rowOf Sized size traits row le16
+unfolding codeOf patchesOf patchHere bytesOf operandOf unpatched rowOf Sized size traits traitsOf le16
 folded-formed s v front code ps f m =
     let w : List Row = rowOf storeVar (le16 v) none ∷ [] in
     let d : List Row = rowOf dup [] none ∷ w in
@@ -330,7 +330,7 @@ same-state cs e e′ l n t = record {
 }
 
 goes-folded : (s : Sheet) (R : List Row) (v : ℕ) (l : Last) (e e′ : Emitter) → (w : Within s R e) → Tail l (w .more) → foldsInto l v ≡ true → loadAfter l s v e ≡ ok e′ → Goes s R (loadVariable v ∷ []) e e′
-unfolding foldsInto loadAfter Tail NotLoaded after next size traits row foldStore folded
+unfolding foldsInto loadAfter Tail NotLoaded after next size traits traitsOf foldStore folded
 goes-folded s R v other e e′ w t n p = absurd (let z : _≡_ {A = ℕ} 0 1 = cc in omega arith)
 goes-folded s R v (loaded w′) e e′ w t n p =
     let a = add-adds s (R ++ w .more) dup [] other e e′ (w .formed) refl (sym (ap (λ b. elim b [ true ↦ add s dup [] other e | false ↦ add s loadVar (le16 v) (loaded v) e ]) n) ∙ p) in

@@ -13,7 +13,7 @@ use borrow.Author.Tests.{ltb-true, eq-eqb}
 use Rattle.definition.specs.Limits.{maxCode}
 use Rattle.definition.specs.Field.{has}
 use Rattle.definition.specs.Res.{ok, _>>=_}
-use Rattle.definition.specs.Opcode.{Role, Sheet, comparisonByte, comparisonOf, Gt, loadVar, storeVar, loadConst, dup, arithmetic, Add, jmp, cmpBr, size, traits, row}
+use Rattle.definition.specs.Opcode.{Role, Sheet, comparisonByte, comparisonOf, Gt, loadVar, storeVar, loadConst, dup, arithmetic, Add, jmp, cmpBr, size, traits, traitsOf}
 use Rattle.definition.specs.Tree.{Program}
 use Rattle.definition.specs.Emit.{le16, Call, createLabel, bindLabel, loadVariable, storeVariable, loadConstant, emitOpcode, emitJmp, emitCmpBr, Last, other, loaded, stored, Emitter, emitterAt, indexOf, loadAfter, foldStore, folded, add, act, acts}
 use Rattle.definition.specs.Walk.{after}
@@ -204,7 +204,7 @@ module _ (s : Sheet) (f : For) (n : ℕ) (G : List Row) (l : Last) (u₇ v₁ v�
     long₆ : suc n < length (v₆ .labels)
 
   counted-up : CountedUp
-  unfolding loadRow constRow addRow storeRow jumpRow rowsOf lastOf relabelled Names folds OneByte size traits row bytesOf operandOf unpatched rowOf le16
+  unfolding loadRow constRow addRow storeRow jumpRow rowsOf lastOf relabelled Names folds OneByte size traits traitsOf bytesOf operandOf unpatched rowOf le16
   counted-up =
       let a₁ = next-at (loadVariable (f .control)) v₁ here tt unfolded q₁ in
       let a₂ = next-at (loadConstant (f .step)) v₂ (a₁ .at) tt refl q₂ in
@@ -585,7 +585,7 @@ module _ (s : Sheet) (known : Reads s) (greater : comparisonOf s (comparisonByte
 
   -- where the load is folded into a store that ends the body, nothing starts behind the body
   hidden : (w : ℕ) → x .u₇ .last ≡ stored w → eqb w (f .control) ≡ true → Opening image places (f .control) (f .from) (f .to) × (isStart image (places .increment) ≡ false)
-  unfolding Tail imageOf rowOf bytesOf operandOf unpatched le16 size traits row
+  unfolding Tail imageOf rowOf bytesOf operandOf unpatched le16 size traits traitsOf
   hidden w q t =
       let st : Row = rowOf storeVar (le16 w) none in
       let du : Row = rowOf dup [] none in

@@ -119,33 +119,33 @@ shift same h = h
 pub data Flow : Type 0 where
   onward away either stop : Flow
 
--- a role's row of the sheet's table: bytes, values that must be on the stack, height change, flow
+-- what the sheet's table says of a role: bytes, values that must be on the stack, height change, flow
 pub record Traits : Type 0 where
   pub size : ℕ
   pub needs : ℕ
   pub effect : Effect
   pub flow : Flow
 
-unfoldable pub row : ℕ → ℕ → Effect → Flow → Traits
-row z n e f = record { size = z; needs = n; effect = e; flow = f }
+unfoldable pub traitsOf : ℕ → ℕ → Effect → Flow → Traits
+traitsOf z n e f = record { size = z; needs = n; effect = e; flow = f }
 
 unfoldable pub traits : Role → Traits
-traits dup = row 1 1 up onward
-traits pop = row 1 1 down onward
-traits loadVar = row 3 0 up onward
-traits storeVar = row 3 1 down onward
-traits loadConst = row 3 0 up onward
-traits loadTrue = row 1 0 up onward
-traits loadFalse = row 1 0 up onward
-traits (arithmetic o) = row 1 2 down onward
-traits (logic o) = row 1 2 down onward
-traits neg = row 1 1 same onward
-traits boolNot = row 1 1 same onward
-traits (compare c) = row 1 2 down onward
-traits jmp = row 3 0 same away
-traits jmpIfNot = row 3 1 down either
-traits cmpBr = row 8 0 same either
-traits ret = row 1 0 same stop
+traits dup = traitsOf 1 1 up onward
+traits pop = traitsOf 1 1 down onward
+traits loadVar = traitsOf 3 0 up onward
+traits storeVar = traitsOf 3 1 down onward
+traits loadConst = traitsOf 3 0 up onward
+traits loadTrue = traitsOf 1 0 up onward
+traits loadFalse = traitsOf 1 0 up onward
+traits (arithmetic o) = traitsOf 1 2 down onward
+traits (logic o) = traitsOf 1 2 down onward
+traits neg = traitsOf 1 1 same onward
+traits boolNot = traitsOf 1 1 same onward
+traits (compare c) = traitsOf 1 2 down onward
+traits jmp = traitsOf 3 0 same away
+traits jmpIfNot = traitsOf 3 1 down either
+traits cmpBr = traitsOf 8 0 same either
+traits ret = traitsOf 1 0 same stop
 
 unfoldable pub size : Role → ℕ
 size r = traits r .size
@@ -203,5 +203,5 @@ comparisonOf s b = beside b (s .comparisons) (Eq ∷ Ne ∷ Lt ∷ Le ∷ Gt ∷
 
 -- `unfolding open-Opcode` names all of this module's definitions at once
 unfoldable pub open-Opcode : Unit {0}
-unfolding binaryRole unaryRole roles compareIndex number shift row traits size needs effect flow negate commute opcode comparisonByte beside roleOf comparisonOf
+unfolding binaryRole unaryRole roles compareIndex number shift traitsOf traits size needs effect flow negate commute opcode comparisonByte beside roleOf comparisonOf
 open-Opcode = tt

@@ -11,13 +11,13 @@ use lib.ListN.{length, take, drop, getD, length-drop, drop-of-length-le}
 use lib.Dec.{leb}
 use lib.Seq.{drop-cons, drop-drop, length-take-le, getD-take, getD-drop}
 use Rattle.definition.specs.Field.{onto}
-use Rattle.definition.specs.Opcode.{Role, Sheet, roleOf, size, traits, row, dup, pop, loadVar, storeVar, loadConst, loadTrue, loadFalse, arithmetic, logic, neg, boolNot, compare, jmp, jmpIfNot, cmpBr, ret}
+use Rattle.definition.specs.Opcode.{Role, Sheet, roleOf, size, traits, traitsOf, dup, pop, loadVar, storeVar, loadConst, loadTrue, loadFalse, arithmetic, logic, neg, boolNot, compare, jmp, jmpIfNot, cmpBr, ret}
 use Rattle.definition.specs.Rewrite.{Bytes, opcodeOf, ends, sizeOr1, cut, decode}
 use Rattle.rewrite.specs.View.{firstOf}
 
 -- every instruction has its opcode
 pub size-positive : (r : Role) → 1 ≤ size r
-unfolding size traits row
+unfolding size traits traitsOf
 size-positive dup = omega arith
 size-positive pop = omega arith
 size-positive loadVar = omega arith

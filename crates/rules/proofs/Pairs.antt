@@ -11,7 +11,7 @@ use lib.ListN.{length, getD}
 use Rattle.definition.specs.Limits.{maxRules, maxVariables, badRule}
 use Rattle.definition.specs.Res.{Res, ok, refuse, _>>=_, _>>_, demand, given}
 use Rattle.definition.specs.Field.{lf, comma, split, Numbers, wrong, far, are, numbers}
-use Rattle.definition.specs.Opcode.{Role, dup, pop, loadVar, storeVar, loadConst, loadTrue, loadFalse, arithmetic, logic, neg, boolNot, compare, jmp, jmpIfNot, cmpBr, ret, number, Effect, up, down, same, shift, onward, row, traits, size, needs, effect, flow}
+use Rattle.definition.specs.Opcode.{Role, dup, pop, loadVar, storeVar, loadConst, loadTrue, loadFalse, arithmetic, logic, neg, boolNot, compare, jmp, jmpIfNot, cmpBr, ret, number, Effect, up, down, same, shift, onward, traitsOf, traits, size, needs, effect, flow}
 use Rattle.definition.specs.Rules.{Action, keep, remove, rewriteOperand, Rule, Instruction, nameable, ruleFields, ruleOf, isVariable, allowed, removed, cancel, testable, goodRule, goodOnly, ruleFrom, readRule, isEmpty, rulesFrom, readRules, roleNumbered, hasRole, fits, matches}
 use Rattle.rules.specs.View.{Accepted, Each, Bounded, tableOf, IsRules}
 use Rattle.rules.proofs.Lines.{bounded}
@@ -115,7 +115,7 @@ pub record Pair (a b : Action) (r q : Role) : Type 0 where
 
 -- a role that a rule may name is no branch and no RET
 nameable-onward : (r : Role) → number r < nameable → flow r ≡ onward
-unfolding number flow traits row
+unfolding number flow traits traitsOf
 nameable-onward dup h = refl
 nameable-onward pop h = refl
 nameable-onward loadVar h = refl
@@ -193,7 +193,7 @@ pub data Keeps : Action → Action → Role → Role → Type 0 where
 
 -- what takes a value away needs one
 down-needs : (r : Role) → effect r ≡ down → 1 ≤ needs r
-unfolding effect needs traits row
+unfolding effect needs traits traitsOf
 down-needs dup e = omega arith
 down-needs pop e = omega arith
 down-needs loadVar e = absurd (let z : _≡_ {A = ℕ} 0 1 = cc in omega arith)
@@ -256,7 +256,7 @@ keeps (rewriteOperand n) (rewriteOperand m) r q p = neither (no-remove n) (no-re
 
 -- an instruction whose operand may be rewritten has three bytes
 pub variable-size : (r : Role) → isVariable r ≡ true → size r ≡ 3
-unfolding isVariable size traits row
+unfolding isVariable size traits traitsOf
 variable-size dup e = never e
 variable-size pop e = never e
 variable-size loadVar e = refl

@@ -7,7 +7,7 @@ use mathlib.Core.Option.{Option, some, none}
 use lib.Dec.{eqb}
 use borrow.Author.Tests.{eqb-true, eqb-false, ne-eqb, eq-eqb}
 use native.Mathlib.Omega.{arith}
-use Rattle.definition.specs.Opcode.{CompareOp, AndThen, OrElse, dup, pop, loadTrue, loadFalse, ret, Eq, Le, Ge, Add, binaryRole, unaryRole, negate, size, needs, effect, flow, traits, row, shift}
+use Rattle.definition.specs.Opcode.{CompareOp, AndThen, OrElse, dup, pop, loadTrue, loadFalse, ret, Eq, Le, Ge, Add, binaryRole, unaryRole, negate, size, needs, effect, flow, traits, traitsOf, shift}
 use Rattle.definition.specs.Opcode as role
 use Rattle.definition.specs.Tree.{Source, Expr, const, bool, read, binary, unary, compare, shortCircuit, bad, CaseLabel, value, range, badLabel, Stmt, assign, if, case, for, loop, exit, continue, return, badStmt, Block, done, _then_, Arms, noArms, arm, badArm}
 use Rattle.definition.specs.Walk.{Calls, when}
@@ -21,7 +21,7 @@ use Rattle.runs.proofs.Heights.{Binds, sooner, further, binds, inside, 
 -- ---- expressions
 
 expr-sound : {Λ : ℕ → ℕ} {E : ℕ → Type 0} (e : Expr) (h : ℕ) → Sound Λ E (emitExpr e h) h h (suc h) (suc h)
-unfolding emitExpr binaryRole unaryRole size needs effect flow traits row shift
+unfolding emitExpr binaryRole unaryRole size needs effect flow traits traitsOf shift
 expr-sound (const k) h = pushes k
 expr-sound (bool true) h = emits loadTrue refl refl zero-le
 expr-sound (bool false) h = emits loadFalse refl refl zero-le
@@ -145,7 +145,7 @@ module _ {Λ : ℕ → ℕ} where
       jumps end pe (left refl) ⨾ binding next p ⨾ wider (λ l x. right x) s ⨾ binding end pe
 
   against-sound : {E : ℕ → Type 0} (c : CompareOp) (k fail : ℕ) → Λ fail ≡ 1 → E fail → Sound Λ E (testAgainst c k fail) 1 1 1 1
-  unfolding testAgainst size needs effect flow traits row shift
+  unfolding testAgainst size needs effect flow traits traitsOf shift
   against-sound c k fail p e = emits dup refl refl (omega arith) ⨾ pushes k ⨾ emits (role.compare c) refl refl (omega arith) ⨾ unless fail p e
 
   test-sound : {E : ℕ → Type 0} (l : CaseLabel) (fail : ℕ) → Λ fail ≡ 1 → E fail → Sound Λ E (testLabel l fail) 1 1 1 1
@@ -161,7 +161,7 @@ module _ {Λ : ℕ → ℕ} where
       test-sound l x px (left refl) ⨾ jumps body pb (right eb) ⨾ binding x px ⨾ tests-sound m ms body fail pb (right eb) pf (right ef)
 
   armBody-sound : {E : ℕ → Type 0} (nextArm end : ℕ) (body : Calls) → Λ nextArm ≡ 1 → Λ end ≡ 0 → E end → Sound Λ E body 0 0 0 0 → Sound Λ E (armBody nextArm end body) 1 1 1 1
-  unfolding armBody size needs effect flow traits row shift
+  unfolding armBody size needs effect flow traits traitsOf shift
   armBody-sound nextArm end body pn pe e s = emits pop refl refl (omega arith) ⨾ s ⨾ jumps end pe e ⨾ binding nextArm pn ⨾ resets 1
 
   empty-arm : {E : ℕ → Type 0} (end : ℕ) (body : Calls) → Sound Λ E (emitArm [] end body) 1 1 1 1
@@ -178,7 +178,7 @@ module _ {Λ : ℕ → ℕ} where
       tests-sound l (m ∷ ms) start x ps (left refl) px (right (left refl)) ⨾ binding start ps ⨾ armBody-sound x end body px pe (right (right e)) (wider (λ y z. right (right z)) s)
 
   endTest-sound : {E : ℕ → Type 0} (x : Option ℕ) (within : CompareOp) (v : ℕ) (to : Expr) (end : ℕ) → Λ end ≡ 0 → E end → Sound Λ E (endTestBy x within v to end) 0 0 0 0
-  unfolding endTestBy size needs effect flow traits row shift
+  unfolding endTestBy size needs effect flow traits traitsOf shift
   endTest-sound (some k) within v to end pe e = fused-sound _ false end pe e
   endTest-sound none within v to end pe e = loads v ⨾ expr-sound to 1 ⨾ emits (role.compare within) refl refl (omega arith) ⨾ unless end pe e
 
@@ -186,7 +186,7 @@ module _ {Λ : ℕ → ℕ} where
 
   module _ (i : ℕ) (b : ℕ → Bool) (body : Loops → Calls) (loops : Loops) (bs : Bodies Λ b body) where
     for-sound : {E : ℕ → Type 0} (v step : ℕ) (from to : Expr) → Around Λ E i b loops → Sound Λ E (emitFor i v step from to (b i) body loops) 0 0 0 0
-    unfolding emitFor size needs effect flow traits row shift
+    unfolding emitFor size needs effect flow traits traitsOf shift
     for-sound v step from to o = expr-sound from 0 ⨾ stores v ⨾ opens (λ head. inside _ λ end. sooner _ (binds head)) λ head ph.
         opens (λ end. further _ (further _ (further _ (further _ (further _ (further _ (further _ (further _ (binds end))))))))) λ end pe.
         binding head ph ⨾ endTest-sound (constantOf to) (bound (countsDown step)) v to end pe (left refl)
@@ -236,7 +236,7 @@ module _ {Λ : ℕ → ℕ} where
   -- ---- statements and blocks
 
   mutual
-    unfolding emitStmt continuesStmt branchUnless size needs effect flow traits row shift
+    unfolding emitStmt continuesStmt branchUnless size needs effect flow traits traitsOf shift
 
     stmt-sound : {E : ℕ → Type 0} (s : Stmt) (loops : Loops) → Open Λ E (λ i. continuesStmt i s) loops → Sound Λ E (emitStmt s loops) 0 0 0 0
     stmt-sound (assign s v e) loops o = expr-sound e 0 ⨾ stores v

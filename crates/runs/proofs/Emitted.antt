@@ -12,7 +12,7 @@ use native.Mathlib.Omega.{arith}
 use native.Mathlib.Nat.{le-max-left, le-max-right, not-suc-le-zero}
 use Rattle.definition.specs.Limits.{maxCode}
 use Rattle.definition.specs.Res.{ok}
-use Rattle.definition.specs.Opcode.{Role, Sheet, opcode, dup, loadVar, storeVar, loadConst, jmp, jmpIfNot, cmpBr, down, effect, shift, needs, size, flow, row, traits}
+use Rattle.definition.specs.Opcode.{Role, Sheet, opcode, dup, loadVar, storeVar, loadConst, jmp, jmpIfNot, cmpBr, down, effect, shift, needs, size, flow, traitsOf, traits}
 use Rattle.definition.specs.Tree.{Pos, Block}
 use Rattle.definition.specs.Emit.{le16, Emitter, emitterAt, Last, other, loaded, stored, LineEntry, PendingPatch, added, add, folded, foldStore, loadAfter, withConstant, pooledIf, pooled, patched, labelled, settled, branch, act, acts, Call, createLabel, bindLabel, loadVariable, storeVariable, loadConstant, addConstant, emitOpcode, emitJmp, emitJmpIfNot, emitCmpBr, resetStackDepth, setPosition, refused}
 use Rattle.definition.specs.Walk.{next}
@@ -145,7 +145,7 @@ module _ {Λ : ℕ → ℕ} {s : Sheet} where
   -- DUP before the store that is last
   folded-inv : {code : List ℕ} {ls : List (Option ℕ)} {ps : List PendingPatch} {last : Last} {D h : ℕ} (i : Inv Λ s h code ls ps last D) → LastStore Λ ls (i .rows) → length code < maxCode
       → Inv Λ s (suc h) (take (length code - 3) code ++ (opcode s dup ∷ drop (length code - 3) code)) ls ps other (max D (suc (suc h)))
-  unfolding next-height needs effect flow size traits row shift falls branches Stops rowFor patchHere
+  unfolding next-height needs effect flow size traits traitsOf shift falls branches Stops rowFor patchHere
   folded-inv {code = code} {ls = ls} {D = D} {h = h} i t m =
       let w : Row = t .row in
       let g : ℕ = w .height in
@@ -237,7 +237,7 @@ module _ {Λ : ℕ → ℕ} {J : ℕ → Type 0} {s : Sheet} where
       })
 
   load-kept : {h d : ℕ} {ls : List (Option ℕ)} (v : ℕ) (e e′ : Emitter) (k : Kept Λ J s h d ls e) (x : Last) → Track Λ (e .labels) (k .inv .rows) h x → d ≡ h → loadAfter x s v e ≡ ok e′ → Kept Λ J s (suc h) (suc h) ls e′
-  unfolding loadAfter needs effect size flow traits row shift foldStore folded branches Stops le16
+  unfolding loadAfter needs effect size flow traits traitsOf shift foldStore folded branches Stops le16
   load-kept v e e′ k other free d p = add-kept loadVar (le16 v) (loaded v) e e′ k d refl zero-le refl (λ x. absurd x) (value (suc-le-suc zero-le)) p
   load-kept {h = h} {ls = ls} v e e′ k (loaded w) (value t) d p =
       (elim (eqb w v) as (λ b. elim b [ true ↦ add s dup [] other e | false ↦ add s loadVar (le16 v) (loaded v) e ] ≡ ok e′ → Kept Λ J s (suc h) (suc h) ls e′) [
@@ -281,7 +281,7 @@ relabelled (refused f) at ls = ls
 module _ {Λ : ℕ → ℕ} {J : ℕ → Type 0} {s : Sheet} where
   -- every call keeps the invariant
   act-kept : {h d h′ d′ : ℕ} {ls : List (Option ℕ)} (c : Call) → ((l : ℕ) → aim c ≡ some l → J l) → (e e′ : Emitter) → Kept Λ J s h d ls e → Step Λ c h d h′ d′ → act s c e ≡ ok e′ → Kept Λ J s h′ d′ (relabelled c (length (e .bytecode)) ls) e′
-  unfolding act aim Step relabelled needs effect size flow traits row shift falls branches Stops labelled settled pooled rowFor le16
+  unfolding act aim Step relabelled needs effect size flow traits traitsOf shift falls branches Stops labelled settled pooled rowFor le16
   act-kept {h = h} {d = d} (createLabel g) j e e′ k t p = becomes (ok-demand _ _ _ _ e′ p .1) (moves-to (t .0) (t .1) (record {
     inv = record { rows = k .inv .rows; bytes = k .inv .bytes; linked = k .inv .linked; labels = grown (k .inv .labels); track = grown-track (k .inv .track); patches = k .inv .patches; short = k .inv .short; first = k .inv .first };
     depth = k .depth;

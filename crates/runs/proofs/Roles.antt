@@ -3,13 +3,13 @@ use Prim.Native.Nat.{_≤_}
 use mathlib.Core.Path.{_≡_}
 use mathlib.Core.Bool.{true}
 use native.Mathlib.Omega.{arith}
-use Rattle.definition.specs.Opcode.{Role, dup, pop, loadVar, storeVar, loadConst, loadTrue, loadFalse, arithmetic, logic, neg, boolNot, compare, jmp, jmpIfNot, cmpBr, ret, row, traits, size, flow}
+use Rattle.definition.specs.Opcode.{Role, dup, pop, loadVar, storeVar, loadConst, loadTrue, loadFalse, arithmetic, logic, neg, boolNot, compare, jmp, jmpIfNot, cmpBr, ret, traitsOf, traits, size, flow}
 use Rattle.definition.specs.Claims.{branches}
 use Rattle.field.proofs.Results.{never}
 
 -- a branch has two operand bytes at least
 pub branch-size : (r : Role) → branches (flow r) ≡ true → 3 ≤ size r
-unfolding size flow traits row branches
+unfolding size flow traits traitsOf branches
 branch-size dup e = never (cc)
 branch-size pop e = never (cc)
 branch-size loadVar e = never (cc)
