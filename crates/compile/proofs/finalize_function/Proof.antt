@@ -1,6 +1,7 @@
 -- Made by `answers` from crates/compile/answers/finalize_function.txt: edit that file, not this one.
 use Prim.Native.Nat.{ℕ}
 use mathlib.Core.Path.{refl, sym}
+use Rattle.definition.specs.Limits.{maxBranches}
 use lib.ListN.{length-replicate}
 use native.Mathlib.Omega.{arith}
 use lib.Seq.{length-take-le}
@@ -18,10 +19,10 @@ finalize-function-spec =
     (tie.spec
     (λ c. omega (arith, c .before .before .before .before .before .pre .1 .0 .size, c .before .before .before .before .before .pre .1 .1 .0))  -- slice-relend-prefix-optimize-emitted
     (λ c. sym (length-take-le _ _ (omega (arith, c .before .before .before .before .before .before .pre .1 .0 .size, c .before .before .before .before .before .before .pre .1 .1 .0))))  -- slice-aggregate-optimize-emitted
-    (λ c. omega (arith, length-replicate {A = ℕ} 5461 0, c .before .before .before .before .before .before .pre .1 .0 .patches, c .before .before .before .before .before .before .pre .1 .0 .size))  -- array-borrow-prefix-targets
-    (λ c. sym (length-take-le _ _ (omega (arith, length-replicate {A = ℕ} 5461 0, c .before .before .before .before .before .before .before .pre .1 .0 .patches, c .before .before .before .before .before .before .before .pre .1 .0 .size))))  -- slice-aggregate-optimize-emitted-2
+    (λ c. omega (arith, length-replicate {A = ℕ} maxBranches 0, c .before .before .before .before .before .before .pre .1 .0 .patches, c .before .before .before .before .before .before .pre .1 .0 .size))  -- array-borrow-prefix-targets
+    (λ c. sym (length-take-le _ _ (omega (arith, length-replicate {A = ℕ} maxBranches 0, c .before .before .before .before .before .before .before .pre .1 .0 .patches, c .before .before .before .before .before .before .before .pre .1 .0 .size))))  -- slice-aggregate-optimize-emitted-2
     (λ c. search needs)  -- slice-aggregate-optimize-emitted-3
-    (λ c κs. (c .before .before .before .before .before .before .before .before .pre .0, (c .before .before .before .before .before .before .before .before .pre .1 .0, (c .before .before .before .before .before .before .before .before .pre .1 .1 .1 .0, (emitted-few (c .before .before .before .before .before .before .before .before .args .e) (c .before .before .before .before .before .before .before .before .args .code .now) (c .before .before .before .before .before .before .before .before .pre .1 .0) (c .before .before .before .before .before .before .before .before .pre .1 .1 .0), (length-take-le _ _ (omega (arith, length-replicate {A = ℕ} 5461 0, c .before .before .before .before .before .before .before .before .pre .1 .0 .patches, c .before .before .before .before .before .before .before .before .pre .1 .0 .size)), (clear-table _ refl, c .before .before .before .before .before .before .before .before .pre .1 .1 .1 .1 .1 .near)))))))  -- optimize-emitted-requires
+    (λ c κs. (c .before .before .before .before .before .before .before .before .pre .0, (c .before .before .before .before .before .before .before .before .pre .1 .0, (c .before .before .before .before .before .before .before .before .pre .1 .1 .1 .0, (emitted-few (c .before .before .before .before .before .before .before .before .args .e) (c .before .before .before .before .before .before .before .before .args .code .now) (c .before .before .before .before .before .before .before .before .pre .1 .0) (c .before .before .before .before .before .before .before .before .pre .1 .1 .0), (length-take-le _ _ (omega (arith, length-replicate {A = ℕ} maxBranches 0, c .before .before .before .before .before .before .before .before .pre .1 .0 .patches, c .before .before .before .before .before .before .before .before .pre .1 .0 .size)), (clear-table _ refl, c .before .before .before .before .before .before .before .before .pre .1 .1 .1 .1 .1 .near)))))))  -- optimize-emitted-requires
     (λ c. search needs)  -- slice-aggregate-patch-jumps
     (λ c. end-within (sheetIn (c .before .before .before .before .before .before .before .before .before .before .before .before .before .before .args .sheet .now)) (rulesIn (c .before .before .before .before .before .before .before .before .before .before .before .before .before .before .args .rules .now) (c .before .before .before .before .before .before .before .before .before .before .before .before .before .before .args .count)) (c .before .before .before .before .before .before .before .before .before .before .before .before .before .before .args .e) (c .before .before .before .before .before .before .before .before .before .before .before .before .before .before .args .code .now) (c .before .before .before .before .before .before .before .before .before .before .before .before .before .before .args .book .now) (c .before .before .before .before .before .before .before .before .before .before .before .before .before .before .args .lines .now) (omega (arith, c .before .before .before .before .before .before .before .before .before .before .before .before .before .before .pre .1 .0 .size, c .before .before .before .before .before .before .before .before .before .before .before .before .before .before .pre .1 .1 .0)) (c .before .before .before .before .before .optimize-emitted .ensures))  -- slice-relend-prefix-patch-jumps
     (λ c. sym (length-take-le _ _ (end-within (sheetIn (c .before .before .before .before .before .before .before .before .before .before .before .before .before .before .before .args .sheet .now)) (rulesIn (c .before .before .before .before .before .before .before .before .before .before .before .before .before .before .before .args .rules .now) (c .before .before .before .before .before .before .before .before .before .before .before .before .before .before .before .args .count)) (c .before .before .before .before .before .before .before .before .before .before .before .before .before .before .before .args .e) (c .before .before .before .before .before .before .before .before .before .before .before .before .before .before .before .args .code .now) (c .before .before .before .before .before .before .before .before .before .before .before .before .before .before .before .args .book .now) (c .before .before .before .before .before .before .before .before .before .before .before .before .before .before .before .args .lines .now) (omega (arith, c .before .before .before .before .before .before .before .before .before .before .before .before .before .before .before .pre .1 .0 .size, c .before .before .before .before .before .before .before .before .before .before .before .before .before .before .before .pre .1 .1 .0)) (c .before .before .before .before .before .before .optimize-emitted .ensures))))  -- slice-aggregate-patch-jumps-2
