@@ -248,14 +248,6 @@ unfolding naturalWithin
 natural-is ok none n e = absurd (let z : _≡_ {A = ℕ} 0 1 = cc in omega arith)
 natural-is ok (some k) n e = let p = within-is (ok k) k n e in ap ok (sym (p .1)) ∙ p .0
 
-negative-is : (w : ℕ) (o : Option ℕ) (n : ℕ) → negative w o ≡ is n → n < 2 ^ w
-unfolding negative
-negative-is w none n e = absurd (let z : _≡_ {A = ℕ} 0 1 = cc in omega arith)
-negative-is w (some zero) n e = absurd (let z : _≡_ {A = ℕ} 0 1 = cc in omega arith)
-negative-is w (some (suc k)) n e =
-    let p = within-is (ltb k (2 ^ (w - 1))) (2 ^ w - suc k) n e in
-    omega (arith, p .1, pow-pos w)
-
 -- `field .. ≡ is n` from what a function of this crate answers
 pub read-is : {r : Read} {f : def.Read} {n : ℕ} → readOf r ≡ f → r ≡ Is n → f ≡ is n
 read-is a b = sym a ∙ ap readOf b
@@ -264,17 +256,3 @@ module _ (bs : List ℕ) {n : ℕ} where
   pub up-to-bound : (m : ℕ) → field (upTo m) bs ≡ is n → n ≤ m
   unfolding field
   up-to-bound m e = leb-true n m (natural-is (λ k. leb k m) (natural bs) n e)
-
-  pub below-bound : (m : ℕ) → field (below m) bs ≡ is n → n < m
-  unfolding field
-  below-bound m e = ltb-true n m (natural-is (λ k. ltb k m) (natural bs) n e)
-
-pub value-bound : (w : ℕ) (bs : List ℕ) {n : ℕ} → field (value w) bs ≡ is n → n < 2 ^ w
-unfolding field signed
-value-bound w [] = λ e. absurd (let z : _≡_ {A = ℕ} 0 1 = cc in omega arith)
-value-bound w (b ∷ bs) {n} =
-    elim (eqb b def.minus)
-    as (λ t. elim t [ true ↦ negative w (natural bs) | false ↦ naturalWithin (λ k. ltb k (2 ^ (w - 1))) (natural (b ∷ bs)) ] ≡ is n → n < 2 ^ w) [
-      | true ↦ negative-is w (natural bs) n
-      | false ↦ λ e. lt-of-lt-of-le (ltb-true n (2 ^ (w - 1)) (natural-is (λ k. ltb k (2 ^ (w - 1))) (natural (b ∷ bs)) n e)) (pow-le-pow-right {n = 2} (omega arith) {i = w - 1} (omega arith))
-    ]
