@@ -1,9 +1,9 @@
-// The fused compare and branch, and operations of one byte (compile_expr.rs). What is fused is `classify`'s answer (program_shape), already mirrored where the
+// The fused compare and branch, loads and stores of variables, and operations of one byte (compile_expr.rs). What is fused is `classify`'s answer (program_shape), already mirrored where the
 // constant stood on the left.
 ghost use mathlib.Core.Path.{_≡_};
 ghost use lib.ListN.{length};
 ghost use Rattle.definition.specs.Limits.{maxCode};
-ghost use Rattle.definition.specs.Emit.{act, emitOpcode};
+ghost use Rattle.definition.specs.Emit.{act, emitOpcode, loadVariable, storeVariable};
 ghost use Rattle.definition.specs.CompileExpr.{emitClassifiedCmpBr};
 ghost use Rattle.opcode.specs.View.{compareView, roleView};
 ghost use Rattle.opcode.specs.Table.{sheetIn};
@@ -44,6 +44,39 @@ pub fn emit_classified_cmp_br(
     let v = classified.variable;
     let k = classified.constant;
     e.emit_cmp_br(sheet, code, book, pool, branching_on(op, on), v, k, target)
+}
+
+// A variable loaded: the source's `emit_load_var`. Every variable has one type here.
+pub fn emit_load_var(
+    e: Emitter,
+    sheet: &[u8],
+    code: &mut [u8],
+    book: &mut [u16],
+    variable: u16,
+) -> Emitter
+    requires { ⌜ Fine e ⌝ }
+    requires { ⌜ length (now code) ≡ maxCode ⌝ }
+    requires { ⌜ length (now book) ≡ bookSize ⌝ }
+    ensures { λ r. ⌜ Coded (act (sheetIn (now (sheet .entry))) (loadVariable variable)) e (now (code .entry)) (now (book .entry)) r (now (code .exit)) (now (book .exit)) ⌝ }
+{
+    let loaded = e.load_variable(sheet, code, book, variable);
+    loaded.emitter
+}
+
+// A variable stored: `emit_store_var`.
+pub fn emit_store_var(
+    e: Emitter,
+    sheet: &[u8],
+    code: &mut [u8],
+    book: &mut [u16],
+    variable: u16,
+) -> Emitter
+    requires { ⌜ Fine e ⌝ }
+    requires { ⌜ length (now code) ≡ maxCode ⌝ }
+    requires { ⌜ length (now book) ≡ bookSize ⌝ }
+    ensures { λ r. ⌜ Coded (act (sheetIn (now (sheet .entry))) (storeVariable variable)) e (now (code .entry)) (now (book .entry)) r (now (code .exit)) (now (book .exit)) ⌝ }
+{
+    e.store_variable(sheet, code, book, variable)
 }
 
 // An operation of one byte, its type in its role: the source's `emit_add`, `emit_eq` and the like.
