@@ -1,0 +1,4 @@
+pub mod Context
+pub mod Loops
+pub mod Parts
+pub mod Ran
