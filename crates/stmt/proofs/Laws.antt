@@ -1,4 +1,4 @@
--- Conditions, sequences of statements, IF and FOR.
+-- Sequences of statements, IF and FOR.
 use mathlib.Core.Path.{_≡_, refl, ap, sym, _∙_}
 use mathlib.Core.Bool.{Bool, true, false, _||_}
 use mathlib.Core.Option.{Option, some, none}
@@ -25,26 +25,16 @@ use Rattle.emit.specs.Steps.{run, Ready, Booked, Created, Coded, Filled}
 use Rattle.emit.proofs.Calls.{seq-filled, said-filled, fresh-filled, none-filled}
 use Rattle.expr.specs.Went.{Went, WentExpr}
 use Rattle.expr.proofs.Laws.{went, place, filled}
-use Rattle.stmt.specs.declared.Context.{Context}
-use Rattle.stmt.specs.Context.{exprIn, stmtIn, blockIn, innerOf}
-use Rattle.stmt.specs.Loops.{loopsSize, opensIn, loopsOf, marked}
-use Rattle.stmt.specs.Parts.{Placed, emitSequence, emitIf, loopCalls, forEnd}
+use Rattle.stmt_parts.specs.declared.Context.{Context}
+use Rattle.stmt_parts.specs.Context.{exprIn, stmtIn, blockIn, innerOf}
+use Rattle.stmt_parts.specs.Loops.{loopsSize, opensIn, loopsOf, marked}
+use Rattle.stmt.specs.Blocks.{Placed, emitSequence, emitIf, loopCalls}
+use Rattle.stmt_parts.specs.Parts.{forEnd}
 use Rattle.stmt.specs.Ran.{Ran, RanSequence, RanBlock, RanStmt, RanIf, RanElse, RanFor, RanLoop, RanBody}
-use Rattle.stmt.proofs.Marks.{marked-off, marked-then, loops-marked}
-use Rattle.stmt.proofs.Walks.{booked-on, created-on, coded-on, at-loops, re}
-use Rattle.stmt.proofs.Jumps.{source-here, quiet, Reads}
-
--- ---- conditions
-
-module _ (s : Sheet) (text : List ℕ) (x : Expr) (l : ℕ) {d : def.Cursor} {end : Cursor} where
-  pub fused-done : (f : ClassifiedCmp) {w u : World} → some f ≡ classify x → Skipped text d end → Filled (run s (emitClassifiedCmpBr f false l)) w u → Went s (branchUnless x l) text d w u end
-  unfolding branchUnless branchUnlessBy
-  fused-done f is-f on k = rw (← is-f) (went on k)
-
-  pub jumps-done : {w u : World} {r : Emitter} {code′ book′ : List ℕ} → none ≡ classify x → Went s (emitExpr x 0) text d w u end → Coded (act s (emitJmpIfNot l)) (u .e) (u .code) (u .book) r code′ book′
-      → Went s (branchUnless x l) text d w (world r code′ book′ (u .pool)) end
-  unfolding branchUnless branchUnlessBy
-  jumps-done is-f a k = rw (← is-f) (went (place a) (seq-filled s _ _ (filled a) (said-filled s _ (coded-on (a .ready) k))))
+use Rattle.stmt_parts.proofs.Marks.{marked-off, marked-then, loops-marked}
+use Rattle.stmt_parts.proofs.Walks.{booked-on, created-on, coded-on}
+use Rattle.stmt.proofs.Walks.{at-loops, re}
+use Rattle.stmt.proofs.Simple.{source-here, quiet, Reads}
 
 -- ---- sequences
 
@@ -174,32 +164,6 @@ module _ (s : Sheet) (ctx : Context) (text : List ℕ) (n m : ℕ) {d : def.Curs
       }
 
 -- ---- FOR
-
-module _ (s : Sheet) (text : List ℕ) (v : ℕ) (x : Expr) (l : ℕ) {d : def.Cursor} {end : Cursor} where
-  pub end-fused : {o : Option ℕ} (k : ℕ) {op to : CompareOp} {w u : World} → some k ≡ o → op ≡ to → Skipped text d end
-      → Filled (run s (emitClassifiedCmpBr (record { op = op; variable = v; constant = k }) false l)) w u → Went s (endTestBy o to v x l) text d w u end
-  unfolding endTestBy
-  end-fused k is-k is-op on f = rw (← is-k, ← is-op) (went on f)
-
-  pub end-tested : {o : Option ℕ} {op to : CompareOp} {w u : World} → none ≡ o → op ≡ to → Went s (endTestBy none op v x l) text d w u end → Went s (endTestBy o to v x l) text d w u end
-  end-tested is-k is-op d = rw (← is-k, ← is-op) d
-
-  pub test-done : (op : CompareOp) {e e₁ e₃ r : Emitter} {code book pool k₁ b₁ k₃ b₃ k₄ b₄ : List ℕ} {u : World} → Ready (world e code book pool) → Coded (act s (loadVariable v)) e code book e₁ k₁ b₁ → Went s (emitExpr x 1) text d (world e₁ k₁ b₁ pool) u end
-      → Coded (act s (emitOpcode (role.compare op))) (u .e) (u .code) (u .book) e₃ k₃ b₃ → Coded (act s (emitJmpIfNot l)) e₃ k₃ b₃ r k₄ b₄ → Went s (endTestBy none op v x l) text d (world e code book pool) (world r k₄ b₄ (u .pool)) end
-  unfolding endTestBy
-  test-done op ready a b k j =
-      let x₃ = coded-on (b .ready) k in
-      went (place b) (seq-filled s _ _ (said-filled s _ (coded-on ready a)) (seq-filled s _ _ (filled b) (seq-filled s _ _ (said-filled s _ x₃) (said-filled s _ (coded-on (x₃ .ready) j)))))
-
-pub counts-on : (s : Sheet) (v step head end : ℕ) {e e₁ e₃ e₄ e₅ r : Emitter} {code book pool k₁ b₁ k₃ b₃ k₄ b₄ k₅ b₅ b₆ : List ℕ} {w₂ : World} → Ready (world e code book pool) → Coded (act s (loadVariable v)) e code book e₁ k₁ b₁ → Filled (act s (loadConstant step)) (world e₁ k₁ b₁ pool) w₂
-    → Coded (act s (emitOpcode (role.arithmetic Add))) (w₂ .e) (w₂ .code) (w₂ .book) e₃ k₃ b₃ → Coded (act s (storeVariable v)) e₃ k₃ b₃ e₄ k₄ b₄ → Coded (act s (emitJmp head)) e₄ k₄ b₄ e₅ k₅ b₅ → Booked (bindLabel end) e₅ b₅ r b₆
-    → Filled (run s (forEnd v step head end)) (world e code book pool) (world r k₅ b₆ (w₂ .pool))
-unfolding forEnd
-counts-on s v step head end ready a b k d j o =
-    let x₃ = coded-on (b .ready) k in
-    let x₄ = coded-on (x₃ .ready) d in
-    let x₅ = coded-on (x₄ .ready) j in
-    seq-filled s _ _ (said-filled s _ (coded-on ready a)) (seq-filled s _ _ (said-filled s _ b) (seq-filled s _ _ (said-filled s _ x₃) (seq-filled s _ _ (said-filled s _ x₄) (seq-filled s _ _ (said-filled s _ x₅) (said-filled s _ (booked-on (x₅ .ready) s o))))))
 
 module _ (s : Sheet) (ctx : Context) (text : List ℕ) (i v step n : ℕ) {d : def.Cursor} {c : Cursor} (on : Skipped text d c) {to : Cursor} (seen : Skipped text (exprIn ctx text (cursorOf c) .1) to) where
   pub for-done : {e e₂ e₃ e₄ e₅ : Emitter} {code book pool k₂ b₂ b₃ b₄ b₅ ls ls₇ : List ℕ} {head end : ℕ} {w₁ w₆ w₇ w₈ : World} {c₁ c₆ c₇ : Cursor}

@@ -1,8 +1,6 @@
 pub mod Cases
-pub mod Jumps
 pub mod Laws
 pub mod Looping
-pub mod Marks
-pub mod Opens
 pub mod Shapes
+pub mod Simple
 pub mod Walks

@@ -31,14 +31,16 @@ use Rattle.emit.specs.Steps.{run, Ready, Fine, Booked, Created, Coded, Pooled, 
 use Rattle.emit.proofs.Calls.{seq-filled, said-filled, fresh-filled}
 use Rattle.expr.specs.Went.{Went}
 use Rattle.expr.proofs.Laws.{filled}
-use Rattle.stmt.specs.declared.Context.{Context}
-use Rattle.stmt.specs.Context.{exprIn, stmtIn, blockIn, innerOf, inLoop}
-use Rattle.stmt.specs.Loops.{Open, openAt, opensIn, loopsOf, marked, Opened}
-use Rattle.stmt.specs.Parts.{loopCalls, Enters, PoolsFirst, BindsNext, whileFrom, whileEnd, poolFirst}
+use Rattle.stmt_parts.specs.declared.Context.{Context}
+use Rattle.stmt_parts.specs.Context.{exprIn, stmtIn, blockIn, innerOf, inLoop}
+use Rattle.stmt_parts.specs.Loops.{Open, openAt, opensIn, loopsOf, marked, Opened}
+use Rattle.stmt.specs.Blocks.{loopCalls}
+use Rattle.stmt_parts.specs.Parts.{Enters, PoolsFirst, BindsNext, whileFrom, whileEnd, poolFirst}
 use Rattle.stmt.specs.Ran.{Ran, RanBlock, RanBody, RanPlain, RanWhile, RanRepeat, RanLoop}
-use Rattle.stmt.proofs.Marks.{or-false, marked-same, marked-then, loops-marked}
+use Rattle.stmt_parts.proofs.Marks.{or-false, marked-same, marked-then, loops-marked}
 use Rattle.stmt.proofs.Shapes.{while-shape, while-exits, unless-quiet, repeat-quiet}
-use Rattle.stmt.proofs.Walks.{booked-on, created-on, pooled-on, coded-on, at-loops, re}
+use Rattle.stmt_parts.proofs.Walks.{booked-on, created-on, pooled-on, coded-on}
+use Rattle.stmt.proofs.Walks.{at-loops, re}
 
 -- ---- a loop's body
 
@@ -111,52 +113,6 @@ module _ (s : Sheet) (ctx : Context) (text : List ℕ) (i n m : ℕ) (c : Cursor
             (seq-filled s _ _ (said-filled s _ x₆)
             (said-filled s _ (booked-on (x₆ .ready) s o)))))));
       }
-
--- ---- before and behind the body of a WHILE or REPEAT
-
-module _ (s : Sheet) (x : Expr) (end : ℕ) where
-  pub head-fused : (f : ClassifiedCmp) {e e₁ e₂ r : Emitter} {code book pool p₁ b₂ b₄ : List ℕ} {w₃ : World} {start : ℕ} → some f ≡ classify x → Ready (world e code book pool)
-      → Pooled (addConstant (f .constant)) e pool e₁ p₁ → Created e₁ book e₂ b₂ start → Filled (run s (emitClassifiedCmpBr f false end)) (world e₂ code b₂ p₁) w₃ → Booked (bindLabel start) (w₃ .e) (w₃ .book) r b₄
-      → Enters s (whileFrom (classify x) x end) (world e code book pool) (world r (w₃ .code) b₄ (w₃ .pool)) start
-  unfolding whileFrom
-  head-fused f {start = start} is-f ready a m k b =
-      let x₁ = pooled-on ready s a in
-      let x₂ = created-on (x₁ .ready) s 0 m in
-      let x₄ = booked-on (k .ready) s b in
-      rw (← is-f) (record {
-        ready = x₄ .ready;
-        did = λ q u d. seq-filled s _ _ (said-filled s _ x₁) (fresh-filled s 0 start _ (m .label) x₂ (seq-filled s _ _ k (seq-filled s _ _ (said-filled s _ x₄) d)));
-      })
-
-  pub head-tested : {text : List ℕ} {d : def.Cursor} {c : Cursor} {e e₁ e₂ r : Emitter} {code book pool b₁ b₂ k₄ b₄ : List ℕ} {u : World} {head : ℕ} → none ≡ classify x → Ready (world e code book pool)
-      → Created e book e₁ b₁ head → Booked (bindLabel head) e₁ b₁ e₂ b₂ → Went s (emitExpr x 0) text d (world e₂ code b₂ pool) u c → Coded (act s (emitJmpIfNot end)) (u .e) (u .code) (u .book) r k₄ b₄
-      → Enters s (whileFrom (classify x) x end) (world e code book pool) (world r k₄ b₄ (u .pool)) head
-  unfolding whileFrom
-  head-tested {head = head} is-f ready m b a j =
-      let x₁ = created-on ready s 0 m in
-      let x₂ = booked-on (x₁ .ready) s b in
-      let x₄ = coded-on (a .ready) j in
-      rw (← is-f) (record {
-        ready = x₄ .ready;
-        did = λ q v d. fresh-filled s 0 head _ (m .label) x₁ (seq-filled s _ _ (said-filled s _ x₂) (seq-filled s _ _ (filled a) (seq-filled s _ _ (said-filled s _ x₄) d)));
-      })
-
-  -- `end` is here the label that the loop goes back to
-  pub back-fused : (f : ClassifiedCmp) {w u : World} → some f ≡ classify x → Filled (run s (emitClassifiedCmpBr f true end)) w u → Filled (run s (whileEnd (classify x) end)) w u
-  unfolding whileEnd
-  back-fused f is-f k = rw (← is-f) k
-
-  pub back-jumps : {e r : Emitter} {code book pool code′ book′ : List ℕ} → none ≡ classify x → Ready (world e code book pool) → Coded (act s (emitJmp end)) e code book r code′ book′ → Filled (run s (whileEnd (classify x) end)) (world e code book pool) (world r code′ book′ pool)
-  unfolding whileEnd
-  back-jumps is-f ready f = rw (← is-f) (said-filled s _ (coded-on ready f))
-
-pub pools : (x : Expr) (f : ClassifiedCmp) {e r : Emitter} {pool pool′ : List ℕ} → some f ≡ classify x → Pooled (addConstant (f .constant)) e pool r pool′ → PoolsFirst (classify x) e pool r pool′
-unfolding poolFirst
-pools x f is-f a = rw (← is-f) (record { fine = a .fine; long = a .long; did = λ s code book q u y d. seq-filled s _ _ (said-filled s _ (pooled-on y s a)) d })
-
-pub pools-none : (x : Expr) {e : Emitter} {pool : List ℕ} → none ≡ classify x → Fine e → length pool ≡ maxConstants → PoolsFirst (classify x) e pool e pool
-unfolding poolFirst
-pools-none x is-f fine long = rw (← is-f) (record { fine = fine; long = long; did = λ s code book q u y d. d })
 
 -- ---- the definition, in these parts
 

@@ -1,4 +1,2 @@
-pub mod Context
-pub mod Loops
-pub mod Parts
+pub mod Blocks
 pub mod Ran

@@ -9,19 +9,17 @@ use lib.Dec.{eqb}
 use Rattle.definition.specs.Opcode.{Sheet}
 use Rattle.definition.specs.Tree.{Expr, Block, Arms, CaseLabel}
 use Rattle.definition.specs.Program as def
-use Rattle.definition.specs.Program.{labelsAt, nextLine}
+use Rattle.definition.specs.Program.{labelsAt}
 use Rattle.definition.specs.Walk.{Calls}
-use Rattle.definition.specs.Stmt.{Loops, labels, nextOf, continues, continuesStmt, continuesArms, isDone, elsePart, loopBody, emitFor, emitWhile, emitRepeat, emitPlain, emitStmt, emitBlock, emitArm, emitArms}
+use Rattle.definition.specs.Stmt.{Loops, continues, continuesStmt, continuesArms, isDone, elsePart, loopBody, emitFor, emitWhile, emitRepeat, emitPlain, emitStmt, emitBlock, emitArm, emitArms}
 use Rattle.program.specs.declared.Cursor.{Cursor}
 use Rattle.program.specs.Walk.{Skipped}
-use Rattle.emit.specs.declared.Emitter.{Emitter}
 use Rattle.emit.specs.View.{World}
-use Rattle.emit.specs.Steps.{run, Coded, Filled}
-use Rattle.expr.specs.declared.Walked.{Walked}
-use Rattle.stmt.specs.declared.Context.{Context}
-use Rattle.stmt.specs.Context.{exprIn, stmtIn, blockIn, innerOf}
-use Rattle.stmt.specs.Loops.{loopsSize, opensIn, loopsOf, marked}
-use Rattle.stmt.specs.Parts.{emitSequence, emitIf, loopCalls, jumpRow, emitCase, armsHere, armContinues}
+use Rattle.emit.specs.Steps.{run, Filled}
+use Rattle.stmt_parts.specs.declared.Context.{Context}
+use Rattle.stmt_parts.specs.Context.{exprIn, stmtIn, blockIn, innerOf}
+use Rattle.stmt_parts.specs.Loops.{loopsSize, opensIn, loopsOf, marked}
+use Rattle.stmt.specs.Blocks.{emitSequence, emitIf, loopCalls, emitCase, armsHere, armContinues}
 
 -- m was emitted inside so many open loops, and the walk stands at d; the CONTINUEs that `used` says have led to their loops
 pub record Ran (s : Sheet) (m : Loops → Calls) (used : ℕ → Bool) (inside : ℕ) (text : List ℕ) (d : def.Cursor) (w v : World) (ls ls′ : List ℕ) (c : Cursor) : Type 0 where
@@ -29,17 +27,6 @@ pub record Ran (s : Sheet) (m : Loops → Calls) (used : ℕ → Bool) (inside :
   pub filled : Filled (run s (m (loopsOf (opensIn ls inside)))) w v
   pub slots : length ls′ ≡ loopsSize
   pub marks : opensIn ls′ inside ≡ marked used (opensIn ls inside)
-
--- m was emitted of a statement without blocks, its pool and the open loops left alone
-pub record Stepped (s : Sheet) (m : Calls) (text : List ℕ) (d : def.Cursor) (e : Emitter) (code book : List ℕ) (r : Walked) (code′ book′ : List ℕ) : Type 0 where
-  pub place : Skipped text d (r .cursor)
-  pub coded : Coded (run s m) e code book (r .emitter) code′ book′
-
--- a CONTINUE of loop i was emitted, its line at c
-pub record Continued (s : Sheet) (inside i : ℕ) (text : List ℕ) (c : def.Cursor) (e : Emitter) (code book ls : List ℕ) (r : Walked) (code′ book′ ls′ : List ℕ) : Type 0 where
-  pub stepped : Stepped s (jumpRow (c .row) (nextOf (labels i (loopsOf (opensIn ls inside))))) text (nextLine text c) e code book r code′ book′
-  pub slots : length ls′ ≡ loopsSize
-  pub marks : opensIn ls′ inside ≡ marked (λ j. eqb j i) (opensIn ls inside)
 
 -- what a part is said to have done: from and to an emitter with what is lent to it, the open loops before and after, and the place behind it
 abbrev pub Done : Type 1

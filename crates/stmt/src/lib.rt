@@ -16,11 +16,11 @@ ghost use Rattle.emit.specs.Book.{bookSize};
 ghost use Rattle.emit.specs.View.{world};
 ghost use Rattle.emit.specs.Steps.{Ready, Fine};
 ghost use Rattle.expr.specs.Went.{Went};
-ghost use Rattle.stmt.specs.Context.{exprIn, innerOf, inLoop};
-ghost use Rattle.stmt.specs.Loops.{loopsSize};
-ghost use Rattle.stmt.specs.Parts.{Placed, emitAssign};
-ghost use Rattle.stmt.specs.Ran.{Stepped, RanSequence, RanStmt, RanIf, RanElse, RanCase, RanArms, RanArm, RanFor, RanLoop, RanPlain, RanWhile, RanRepeat, RanBody};
-use crate::labels::ArmParts;
+ghost use Rattle.stmt_parts.specs.Context.{exprIn};
+ghost use Rattle.stmt_parts.specs.Loops.{loopsSize};
+ghost use Rattle.stmt_parts.specs.Parts.{Stepped};
+ghost use Rattle.stmt.specs.Blocks.{Placed, emitAssign};
+ghost use Rattle.stmt.specs.Ran.{RanSequence, RanStmt, RanIf, RanElse, RanCase, RanArms, RanArm, RanFor, RanLoop, RanPlain, RanWhile, RanRepeat, RanBody};
 use definition::MAX_NESTING;
 use emit::Constant;
 use emit::Emitter;
@@ -30,53 +30,11 @@ use opcode::Role;
 use program::Cursor;
 use program_line::StmtLine;
 use program_shape::Shape;
-
-pub mod conditions; // conditions.rt: conditions, fused or not
-pub mod labels; // labels.rt: the labels of CASE arms
-pub mod loops; // loops.rt: the open loops
-
-// Where a statement stands: the program's variables, the nesting levels left, and how many loops are open around it.
-pub struct Context {
-    pub variables: u16,
-    pub left: usize,
-    pub inside: usize,
-}
-
-// One less, but not below 0.
-fn below(n: usize) -> usize
-    ensures { λ r. ⌜ r ≡ n - 1 ⌝ }
-{
-    if n == 0 {
-        return 0;
-    }
-    n - 1
-}
-
-impl Context {
-    // Where a statement's parts stand.
-    fn inner(self) -> Context
-        ensures { λ r. ⌜ r ≡ innerOf self ⌝ }
-    {
-        let left = below(self.left);
-        Context {
-            variables: self.variables,
-            left: left,
-            inside: self.inside,
-        }
-    }
-
-    // Where the body of a loop stands.
-    fn in_loop(self) -> Context
-        requires { ⌜ self .inside < maxNesting ⌝ }
-        ensures { λ r. ⌜ r ≡ inLoop self ⌝ }
-    {
-        Context {
-            variables: self.variables,
-            left: self.left,
-            inside: self.inside + 1,
-        }
-    }
-}
+use stmt_parts::Context;
+use stmt_parts::conditions;
+use stmt_parts::labels;
+use stmt_parts::labels::ArmParts;
+use stmt_parts::loops;
 
 // The position of a statement's line, unless the line is at fault or positions are not recorded.
 fn record_position(e: Emitter, line: StmtLine, recording: bool) -> Emitter
@@ -541,7 +499,7 @@ fn loop_(
     let shape = program_shape::loop_shape(text, ctx.variables, ctx.left, on, i, n, m);
     match shape {
         Shape::While { condition, rest } => {
-            let k = below(n as usize);
+            let k = stmt_parts::below(n as usize);
             while_(
                 text,
                 sheet,

@@ -1,0 +1,6 @@
+pub mod Arms
+pub mod Jumps
+pub mod Marks
+pub mod Opens
+pub mod Tests
+pub mod Walks

@@ -1,0 +1,3 @@
+pub mod Context
+pub mod Loops
+pub mod Parts
