@@ -7,8 +7,10 @@ use Rattle.program.proofs.Laws.{line-there}
 use Rattle.program.specs.Walk.{cursorOf}
 use Rattle.program_line.specs.View.{stmtLine}
 use Rattle.emit.specs.View.{world}
-use Rattle.stmt.proofs.Walks.{nested, inner-left, inner-inside, loop-left, loop-inside}
-use Rattle.stmt.proofs.Jumps.{bad-line, ran-bad, ran-assign, ran-return, ran-exit, ran-continue}
+use Rattle.stmt.proofs.Walks.{nested}
+use Rattle.stmt_parts.proofs.Walks.{inner-left, inner-inside, loop-left, loop-inside}
+use Rattle.stmt_parts.proofs.Jumps.{bad-line}
+use Rattle.stmt.proofs.Simple.{ran-bad, ran-assign, ran-return, ran-exit, ran-continue}
 use Rattle.stmt.proofs.Laws.{Doing, begins, goes-on, ends, ran-if, ran-loop, ran-for, else-none, else-some, if-done, for-done}
 use Rattle.stmt.proofs.Looping.{body-done, plain-done, while-done, repeat-done, while-places, repeat-places, is-while, is-repeat, is-plain}
 use Rattle.stmt.proofs.Cases.{arm-none, arm-some, parts-is, parts-not, Arming, arms-begin, arms-on, arms-bad, arms-end, case-done, ran-case}
@@ -67,26 +69,26 @@ use Rattle.program_shape.proofs.loop_shape.Reads as loop-shape-reads
 use Rattle.program_shape.proofs.operand_at.Reads as operand-at-reads
 use Rattle.program_shape.proofs.skip_block.Reads as skip-block-reads
 use Rattle.program_shape.proofs.skip_expr.Reads as skip-expr-reads
-use Rattle.stmt.proofs.Context.in_loop.Reads as in-loop-reads
-use Rattle.stmt.proofs.Context.inner.Reads as inner-reads
 use Rattle.stmt.proofs.assign.Reads as assign-reads
-use Rattle.stmt.proofs.below.Reads as below-reads
-use Rattle.stmt.proofs.conditions.branch_unless.Reads as branch-unless-reads
-use Rattle.stmt.proofs.conditions.end_test.Reads as end-test-reads
-use Rattle.stmt.proofs.conditions.for_end.Reads as for-end-reads
-use Rattle.stmt.proofs.conditions.pool_first.Reads as pool-first-reads
-use Rattle.stmt.proofs.conditions.while_end.Reads as while-end-reads
-use Rattle.stmt.proofs.conditions.while_head.Reads as while-head-reads
-use Rattle.stmt.proofs.labels.arm_parts.Reads as arm-parts-reads
-use Rattle.stmt.proofs.labels.close_arm.Reads as close-arm-reads
-use Rattle.stmt.proofs.labels.open_arm.Reads as open-arm-reads
-use Rattle.stmt.proofs.loops.bind_next.Reads as bind-next-reads
-use Rattle.stmt.proofs.loops.continue_.Reads as continue--reads
-use Rattle.stmt.proofs.loops.exit.Reads as exit-reads
-use Rattle.stmt.proofs.loops.next_used.Reads as next-used-reads
-use Rattle.stmt.proofs.loops.open_loop.Reads as open-loop-reads
 use Rattle.stmt.proofs.record_position.Reads as record-position-reads
 use Rattle.stmt.proofs.return_.Reads as return--reads
+use Rattle.stmt_parts.proofs.Context.in_loop.Reads as in-loop-reads
+use Rattle.stmt_parts.proofs.Context.inner.Reads as inner-reads
+use Rattle.stmt_parts.proofs.below.Reads as below-reads
+use Rattle.stmt_parts.proofs.conditions.branch_unless.Reads as branch-unless-reads
+use Rattle.stmt_parts.proofs.conditions.end_test.Reads as end-test-reads
+use Rattle.stmt_parts.proofs.conditions.for_end.Reads as for-end-reads
+use Rattle.stmt_parts.proofs.conditions.pool_first.Reads as pool-first-reads
+use Rattle.stmt_parts.proofs.conditions.while_end.Reads as while-end-reads
+use Rattle.stmt_parts.proofs.conditions.while_head.Reads as while-head-reads
+use Rattle.stmt_parts.proofs.labels.arm_parts.Reads as arm-parts-reads
+use Rattle.stmt_parts.proofs.labels.close_arm.Reads as close-arm-reads
+use Rattle.stmt_parts.proofs.labels.open_arm.Reads as open-arm-reads
+use Rattle.stmt_parts.proofs.loops.bind_next.Reads as bind-next-reads
+use Rattle.stmt_parts.proofs.loops.continue_.Reads as continue--reads
+use Rattle.stmt_parts.proofs.loops.exit.Reads as exit-reads
+use Rattle.stmt_parts.proofs.loops.next_used.Reads as next-used-reads
+use Rattle.stmt_parts.proofs.loops.open_loop.Reads as open-loop-reads
 use Rattle.stmt.proofs.+arm+arms+case+else_+for_+if_+loop_+loop_body+plain+repeat+sequence+stmt+while_.{statement}
 use Rattle.stmt.proofs.+arm+arms+case+else_+for_+if_+loop_+loop_body+plain+repeat+sequence+stmt+while_.Tie.{close}
 use borrow.Author.Needs.{needs}

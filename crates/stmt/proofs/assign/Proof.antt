@@ -1,7 +1,7 @@
 -- Made by `answers` from crates/stmt/answers/assign.txt: edit that file, not this one.
 use mathlib.Core.Path.{sym, _∙_}
 use native.Mathlib.Omega.{arith}
-use Rattle.stmt.proofs.Jumps.{assigned}
+use Rattle.stmt.proofs.Simple.{assigned}
 use Rattle.stmt.proofs.assign.Statement.{statement}
 use Rattle.stmt.proofs.assign.Tie as tie
 

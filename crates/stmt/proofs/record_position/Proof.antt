@@ -1,8 +1,8 @@
 -- Made by `answers` from crates/stmt/answers/record_position.txt: edit that file, not this one.
 use mathlib.Core.Path.{refl}
 use borrow.Author.Tests.{not-true, not-false}
-use Rattle.stmt.specs.Parts.{lineSource}
-use Rattle.stmt.proofs.Jumps.{placed, unplaced, unrecorded}
+use Rattle.stmt.specs.Blocks.{lineSource}
+use Rattle.stmt.proofs.Simple.{placed, unplaced, unrecorded}
 use borrow.Author.Needs.{needs}
 use Rattle.stmt.proofs.record_position.Statement.{statement}
 use Rattle.stmt.proofs.record_position.Tie as tie

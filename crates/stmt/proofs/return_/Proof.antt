@@ -1,5 +1,5 @@
 -- Made by `answers` from crates/stmt/answers/return_.txt: edit that file, not this one.
-use Rattle.stmt.proofs.Jumps.{returned}
+use Rattle.stmt.proofs.Simple.{returned}
 use borrow.Author.Needs.{needs}
 use Rattle.stmt.proofs.return_.Statement.{statement}
 use Rattle.stmt.proofs.return_.Tie as tie
