@@ -13,7 +13,6 @@ use Rattle.definition.specs.Field.{comma, split, firstLine}
 use Rattle.definition.specs.Rules.{rulesFrom, readRule}
 use Rattle.definition.specs.Tree.{Source, Fault, Pos, Expr, CaseLabel, value, range, badLabel, Stmt, Arms}
 use Rattle.definition.specs.Program.{Cursor, Form, Line, is, not, Header, StmtLine, A, I, S, F, L, X, N, R, ExprLine, K, B, D, O, U, C, H, ArmLine, M, Reader, lineOf, lineAt, refusal, nextLine, faultAt, form, headerForms, stmtForms, exprForms, armForms, labelForms, exprOf, exprBy, exprAt, labelBy, labelsAt, blockOf, armBy, armsAt, stmtOf, stmtBy, stmtAt, orElse, faultOfExpr, faultOfLabels, faultOfStmt, faultOfBlock, faultOfArms, headerOf, noFault, topStmts, readProgram}
-use Rattle.definition.specs.Claims.{empty, _also_}
 use Rattle.field.proofs.Refusals.{Number, LineTold, Makes, anything, at-told}
 
 -- ---- answers
@@ -100,8 +99,8 @@ label-more (range a b) ls p q = q
 label-more (badLabel f) ls p q = p
 
 label-forms : Makes (λ l. Told (faultOfLabels (l ∷ []))) labelForms
-unfolding labelForms form faultOfLabels Told
-label-forms = (λ ns. tt) also ((λ ns. tt) also empty)
+unfolding labelForms form faultOfLabels Told Makes
+label-forms = (λ ns. tt, (λ ns. tt, tt))
 
 label-by : (text : List ℕ) (c : Cursor) (l : Line CaseLabel) → LineTold (λ x. Told (faultOfLabels (x ∷ []))) l → Told (faultOfLabels (labelBy text c l .0 ∷ []))
 unfolding labelBy LineTold faultOfLabels faultAt Told
