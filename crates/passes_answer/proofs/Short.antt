@@ -1,7 +1,7 @@
 -- The text is never longer than textRoom.
 use mathlib.Core.Path.{_≡_, refl, ap, sym, _∙_}
 use mathlib.Core.List.{List}
-use Prim.Native.Nat.{ℕ, _*_, _-_, _≤_, _<_}
+use Prim.Native.Nat.{ℕ, _*_, _-_, _^_, _≤_, _<_}
 use native.Mathlib.Omega.{arith}
 use lib.ListN.{length, getD, length-append}
 use Rattle.definition.specs.Limits.{maxCode, maxProtected, maxLines, entrySize, badSheet, badRule}
@@ -47,9 +47,9 @@ small r a e z k =
       code = filled-room maxCode (r .code) (rw (← ap (λ (x : Answer). x .code) e) (z .code));
       protected = filled-room maxProtected (r .protected) (rw (← ap (λ (x : Answer). x .protected) e) (z .protected));
       lines = omega (arith, lines, length-numbers (r .lineMap));
-      bytes = small-start maxCode 256 (r .code) (omega arith) (rw (← ap (λ (x : Answer). x .code) e) (k .code));
-      offsets = small-start maxProtected 65536 (r .protected) (omega arith) (rw (← ap (λ (x : Answer). x .protected) e) (k .protected));
-      entries = small-start (maxLines * entrySize) 65536 (entryNumbers (r .lineMap)) (omega arith) (rw (← ap (λ (x : Answer). x .lines) e) (k .numbers));
+      bytes = small-start maxCode (2 ^ 8) (r .code) (omega arith) (rw (← ap (λ (x : Answer). x .code) e) (k .code));
+      offsets = small-start maxProtected (2 ^ 16) (r .protected) (omega arith) (rw (← ap (λ (x : Answer). x .protected) e) (k .protected));
+      entries = small-start (maxLines * entrySize) (2 ^ 16) (entryNumbers (r .lineMap)) (omega arith) (rw (← ap (λ (x : Answer). x .lines) e) (k .numbers));
     }
 
 -- ---- what is concluded

@@ -1,5 +1,5 @@
 -- How the machine's end is answered: what is handed to rewriting called alone, and the text made of its answer.
-use Prim.Native.Nat.{ℕ, _*_, _≤_, _<_, min}
+use Prim.Native.Nat.{ℕ, _*_, _^_, _≤_, _<_, min}
 use mathlib.Core.Path.{_≡_}
 use mathlib.Core.Bool.{Bool, true, false}
 use mathlib.Core.List.{List, [], _∷_, _++_}
@@ -68,9 +68,9 @@ pub record Told (sheet : List ℕ) (result : ℕ → Res (Sheet × Rewritten)) (
 
 -- what the types of the outputs say of their elements
 pub record Known (bytes moved lines : List ℕ) : Type 0 where
-  pub code : (i : ℕ) → getD bytes i 0 < 256
-  pub protected : (i : ℕ) → getD moved i 0 < 65536
-  pub numbers : (i : ℕ) → getD lines i 0 < 65536
+  pub code : (i : ℕ) → getD bytes i 0 < 2 ^ 8
+  pub protected : (i : ℕ) → getD moved i 0 < 2 ^ 16
+  pub numbers : (i : ℕ) → getD lines i 0 < 2 ^ 16
 
 -- ---- what this crate's functions hand over
 

@@ -7,7 +7,7 @@ use lib.Dec.{eqb, leb, ltb}
 use Rattle.definition.specs.Limits.{maxCode, maxProtected, maxLines, entrySize, maxRules, maxField, badSheet, badRule}
 use Rattle.definition.specs.Res.{Res, ok, refuse, _>>=_, _>>_, given}
 use Rattle.definition.specs.Field.{lf, comma, digit0, digit9}
-use Rattle.definition.specs.Opcode.{Sheet}
+use Rattle.definition.specs.Opcode.{Sheet, roleCount, comparisonCount}
 use Rattle.definition.specs.Sheet.{readSheet}
 use Rattle.definition.specs.Rules.{readRules}
 use Rattle.definition.specs.Alone.{Given, Rewritten, rewriteFiles}
@@ -32,14 +32,14 @@ pub record Head : Type 0 where
 
 -- no digit yet, and what is no number up to maxField
 abbrev pub blank : ℕ
-blank = 65536
+blank = maxField + 1
 
 abbrev pub bad : ℕ
-bad = 65537
+bad = maxField + 2
 
 -- of a line of the sheet or the rules so many fields are kept, and of each so many bytes: one more than in any that is good
 abbrev pub fieldRoom : ℕ
-fieldRoom = 34
+fieldRoom = roleCount + comparisonCount + 1
 
 abbrev pub fieldWidth : ℕ
 fieldWidth = 6

@@ -260,12 +260,12 @@ unfolding putIf
 put-false s t p e y = rw (sym e, y, putIf)
 
 -- the next field is within the room, as the code tests it
-pub room-next : (i : ℕ) → ltb i 33 ≡ ltb (suc i) fieldRoom
-room-next i = go (ltb i 33) refl
+pub room-next : (i : ℕ) → ltb i (fieldRoom - 1) ≡ ltb (suc i) fieldRoom
+room-next i = go (ltb i (fieldRoom - 1)) refl
   where
-    go : (t : Bool) → ltb i 33 ≡ t → t ≡ ltb (suc i) fieldRoom
-    go true e = sym (lt-ltb (suc i) fieldRoom (omega (arith, ltb-true i 33 e)))
-    go false e = sym (le-ltb (suc i) fieldRoom (omega (arith, ltb-false i 33 e)))
+    go : (t : Bool) → ltb i (fieldRoom - 1) ≡ t → t ≡ ltb (suc i) fieldRoom
+    go true e = sym (lt-ltb (suc i) fieldRoom (omega (arith, ltb-true i (fieldRoom - 1) e)))
+    go false e = sym (le-ltb (suc i) fieldRoom (omega (arith, ltb-false i (fieldRoom - 1) e)))
 
 -- ---- by phase
 

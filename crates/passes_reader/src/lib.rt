@@ -3,12 +3,14 @@ ghost use mathlib.Core.Path.{_≡_};
 ghost use Prim.Native.Nat.{_<_};
 ghost use Rattle.passes_machine.specs.Machine as def;
 ghost use Rattle.passes_reader.specs.View.{phaseView, headView, putView, endingView, storesView, stateView, Starts};
+use definition::COMPARISON_COUNT;
 use definition::ENTRY_SIZE;
 use definition::MAX_CODE;
 use definition::MAX_FIELD;
 use definition::MAX_LINES;
 use definition::MAX_PROTECTED;
 use definition::MAX_RULES;
+use definition::ROLE_COUNT;
 
 // What the line that is read holds; at a malformed line, or one that counts no rules, nothing more is read.
 pub enum Phase {
@@ -65,12 +67,12 @@ pub enum Ending {
 }
 
 // No digit yet, and what is no number up to MAX_FIELD.
-const BLANK: u32 = 65536;
+const BLANK: u32 = MAX_FIELD + 1;
 
-const BAD: u32 = 65537;
+const BAD: u32 = MAX_FIELD + 2;
 
 // Of a line of the sheet or the rules so many fields are kept, and of each so many bytes.
-const FIELD_ROOM: u8 = 34;
+const FIELD_ROOM: u8 = ROLE_COUNT as u8 + COMPARISON_COUNT as u8 + 1;
 
 const FIELD_WIDTH: u8 = 6;
 
@@ -86,7 +88,7 @@ const MAX_BYTE: u32 = 255;
 const LAST_LINE: u64 = 18446744073709551615;
 
 // The room that loses nothing of any input.
-pub const SHEET_ROOM: usize = 238;
+pub const SHEET_ROOM: usize = FIELD_ROOM as usize * (FIELD_WIDTH as usize + 1);
 
 pub const RULE_ROOM: usize = MAX_RULES * SHEET_ROOM;
 

@@ -77,7 +77,7 @@ length-list w (n ∷ ns) h =
     let r = length-list w ns (λ i k. h (suc i) (omega arith)) in
     omega (arith, more-fields (length ns) w)
 
-length-words : (ns : List ℕ) → ((i : ℕ) → getD ns i 0 < 65536) → length (fields ns) ≤ length ns * 6 + 1
+length-words : (ns : List ℕ) → ((i : ℕ) → getD ns i 0 < 2 ^ 16) → length (fields ns) ≤ length ns * 6 + 1
 length-words ns h = length-list 5 ns (λ i k. length-decimal (getD ns i 0) 4 (omega (arith, h i)))
 
 length-line : (n : ℕ) (ns : List ℕ) → length (numberLine n ns) ≡ length (decimal n) + length (fields ns)
@@ -96,25 +96,25 @@ length-refusal n p =
       | false ↦ omega (arith, length-end)
     ]
 
-length-offsets : (l : List ℕ) → ((i : ℕ) → getD l i 0 < 65536) → length (offsetLines l) ≤ length l * 8
+length-offsets : (l : List ℕ) → ((i : ℕ) → getD l i 0 < 2 ^ 16) → length (offsetLines l) ≤ length l * 8
 unfolding offsetLines
 length-offsets [] h = omega arith
 length-offsets (x ∷ l) h =
-    let f = length-words (x ∷ []) (small-front 65536 (x ∷ []) l (omega arith) h) in
+    let f = length-words (x ∷ []) (small-front (2 ^ 16) (x ∷ []) l (omega arith) h) in
     let r = length-offsets l (λ i. h (suc i)) in
     simp length-append (omega arith)
 
-length-entries : (l : List LineEntry) → ((i : ℕ) → getD (entryNumbers l) i 0 < 65536) → length (entryLines l) ≤ length l * (2 + entrySize * 6)
+length-entries : (l : List LineEntry) → ((i : ℕ) → getD (entryNumbers l) i 0 < 2 ^ 16) → length (entryLines l) ≤ length l * (2 + entrySize * 6)
 unfolding entryLines entryNumbers
 length-entries [] h = omega arith
 length-entries (x ∷ l) h =
-    let f = length-words (oneEntry x) (small-front 65536 (oneEntry x) (entryNumbers l) (omega arith) h) in
-    let r = length-entries l (small-back 65536 (oneEntry x) (entryNumbers l) h) in
+    let f = length-words (oneEntry x) (small-front (2 ^ 16) (oneEntry x) (entryNumbers l) (omega arith) h) in
+    let r = length-entries l (small-back (2 ^ 16) (oneEntry x) (entryNumbers l) h) in
     simp length-append (omega (arith, length-one x))
 
 -- ---- instructions
 
-module _ (s : Sheet) (l : List ℕ) (few : length l ≤ maxCode) (small : (i : ℕ) → getD l i 0 < 256) where
+module _ (s : Sheet) (l : List ℕ) (few : length l ≤ maxCode) (small : (i : ℕ) → getD l i 0 < 2 ^ 8) where
   by-first : (at z : ℕ) → First s l at z → ((to : ℕ) → at < to → to ≤ length l → length (instructionLines to (decode s (drop to l))) ≤ (length l - to) * 12)
       → length (instructionLines at (decode s (drop at l))) ≤ (length l - at) * 12
   unfolding instructionLines
@@ -143,17 +143,17 @@ pub record Small (r : Rewritten) : Type 0 where
   pub code : length (r .code) ≤ maxCode
   pub protected : length (r .protected) ≤ maxProtected
   pub lines : length (r .lineMap) ≤ maxLines
-  pub bytes : (i : ℕ) → getD (r .code) i 0 < 256
-  pub offsets : (i : ℕ) → getD (r .protected) i 0 < 65536
-  pub entries : (i : ℕ) → getD (entryNumbers (r .lineMap)) i 0 < 65536
+  pub bytes : (i : ℕ) → getD (r .code) i 0 < 2 ^ 8
+  pub offsets : (i : ℕ) → getD (r .protected) i 0 < 2 ^ 16
+  pub entries : (i : ℕ) → getD (entryNumbers (r .lineMap)) i 0 < 2 ^ 16
 
-length-counts : (ns : List ℕ) → ((i : ℕ) → getD ns i 0 < 65536) → length (numberLine 0 ns) ≤ length ns * 6 + 2
+length-counts : (ns : List ℕ) → ((i : ℕ) → getD ns i 0 < 2 ^ 16) → length (numberLine 0 ns) ≤ length ns * 6 + 2
 length-counts ns h =
     let d = length-decimal 0 0 (omega arith) in
     let f = length-words ns h in
     omega (arith, length-line 0 ns)
 
-counts-small : (a b c : ℕ) → a < 65536 → b < 65536 → c < 65536 → (i : ℕ) → getD (a ∷ b ∷ c ∷ []) i 0 < 65536
+counts-small : (a b c : ℕ) → a < 2 ^ 16 → b < 2 ^ 16 → c < 2 ^ 16 → (i : ℕ) → getD (a ∷ b ∷ c ∷ []) i 0 < 2 ^ 16
 counts-small a b c ha hb hc zero = ha
 counts-small a b c ha hb hc (suc zero) = hb
 counts-small a b c ha hb hc (suc (suc zero)) = hc
