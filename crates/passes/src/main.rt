@@ -1,13 +1,15 @@
 // Rewriting called alone, as the rig uses it: reads a sheet, rules, code, protected offsets and line entries from standard input, and prints
 // the rewritten code, the moved offsets and the mapped lines, or a refusal. Where the input cannot be read, or the output not written, it says so on
 // standard error; bin/passes makes an exit status of that, since a Rattle program has none of its own.
-ghost use Rattle.passes_reader.specs.View.{stateView, begun, Reading};
-use passes_reader::CODE_ROOM;
-use passes_reader::ENTRY_ROOM;
-use passes_reader::OFFSET_ROOM;
-use passes_reader::RULE_ROOM;
-use passes_reader::Reader;
-use passes_reader::SHEET_ROOM;
+ghost use Rattle.input_machine.specs.Machine.{codeLine};
+ghost use Rattle.input_reader.specs.View.{stateView, begun, Reading};
+use input_reader::CODE_ROOM;
+use input_reader::ENTRY_ROOM;
+use input_reader::OFFSET_ROOM;
+use input_reader::Phase;
+use input_reader::RULE_ROOM;
+use input_reader::Reader;
+use input_reader::SHEET_ROOM;
 use text::TEXT_ROOM;
 
 // What was read, and whether there may be more; or that a read failed.
@@ -26,12 +28,21 @@ fn read_some(
     offsets: &mut [u16],
     entries: &mut [u16],
 ) -> Turn
-    ensures { λ r. ⌜ Reading (stateView reader (now (sheet .entry)) (now (rules .entry)) (now (code .entry)) (now (offsets .entry)) (now (entries .entry))) (stateView (r .reader) (now (sheet .exit)) (now (rules .exit)) (now (code .exit)) (now (offsets .exit)) (now (entries .exit))) ⌝ }
+    ensures { λ r. ⌜ Reading codeLine (stateView reader (now (sheet .entry)) (now (rules .entry)) (now (code .entry)) (now (offsets .entry)) (now (entries .entry))) (stateView (r .reader) (now (sheet .exit)) (now (rules .exit)) (now (code .exit)) (now (offsets .exit)) (now (entries .exit))) ⌝ }
 {
     let mut bytes = io::large_buffer();
     let got = libc::read(0, &mut bytes);
     let n = io::count(got, &bytes);
-    let on = passes_reader::feed(reader, &bytes[..n], sheet, rules, code, offsets, entries);
+    let on = input_reader::feed(
+        Phase::CodeLine,
+        reader,
+        &bytes[..n],
+        sheet,
+        rules,
+        code,
+        offsets,
+        entries,
+    );
     Turn {
         reader: on,
         more: n > 0,
@@ -48,9 +59,9 @@ fn read_all(
     offsets: &mut [u16],
     entries: &mut [u16],
 ) -> Turn
-    ensures { λ r. ⌜ Reading (begun (now (sheet .entry)) (now (rules .entry)) (now (code .entry)) (now (offsets .entry)) (now (entries .entry))) (stateView (r .reader) (now (sheet .exit)) (now (rules .exit)) (now (code .exit)) (now (offsets .exit)) (now (entries .exit))) ⌝ }
+    ensures { λ r. ⌜ Reading codeLine (begun (now (sheet .entry)) (now (rules .entry)) (now (code .entry)) (now (offsets .entry)) (now (entries .entry))) (stateView (r .reader) (now (sheet .exit)) (now (rules .exit)) (now (code .exit)) (now (offsets .exit)) (now (entries .exit))) ⌝ }
 {
-    let start = passes_reader::start();
+    let start = input_reader::start();
     let mut turn = Turn {
         reader: start,
         more: true,

@@ -1,8 +1,8 @@
 // What the listing and the passes program print, put into a lent output as far as there is room. Each function answers how much is used then.
 ghost use mathlib.Core.Path.{_≡_};
 ghost use mathlib.Core.List.{[], _∷_};
-ghost use Prim.Native.Nat.{_+_, _<_};
-ghost use Rattle.definition.specs.Limits.{width};
+ghost use Prim.Native.Nat.{_+_, _*_, _<_, min};
+ghost use Rattle.definition.specs.Limits.{entrySize, width};
 ghost use Rattle.definition.specs.Field.{digit0};
 ghost use Rattle.definition.specs.Iec.{signedOf};
 ghost use Rattle.definition.specs.Sheet.{readSheet};
@@ -239,6 +239,17 @@ pub fn put_constants(out: &mut [u8], used: usize, list: &[u32]) -> usize
         i += 1;
     }
     behind
+}
+
+// Numbers that so many entries take in a list of them.
+pub fn entry_numbers(entries: usize, room: usize) -> usize
+    ensures { λ r. ⌜ r ≡ min (entries * entrySize) room ⌝ }
+{
+    if entries > room / ENTRY_SIZE {
+        room
+    } else {
+        entries * ENTRY_SIZE
+    }
 }
 
 // A line for each entry, which is ENTRY_SIZE numbers of the list; fewer over are none.

@@ -1,12 +1,13 @@
 -- Made by `answers` from crates/passes/answers/read_all.txt: edit that file, not this one.
-use Rattle.passes_reader.specs.View.{stateView, begun}
-use Rattle.passes_reader.proofs.Feeds.{Continuing, continuing-from, continuing-then}
+use Rattle.input_machine.specs.Machine.{codeLine}
+use Rattle.input_reader.specs.View.{stateView, begun}
+use Rattle.input_reader.proofs.Feeds.{Continuing, continuing-from, continuing-then}
 use Rattle.passes.proofs.read_all.Statement.{statement}
 use Rattle.passes.proofs.read_all.Tie as tie
 use borrow.Author.Needs.{needs}
 
 abbrev Inv-loop : tie.InvT-loop
-Inv-loop sheet₀ rules₀ code₀ offsets₀ entries₀ turn₀ turns₀ sheet rules code offsets entries turn turns = Continuing (begun sheet₀ rules₀ code₀ offsets₀ entries₀) (stateView (turn .reader) sheet rules code offsets entries)
+Inv-loop sheet₀ rules₀ code₀ offsets₀ entries₀ turn₀ turns₀ sheet rules code offsets entries turn turns = Continuing codeLine (begun sheet₀ rules₀ code₀ offsets₀ entries₀) (stateView (turn .reader) sheet rules code offsets entries)
 
 abbrev μ-loop : tie.MeasureT-loop
 μ-loop sheet₀ rules₀ code₀ offsets₀ entries₀ turn₀ turns₀ sheet rules code offsets entries turn turns = turns
@@ -18,7 +19,7 @@ read-all-spec =
     Inv-loop
     μ-loop
     (λ c κs. search needs)  -- start-requires
-    (λ c. continuing-from _ _ (c .start .ensures .is _ _ _ _ _))  -- loop-holds
+    (λ c. continuing-from _ _ _ (c .start .ensures .is _ _ _ _ _))  -- loop-holds
     (λ c. search needs)  -- same-length
     (λ c. search needs)  -- same-length-2
     (λ c. search needs)  -- same-length-3
