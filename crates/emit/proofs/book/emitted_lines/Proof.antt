@@ -1,8 +1,8 @@
--- Made by `answers` from crates/compile/answers/emitted_lines.txt: edit that file, not this one.
-use Rattle.compile.proofs.Whole.{lines-there, lines-long}
+-- Made by `answers` from crates/emit/answers/book/emitted_lines.txt: edit that file, not this one.
+use Rattle.emit.proofs.Lines.{lines-there, lines-long}
 use borrow.Author.Needs.{needs}
-use Rattle.compile.proofs.emitted_lines.Statement.{statement}
-use Rattle.compile.proofs.emitted_lines.Tie as tie
+use Rattle.emit.proofs.book.emitted_lines.Statement.{statement}
+use Rattle.emit.proofs.book.emitted_lines.Tie as tie
 
 pub emitted-lines-spec : {M : Type 1} → statement M
 emitted-lines-spec =

@@ -1,0 +1,3 @@
+-- What only the real crate can do without.
+pub record Stub : Type 0 where
+  pub never : ⊥
