@@ -166,12 +166,6 @@ pub fn answer(input: &[u8], out: &mut [u8; LISTING_ROOM]) -> usize
     let mut rules = [0u8; RULE_ROOM];
     let mut program = [0u8; PROGRAM_ROOM];
     let start = input_reader::start();
-    let reader = input_reader::feed_listing(
-        start,
-        input,
-        &mut sheet,
-        &mut rules,
-        &mut program,
-    );
+    let reader = input_reader::feed_listing(start, input, &mut sheet, &mut rules, &mut program);
     finish(reader, &sheet, &rules, &program, out)
 }
