@@ -1,11 +1,9 @@
 -- The parts of the call: 14, what follows emission, and the answer.
 use mathlib.Core.Path.{_≡_, refl, sym, _∙_}
-use mathlib.Core.Bool.{Bool, true, false, _&&_}
+use mathlib.Core.Bool.{true}
 use mathlib.Core.List.{List, []}
-use Prim.Native.Nat.{ℕ, zero, suc, _*_, _≤_, _<_}
+use Prim.Native.Nat.{ℕ, zero, suc, _*_}
 use native.Mathlib.Omega.{arith}
-use borrow.Author.Tests.{le-leb, lt-leb, leb-true}
-use lib.Dec.{leb}
 use lib.ListN.{length, take}
 use lib.Seq.{length-take-le}
 use Rattle.definition.specs.Limits.{maxCode, maxConstants, maxLines, entrySize}
@@ -21,6 +19,7 @@ use Rattle.definition.specs.Compile as compile
 use Rattle.definition.specs.Compile.{FinalizedFunction, jumpTargets, finalizeFunction, emitProgram, Room, roomy, answer}
 use Rattle.store.specs.Fill.{zeroedFrom}
 use Rattle.store.proofs.Fills.{zero-all}
+use Rattle.store.proofs.Rooms.{have-room}
 use Rattle.emit.specs.declared.Emitter.{Emitter}
 use Rattle.opcode.specs.Table.{Good}
 use Rattle.emit.specs.View.{World, world, state, standing, view}
@@ -44,28 +43,11 @@ refused number place code constants lines eb ek el = rw (zero-all code eb, zero-
 
 -- ---- 14
 
-module _ (code constants lines : ℕ) where
-  pub no-code : code < maxCode → false ≡ roomy (roomOf code constants lines)
-  unfolding roomy
-  no-code h = rw (lt-leb _ _ h)
-
-  module _ (b : maxCode ≤ code) where
-    pub no-constants : constants < maxConstants → false ≡ roomy (roomOf code constants lines)
-    unfolding roomy
-    no-constants h = rw (le-leb _ _ b, lt-leb _ _ h)
-
-    pub by-lines : maxConstants ≤ constants → leb (maxLines * entrySize) lines ≡ roomy (roomOf code constants lines)
-    unfolding roomy
-    by-lines h = rw (le-leb _ _ b, le-leb _ _ h)
-
 pub roomy-is : {r : Room} → roomy r ≡ true → Roomy r
 unfolding roomy
-roomy-is {r} = go (leb maxCode (r .code)) refl (leb maxConstants (r .constants)) refl
-  where
-    go : (t : Bool) → leb maxCode (r .code) ≡ t → (u : Bool) → leb maxConstants (r .constants) ≡ u → t && (u && leb (maxLines * entrySize) (r .lines)) ≡ true → Roomy r
-    go true a true b e = record { code = leb-true _ _ a; constants = leb-true _ _ b; lines = leb-true _ _ e }
-    go true a false b e = absurd (let z : _≡_ {A = ℕ} 0 1 = cc in omega arith)
-    go false a u b e = absurd (let z : _≡_ {A = ℕ} 0 1 = cc in omega arith)
+roomy-is {r} e =
+    let h = have-room (r .code) (r .constants) (r .lines) maxCode maxConstants (maxLines * entrySize) e in
+    record { code = h .first; constants = h .second; lines = h .third }
 
 -- ---- behind emission
 

@@ -69,13 +69,14 @@ pub fn refuse(
 pub fn roomy(code: usize, constants: usize, lines: usize) -> bool
     ensures { λ r. ⌜ r ≡ roomy (roomOf code constants lines) ⌝ }
 {
-    if code < MAX_CODE {
-        return false;
-    }
-    if constants < MAX_CONSTANTS {
-        return false;
-    }
-    lines >= MAX_LINES * ENTRY_SIZE
+    store::have_room(
+        code,
+        constants,
+        lines,
+        MAX_CODE,
+        MAX_CONSTANTS,
+        MAX_LINES * ENTRY_SIZE,
+    )
 }
 
 // Behind emission: its refusal, or finished code, constants and line list in the lent outputs.

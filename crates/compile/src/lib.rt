@@ -4,7 +4,6 @@ ghost use mathlib.Core.List.{[]};
 ghost use Prim.Native.Nat.{_*_, _≤_};
 ghost use lib.ListN.{length};
 ghost use Rattle.definition.specs.Limits.{maxCode, maxLines, entrySize};
-ghost use Rattle.definition.specs.Lent.{entriesOf};
 ghost use Rattle.definition.specs.Optimize.{optimize};
 ghost use Rattle.definition.specs.Compile.{patchJump, patchJumps};
 ghost use Rattle.definition.specs.Claims.{Each};
@@ -12,11 +11,10 @@ ghost use Rattle.opcode.specs.Table.{sheetIn};
 ghost use Rattle.rules.specs.View.{rulesIn};
 ghost use Rattle.rewrite.specs.View.{Clear};
 ghost use Rattle.optimize.specs.View.{mapIn, Tables};
-ghost use Rattle.emit.specs.Book.{bookSize, labelsIn, patchesIn, linesIn};
+ghost use Rattle.emit.specs.Book.{bookSize, labelsIn, patchesIn};
 ghost use Rattle.emit.specs.View.{world, state, patchView};
 ghost use Rattle.emit.specs.Steps.{Fine};
 ghost use Rattle.compile.specs.View.{targetsIn, Near, Inside, Patchable, Moved, Finalizes};
-use definition::ENTRY_SIZE;
 use definition::MAX_BRANCHES;
 use emit::Emitter;
 use emit::book;
@@ -24,6 +22,7 @@ use emit::bytes;
 use emit::patch::PendingPatch;
 
 pub mod call; // call.rt: the call, but for emission
+pub mod entry; // entry.rt: the call
 
 // Finished code: its bytes and depth, and how many line entries it has.
 pub struct FinalizedFunction {
@@ -111,17 +110,6 @@ fn patch_jumps(e: Emitter, book: &[u16], moves: &[u16], code: &mut [u8])
     }
 }
 
-// The numbers of the first n line entries, where they lie.
-fn emitted_lines<'a>(book: &'a [u16], n: usize) -> &'a [u16]
-    requires { ⌜ length (now book) ≡ bookSize ⌝ }
-    requires { ⌜ n ≤ maxLines ⌝ }
-    ensures { λ r. ⌜ entriesOf (now r) ≡ linesIn (now (book .entry)) n ⌝ }
-    ensures { λ r. ⌜ length (now r) ≡ entrySize * n ⌝ }
-{
-    let end = book::LINE_BASE + ENTRY_SIZE * n;
-    &book[book::LINE_BASE..end]
-}
-
 // `finalize_function`: three passes, then patching, then line mapping. Both outputs are 0 behind what they hold.
 pub fn finalize_function(
     sheet: &[u8],
@@ -156,7 +144,7 @@ pub fn finalize_function(
     );
     patch_jumps(e, book, &total, &mut code[..n]);
     store::zero_bytes(code, n);
-    let entries = emitted_lines(book, e.lines);
+    let entries = book::emitted_lines(book, e.lines);
     let kept = optimize::remap_line_map(&total, n, entries, lines);
     FinalizedFunction {
         size: n,

@@ -1,5 +1,5 @@
 -- The theorem: a FOR of a program makes its passes (document 01, part 6).
-use Prim.Native.Nat.{ℕ, _+_, _≤_, _<_}
+use Prim.Native.Nat.{ℕ, _+_, _-_, _^_, _≤_, _<_}
 use mathlib.Core.Path.{_≡_, refl, sym, _∙_, ap, subst}
 use mathlib.Core.List.{List, [], _∷_, _++_, append-assoc}
 use mathlib.Core.Bool.{Bool, true, false}
@@ -36,9 +36,9 @@ use Rattle.counting.proofs.LaidOut.{rest₀, rest₁, rest₂, rest₅,
 valueWidth : IsWidth width
 valueWidth = record { twice = refl; some = omega arith }
 
-counts-up : (k : ℕ) → k < 2147483648 → countsDown k ≡ false
+counts-up : (k : ℕ) → k < 2 ^ (width - 1) → countsDown k ≡ false
 unfolding countsDown
-counts-up k h = lt-leb 2147483648 k h
+counts-up k h = lt-leb (2 ^ (width - 1)) k h
 
 -- the program's calls, with those of the FOR written out
 calls-are : (p : Program) (f : For) (o : Emits p (forStmt f)) → countsDown (f .step) ≡ false

@@ -8,3 +8,4 @@ pub mod Instructions
 pub mod Loads
 pub mod Constants
 pub mod Branches
+pub mod Lines

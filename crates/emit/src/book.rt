@@ -1,14 +1,14 @@
 // The book's three tables, a row at a time. Nothing else knows where they lie.
 ghost use mathlib.Core.Path.{_≡_};
-ghost use Prim.Native.Nat.{_<_, _+_, _*_};
+ghost use Prim.Native.Nat.{_<_, _≤_, _+_, _*_};
 ghost use mathlib.Core.List.{_∷_, []};
 ghost use lib.ListN.{length};
 ghost use lib.Seq.{sets};
 ghost use Rattle.definition.specs.Limits.{maxLabels, maxBranches, maxLines, entrySize};
 ghost use Rattle.definition.specs.Compile.{boundOr0};
-ghost use Rattle.definition.specs.Lent.{oneEntry, entryIn};
+ghost use Rattle.definition.specs.Lent.{oneEntry, entryIn, entriesOf};
 ghost use Rattle.line_map.specs.View.{entryView};
-ghost use Rattle.emit.specs.Book.{labelSize, patchSize, labelBase, patchBase, lineBase, bookSize, labelIn, patchNumbers, patchIn, row};
+ghost use Rattle.emit.specs.Book.{labelSize, patchSize, labelBase, patchBase, lineBase, bookSize, labelIn, patchNumbers, patchIn, row, linesIn};
 ghost use Rattle.emit.specs.View.{patchView};
 use crate::Label;
 use crate::patch::PendingPatch;
@@ -19,15 +19,15 @@ use definition::MAX_LINES;
 use line_map::LineEntry;
 
 // Numbers of a label (whether it is bound, and its place), and of a patch (instruction offset, operand delta, label).
-pub const LABEL_SIZE: usize = 2;
+const LABEL_SIZE: usize = 2;
 
-pub const PATCH_SIZE: usize = 3;
+const PATCH_SIZE: usize = 3;
 
 const LABEL_BASE: usize = 0;
 
-pub const PATCH_BASE: usize = LABEL_BASE + LABEL_SIZE * MAX_LABELS;
+const PATCH_BASE: usize = LABEL_BASE + LABEL_SIZE * MAX_LABELS;
 
-pub const LINE_BASE: usize = PATCH_BASE + PATCH_SIZE * MAX_BRANCHES;
+const LINE_BASE: usize = PATCH_BASE + PATCH_SIZE * MAX_BRANCHES;
 
 // Numbers of a book.
 pub const BOOK_SIZE: usize = LINE_BASE + ENTRY_SIZE * MAX_LINES;
@@ -100,4 +100,15 @@ pub fn line_at(book: &[u16], n: usize) -> LineEntry
     ensures { λ r. ⌜ entryView r ≡ entryIn (row lineBase entrySize (now (book .entry)) n) ⌝ }
 {
     line_map::entry_at(book, LINE_BASE + ENTRY_SIZE * n)
+}
+
+// The numbers of the first n line entries, where they lie.
+pub fn emitted_lines<'a>(book: &'a [u16], n: usize) -> &'a [u16]
+    requires { ⌜ length (now book) ≡ bookSize ⌝ }
+    requires { ⌜ n ≤ maxLines ⌝ }
+    ensures { λ r. ⌜ entriesOf (now r) ≡ linesIn (now (book .entry)) n ⌝ }
+    ensures { λ r. ⌜ length (now r) ≡ entrySize * n ⌝ }
+{
+    let end = LINE_BASE + ENTRY_SIZE * n;
+    &book[LINE_BASE..end]
 }

@@ -294,7 +294,7 @@ impl Emitter {
     {
         let traits = role.traits();
         let effect = traits.effect;
-        let depth = effect.shift(self.depth);
+        let depth = effect.shift(self.depth as u32) as usize;
         let deepest = numbers::greatest(self.deepest, depth);
         self.with(self.size + bytes, last, depth, deepest)
     }

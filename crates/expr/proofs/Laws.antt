@@ -6,7 +6,7 @@ use Prim.Native.Nat.{ℕ, zero, suc, _+_, _-_, _<_}
 use native.Mathlib.Numerals.{add-one}
 use native.Mathlib.Omega.{arith}
 use Rattle.definition.specs.Res.{Res, ok, refuse, _>>=_}
-use Rattle.definition.specs.Opcode.{Sheet, Role, BinaryOp, UnaryOp, CompareOp, AndThen, OrElse, loadTrue, loadFalse, binaryRole, unaryRole}
+use Rattle.definition.specs.Opcode.{Sheet, Role, BinaryOp, UnaryOp, CompareOp, ShortCircuitOp, AndThen, OrElse, loadTrue, loadFalse, binaryRole, unaryRole}
 use Rattle.definition.specs.Opcode as role
 use Rattle.definition.specs.Tree.{Expr, const, bool, read, shortCircuit}
 use Rattle.definition.specs.Program as def
@@ -27,7 +27,7 @@ use Rattle.emit.specs.Steps.{run, Ready, Bare, Booked, Created, Coded, Filled}
 use Rattle.emit.proofs.Steps.{filled-by, bare-filled, booked-filled, created-filled, coded-filled}
 use Rattle.emit.proofs.Calls.{run-then, seq-filled, said-filled, fresh-filled}
 use Rattle.expr.specs.declared.Walked.{Walked}
-use Rattle.expr.specs.Went.{Went, WentExpr, WentTwo, emitTwo, boolRole, Operated}
+use Rattle.expr.specs.Went.{Went, WentExpr, WentTwo, emitTwo, boolRole, Operated, Behind}
 
 -- ---- parts of a walk
 
@@ -76,80 +76,79 @@ module _ (s : Sheet) (h left v : ℕ) (text : List ℕ) (c : Cursor) where
   unfolding emitExpr faultAt
   went-bad n near ready line d = rw (expr-bad left v text (cursorOf c) n line) (went (record { is = refl; near = near }) (said-filled s _ (bare-filled ready s d)))
 
-  module _ {next : Cursor} (on : Skipped text (nextLine text (cursorOf c)) next) where
-    -- a line with nothing behind it, which is one call
-    leaf : (l : ExprLine) (x : Expr) (k : Call) {w u : World} → ((r : Reader Expr) (d : def.Cursor) → exprOf r d l ≡ (x, d)) → emitExpr x h ≡ say k → Reads l → Filled (act s k) w u → Emits w u next
-    leaf l x k reads says line d = rw (expr-is left v text (cursorOf c) l line, reads _ _, says) (went on (said-filled s k d))
+  emit-bool : (b : Bool) → emitExpr (bool b) h ≡ say (emitOpcode (boolRole b))
+  unfolding emitExpr boolRole
+  emit-bool true = refl
+  emit-bool false = refl
 
-    pub went-const : (k : ℕ) {w u : World} → Reads (K k) → Filled (act s (loadConstant k)) w u → Emits w u next
-    unfolding exprOf emitExpr
-    went-const k line d = leaf (K k) (const k) (loadConstant k) (λ r d. refl) refl line d
+  -- a line with nothing behind it
+  module _ {e : Emitter} {r : Walked} (on : Behind text c e r) where
+    -- what is emitted by one call
+    abbrev Leaf : Call → World → List ℕ → List ℕ → List ℕ → Type 0
+    Leaf k w code book pool = Filled (act s k) w (world e code book pool) → Emits w (world (r .emitter) code book pool) (r .cursor)
 
-    pub went-read : (i : ℕ) {w u : World} → Reads (D i) → Filled (act s (loadVariable i)) w u → Emits w u next
-    unfolding exprOf emitExpr
-    went-read i line d = leaf (D i) (read i) (loadVariable i) (λ r d. refl) refl line d
+    leaf : (l : ExprLine) (x : Expr) (k : Call) {w : World} {code book pool : List ℕ} → ((r : Reader Expr) (d : def.Cursor) → exprOf r d l ≡ (x, d)) → emitExpr x h ≡ say k → Reads l → Leaf k w code book pool
+    leaf l x k reads says line d = rw (on .same, expr-is left v text (cursorOf c) l line, reads _ _, says) (went (on .on) (said-filled s k d))
 
-    emit-bool : (b : Bool) → emitExpr (bool b) h ≡ say (emitOpcode (boolRole b))
-    unfolding emitExpr boolRole
-    emit-bool true = refl
-    emit-bool false = refl
+    module _ {w : World} {code book pool : List ℕ} where
+      pub went-const : (k : ℕ) → Reads (K k) → Leaf (loadConstant k) w code book pool
+      unfolding exprOf emitExpr
+      went-const k line = leaf (K k) (const k) (loadConstant k) (λ r d. refl) refl line
 
-    pub went-bool : (b : Bool) {o : Role} {w u : World} → Reads (B b) → o ≡ boolRole b → Filled (act s (emitOpcode o)) w u → Emits w u next
-    unfolding exprOf
-    went-bool b line e d = leaf (B b) (bool b) _ (λ r d. refl) (rw e (emit-bool b)) line d
+      pub went-read : (i : ℕ) → Reads (D i) → Leaf (loadVariable i) w code book pool
+      unfolding exprOf emitExpr
+      went-read i line = leaf (D i) (read i) (loadVariable i) (λ r d. refl) refl line
 
-    -- its operands stand behind it
-    abbrev One : World → World → Cursor → Type 0
-    One w u d = WentExpr s h (exprAt (left - 1) v text (cursorOf next)) text w u d
+      pub went-bool : (b : Bool) {o : Role} → Reads (B b) → o ≡ boolRole b → Leaf (emitOpcode o) w code book pool
+      unfolding exprOf
+      went-bool b line e = leaf (B b) (bool b) _ (λ r d. refl) (rw e (emit-bool b)) line
 
-    abbrev Two : (Expr → Expr → Calls) → World → World → Cursor → Type 0
-    Two m w u d = WentTwo s m (left - 1) v text (cursorOf next) w u d
+  -- two operands stand behind it
+  abbrev Two : (Expr → Expr → Calls) → World → World → Cursor → Type 0
+  Two m w u d = WentTwo s m (left - 1) v text (nextLine text (cursorOf c)) w u d
 
-    module _ {a r : Walked} {w : World} {code book pool code′ book′ : List ℕ} where
-      pub went-unary : (o : UnaryOp) {x : Role} → Reads (U o) → x ≡ unaryRole o → One w (world (a .emitter) code book pool) (a .cursor) → Operated s x a code book r code′ book′
-          → Emits w (world (r .emitter) code′ book′ pool) (r .cursor)
-      unfolding emitExpr exprOf
-      went-unary o line e x k = rw (expr-is left v text (cursorOf c) (U o) line, ← on .is, ← e) (operated s _ _ _ x k)
+  module _ {a r : Walked} {w : World} {code book pool code′ book′ : List ℕ} where
+    pub went-binary : (o : BinaryOp) {x : Role} → Reads (O o) → x ≡ binaryRole o → Two (emitTwo h) w (world (a .emitter) code book pool) (a .cursor) → Operated s x a code book r code′ book′
+        → Emits w (world (r .emitter) code′ book′ pool) (r .cursor)
+    unfolding emitExpr exprOf
+    went-binary o line e x k = rw (expr-is left v text (cursorOf c) (O o) line, ← e) (two-operated s h _ _ _ _ _ (operated s _ _ _ x k))
 
-      pub went-binary : (o : BinaryOp) {x : Role} → Reads (O o) → x ≡ binaryRole o → Two (emitTwo h) w (world (a .emitter) code book pool) (a .cursor) → Operated s x a code book r code′ book′
-          → Emits w (world (r .emitter) code′ book′ pool) (r .cursor)
-      unfolding emitExpr exprOf
-      went-binary o line e x k = rw (expr-is left v text (cursorOf c) (O o) line, ← on .is, ← e) (two-operated s h _ _ _ _ _ (operated s _ _ _ x k))
+    pub went-compare : (o : CompareOp) → Reads (C o) → Two (emitTwo h) w (world (a .emitter) code book pool) (a .cursor) → Operated s (role.compare o) a code book r code′ book′
+        → Emits w (world (r .emitter) code′ book′ pool) (r .cursor)
+    unfolding emitExpr exprOf
+    went-compare o line x k = rw (expr-is left v text (cursorOf c) (C o) line) (two-operated s h _ _ _ _ _ (operated s _ _ _ x k))
 
-      pub went-compare : (o : CompareOp) → Reads (C o) → Two (emitTwo h) w (world (a .emitter) code book pool) (a .cursor) → Operated s (role.compare o) a code book r code′ book′
-          → Emits w (world (r .emitter) code′ book′ pool) (r .cursor)
-      unfolding emitExpr exprOf
-      went-compare o line x k = rw (expr-is left v text (cursorOf c) (C o) line, ← on .is) (two-operated s h _ _ _ _ _ (operated s _ _ _ x k))
-
-    pub went-and : {w u : World} {d : Cursor} → Reads (H AndThen) → Two (λ a b. emitExpr (shortCircuit AndThen a b) h) w u d → Emits w u d
-    unfolding exprOf
-    went-and line d = rw (expr-is left v text (cursorOf c) (H AndThen) line, ← on .is) d
-
-    pub went-or : {w u : World} {d : Cursor} → Reads (H OrElse) → Two (λ a b. emitExpr (shortCircuit OrElse a b) h) w u d → Emits w u d
-    unfolding exprOf
-    went-or line d = rw (expr-is left v text (cursorOf c) (H OrElse) line, ← on .is) d
+  pub went-short : (o : ShortCircuitOp) {w u : World} {d : Cursor} → Reads (H o) → Two (λ a b. emitExpr (shortCircuit o a b) h) w u d → Emits w u d
+  unfolding exprOf
+  went-short o line d = rw (expr-is left v text (cursorOf c) (H o) line) d
 
 -- ---- operands
 
-module _ (s : Sheet) (h left v : ℕ) (text : List ℕ) (c : Cursor) where
-  abbrev pub First : World → World → Cursor → Type 0
-  First w u d = WentExpr s h (exprAt left v text (cursorOf c)) text w u d
+module _ (s : Sheet) (h left v : ℕ) (text : List ℕ) (c : Cursor) {next : Cursor} (on : Skipped text (nextLine text (cursorOf c)) next) where
+  abbrev First : World → World → Cursor → Type 0
+  First w u d = WentExpr s h (exprAt (left - 1) v text (cursorOf next)) text w u d
 
-  pub two-done : {w u x : World} {c₁ c₂ : Cursor} → First w u c₁ → WentExpr s (h + 1) (exprAt left v text (cursorOf c₁)) text u x c₂
-      → WentTwo s (emitTwo h) left v text (cursorOf c) w x c₂
+  pub went-unary : (o : UnaryOp) {x : Role} {a r : Walked} {w : World} {code book pool code′ book′ : List ℕ} → Reads s h left v text c (U o) → x ≡ unaryRole o
+      → First w (world (a .emitter) code book pool) (a .cursor) → Operated s x a code book r code′ book′
+      → Emits s h left v text c w (world (r .emitter) code′ book′ pool) (r .cursor)
+  unfolding emitExpr exprOf
+  went-unary o line e x k = rw (expr-is left v text (cursorOf c) (U o) line, ← on .is, ← e) (operated s _ _ _ x k)
+
+  pub two-done : {w u x : World} {c₁ c₂ : Cursor} → First w u c₁ → WentExpr s (h + 1) (exprAt (left - 1) v text (cursorOf c₁)) text u x c₂
+      → Two s h left v text c (emitTwo h) w x c₂
   unfolding emitTwo
-  two-done a b′ = let b = rw (a .is, add-one) at b′ in went (place b) (seq-filled s _ _ (filled a) (filled b))
+  two-done a b′ = let b = rw (a .is, add-one) at b′ in rw (← on .is) (went (place b) (seq-filled s _ _ (filled a) (filled b)))
 
   module _ {e e₁ e₂ e₃ e₄ e₅ e₆ e₇ e₈ e₉ e₁₀ : Emitter} {code book pool k₃ k₄ k₅ k₆ k₉ b₁ b₂ b₃ b₄ b₅ b₆ b₇ b₉ b₁₀ p₃ p₅ : List ℕ} {l₁ l₂ : ℕ} {c₁ c₂ : Cursor}
       (y : Ready (world e code book pool)) (m₁ : Created e book e₁ b₁ l₁) (m₂ : Created e₁ b₁ e₂ b₂ l₂)
       (a : First (world e₂ code b₂ pool) (world e₃ k₃ b₃ p₃) c₁) (j : Coded (act s (emitJmpIfNot l₁)) e₃ k₃ b₃ e₄ k₄ b₄) where
-    pub and-done : WentExpr s h (exprAt left v text (cursorOf c₁)) text (world e₄ k₄ b₄ p₃) (world e₅ k₅ b₅ p₅) c₂
+    pub and-done : WentExpr s h (exprAt (left - 1) v text (cursorOf c₁)) text (world e₄ k₄ b₄ p₃) (world e₅ k₅ b₅ p₅) c₂
         → Coded (act s (emitJmp l₂)) e₅ k₅ b₅ e₆ k₆ b₆
         → Booked (bindLabel l₁) e₆ b₆ e₇ b₇
         → Bare (resetStackDepth h) e₇ e₈
         → Coded (act s (emitOpcode loadFalse)) e₈ k₆ b₇ e₉ k₉ b₉
         → Booked (bindLabel l₂) e₉ b₉ e₁₀ b₁₀
-        → WentTwo s (λ a b. emitExpr (shortCircuit AndThen a b) h) left v text (cursorOf c) (world e code book pool) (world e₁₀ k₉ b₁₀ p₅) c₂
+        → Two s h left v text c (λ a b. emitExpr (shortCircuit AndThen a b) h) (world e code book pool) (world e₁₀ k₉ b₁₀ p₅) c₂
     unfolding emitExpr
     and-done b′ k n d f o =
         let b = rw (a .is) at b′ in
@@ -161,7 +160,7 @@ module _ (s : Sheet) (h left v : ℕ) (text : List ℕ) (c : Cursor) where
         let x₈ = bare-filled (x₇ .ready) s d in
         let x₉ = coded-filled (x₈ .ready) f in
         let x₁₀ = booked-filled (x₉ .ready) s o in
-        went (place b)
+        rw (← on .is) (went (place b)
         (fresh-filled s h l₁ _ (m₁ .label) x₁
         (fresh-filled s (suc h) l₂ _ (m₂ .label) x₂
         (seq-filled s _ _ (filled a)
@@ -171,15 +170,15 @@ module _ (s : Sheet) (h left v : ℕ) (text : List ℕ) (c : Cursor) where
         (seq-filled s _ _ (said-filled s _ x₇)
         (seq-filled s _ _ (said-filled s _ x₈)
         (seq-filled s _ _ (said-filled s _ x₉)
-        (said-filled s _ x₁₀))))))))))
+        (said-filled s _ x₁₀)))))))))))
 
     pub or-done : Coded (act s (emitOpcode loadTrue)) e₄ k₄ b₄ e₅ k₅ b₅
         → Coded (act s (emitJmp l₂)) e₅ k₅ b₅ e₆ k₆ b₆
         → Booked (bindLabel l₁) e₆ b₆ e₇ b₇
         → Bare (resetStackDepth h) e₇ e₈
-        → WentExpr s h (exprAt left v text (cursorOf c₁)) text (world e₈ k₆ b₇ p₃) (world e₉ k₉ b₉ p₅) c₂
+        → WentExpr s h (exprAt (left - 1) v text (cursorOf c₁)) text (world e₈ k₆ b₇ p₃) (world e₉ k₉ b₉ p₅) c₂
         → Booked (bindLabel l₂) e₉ b₉ e₁₀ b₁₀
-        → WentTwo s (λ a b. emitExpr (shortCircuit OrElse a b) h) left v text (cursorOf c) (world e code book pool) (world e₁₀ k₉ b₁₀ p₅) c₂
+        → Two s h left v text c (λ a b. emitExpr (shortCircuit OrElse a b) h) (world e code book pool) (world e₁₀ k₉ b₁₀ p₅) c₂
     unfolding emitExpr
     or-done t k n d b′ o =
         let b = rw (a .is) at b′ in
@@ -191,7 +190,7 @@ module _ (s : Sheet) (h left v : ℕ) (text : List ℕ) (c : Cursor) where
         let x₇ = booked-filled (x₆ .ready) s n in
         let x₈ = bare-filled (x₇ .ready) s d in
         let x₁₀ = booked-filled (b .ready) s o in
-        went (place b)
+        rw (← on .is) (went (place b)
         (fresh-filled s h l₁ _ (m₁ .label) x₁
         (fresh-filled s (suc h) l₂ _ (m₂ .label) x₂
         (seq-filled s _ _ (filled a)
@@ -201,7 +200,7 @@ module _ (s : Sheet) (h left v : ℕ) (text : List ℕ) (c : Cursor) where
         (seq-filled s _ _ (said-filled s _ x₇)
         (seq-filled s _ _ (said-filled s _ x₈)
         (seq-filled s _ _ (filled b)
-        (said-filled s _ x₁₀))))))))))
+        (said-filled s _ x₁₀)))))))))))
 
 -- what was read, once its form is known
 pub line-is : (left v : ℕ) (text : List ℕ) (at : ℕ) {line x : code.ExprLine} → exprLine line ≡ lineAt (exprForms v) left text at → line ≡ x → lineAt (exprForms v) left text at ≡ exprLine x

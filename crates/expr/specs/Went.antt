@@ -6,12 +6,13 @@ use Prim.Native.Nat.{ℕ, suc}
 use Rattle.definition.specs.Opcode.{Sheet, Role, loadTrue, loadFalse}
 use Rattle.definition.specs.Tree.{Expr}
 use Rattle.definition.specs.Program as def
-use Rattle.definition.specs.Program.{exprAt}
+use Rattle.definition.specs.Program.{exprAt, nextLine}
 use Rattle.definition.specs.Emit.{act, emitOpcode}
 use Rattle.definition.specs.Walk.{Calls, _>>_}
 use Rattle.definition.specs.Expr.{emitExpr}
 use Rattle.program.specs.declared.Cursor.{Cursor}
-use Rattle.program.specs.Walk.{cursorOf, Near}
+use Rattle.program.specs.Walk.{cursorOf, Near, Skipped}
+use Rattle.emit.specs.declared.Emitter.{Emitter}
 use Rattle.emit.specs.View.{World}
 use Rattle.emit.specs.Steps.{run, Did, Ready, Kept, Coded}
 use Rattle.expr.specs.declared.Walked.{Walked}
@@ -46,3 +47,8 @@ boolRole false = loadFalse
 pub record Operated (s : Sheet) (role : Role) (w : Walked) (code book : List ℕ) (r : Walked) (code′ book′ : List ℕ) : Type 0 where
   pub there : r .cursor ≡ w .cursor
   pub coded : Coded (act s (emitOpcode role)) (w .emitter) code book (r .emitter) code′ book′
+
+-- the walk stands behind the line at c, which e has emitted
+pub record Behind (text : List ℕ) (c : Cursor) (e : Emitter) (r : Walked) : Type 0 where
+  pub on : Skipped text (nextLine text (cursorOf c)) (r .cursor)
+  pub same : r .emitter ≡ e

@@ -1,12 +1,12 @@
 // Emission of an expression (body/expr.rs), from the text in place: its operands stand behind its line, left first. After a refusal the walk goes on, so the
 // place behind an expression is exact either way.
 ghost use mathlib.Core.Path.{_≡_};
-ghost use Prim.Native.Nat.{_≤_, _+_};
+ghost use Prim.Native.Nat.{_≤_, _<_, _+_, _-_};
 ghost use lib.ListN.{length};
 ghost use Rattle.definition.specs.Limits.{maxCode};
 ghost use Rattle.definition.specs.Opcode.{AndThen, OrElse};
 ghost use Rattle.definition.specs.Tree.{shortCircuit};
-ghost use Rattle.definition.specs.Program.{exprAt};
+ghost use Rattle.definition.specs.Program.{exprAt, nextLine};
 ghost use Rattle.definition.specs.Expr.{emitExpr};
 ghost use Rattle.opcode.specs.View.{roleView};
 ghost use Rattle.opcode.specs.Table.{sheetIn};
@@ -14,7 +14,7 @@ ghost use Rattle.program.specs.Walk.{cursorOf, Near};
 ghost use Rattle.emit.specs.Book.{bookSize};
 ghost use Rattle.emit.specs.View.{world};
 ghost use Rattle.emit.specs.Steps.{maxHeight, Fine, Ready};
-ghost use Rattle.expr.specs.Went.{WentExpr, WentTwo, Operated, emitTwo, boolRole};
+ghost use Rattle.expr.specs.Went.{WentExpr, WentTwo, Operated, Behind, emitTwo, boolRole};
 use emit::Constant;
 use emit::Emitter;
 use opcode::Role;
@@ -46,6 +46,16 @@ fn operate(w: Walked, sheet: &[u8], code: &mut [u8], book: &mut [u16], role: Rol
     Walked { cursor, emitter }
 }
 
+// An emitter that has emitted the line at a place, and the walk behind that line.
+fn behind(text: &[u8], c: Cursor, emitter: Emitter) -> Walked
+    requires { ⌜ Near (now text) (c .at) (c .row) ⌝ }
+    requires { ⌜ c .at < length (now text) ⌝ }
+    ensures { λ r. ⌜ Behind (now (text .entry)) c emitter r ⌝ }
+{
+    let cursor = program::next_line(text, c);
+    Walked { cursor, emitter }
+}
+
 // The expression at a place, which starts at height h, with so many nesting levels left.
 pub fn emit_expr(
     text: &[u8],
@@ -64,33 +74,25 @@ pub fn emit_expr(
     requires { ⌜ h + left ≤ maxHeight ⌝ }
     ensures { λ r. ⌜ WentExpr (sheetIn (now (sheet .entry))) h (exprAt left variables (now (text .entry)) (cursorOf c)) (now (text .entry)) (world e (now (code .entry)) (now (book .entry)) (now (pool .entry))) (world (r .emitter) (now (code .exit)) (now (book .exit)) (now (pool .exit))) (r .cursor) ⌝ }
 {
-    let at = c.at;
-    let row = c.row;
-    let line = program_line::read_expr(text, variables, left, at);
-    match line {
+    match program_line::read_expr(text, variables, left, c.at) {
         ExprLine::Bad(n) => {
-            let emitter = e.refuse(n, row);
+            let emitter = e.refuse(n, c.row);
             Walked { cursor: c, emitter }
         }
         ExprLine::Const(k) => {
-            let cursor = program::next_line(text, c);
             let emitter = e.load_constant(sheet, code, book, pool, k);
-            Walked { cursor, emitter }
+            behind(text, c, emitter)
         }
         ExprLine::Bool(b) => {
-            let cursor = program::next_line(text, c);
             let emitter = e.emit_opcode(sheet, code, book, bool_role(b));
-            Walked { cursor, emitter }
+            behind(text, c, emitter)
         }
         ExprLine::Read(v) => {
-            let cursor = program::next_line(text, c);
-            let loaded = e.load_variable(sheet, code, book, v);
-            let emitter = loaded.emitter;
-            Walked { cursor, emitter }
+            let emitter = compile_expr::emit_load_var(e, sheet, code, book, v);
+            behind(text, c, emitter)
         }
         ExprLine::Binary(o) => {
-            let on = program::next_line(text, c);
-            let two = emit_two(text, sheet, code, book, pool, variables, left - 1, h, e, on);
+            let two = emit_two(text, sheet, code, book, pool, variables, left, h, e, c);
             operate(two, sheet, code, book, o.role())
         }
         ExprLine::Unary(o) => {
@@ -99,25 +101,21 @@ pub fn emit_expr(
             operate(one, sheet, code, book, o.role())
         }
         ExprLine::Compare(o) => {
-            let on = program::next_line(text, c);
-            let two = emit_two(text, sheet, code, book, pool, variables, left - 1, h, e, on);
+            let two = emit_two(text, sheet, code, book, pool, variables, left, h, e, c);
             operate(two, sheet, code, book, Role::Compare(o))
         }
-        ExprLine::ShortCircuit(o) => {
-            let on = program::next_line(text, c);
-            match o {
-                ShortCircuitOp::AndThen => {
-                    emit_and_then(text, sheet, code, book, pool, variables, left - 1, h, e, on)
-                }
-                ShortCircuitOp::OrElse => {
-                    emit_or_else(text, sheet, code, book, pool, variables, left - 1, h, e, on)
-                }
+        ExprLine::ShortCircuit(o) => match o {
+            ShortCircuitOp::AndThen => {
+                emit_and_then(text, sheet, code, book, pool, variables, left, h, e, c)
             }
-        }
+            ShortCircuitOp::OrElse => {
+                emit_or_else(text, sheet, code, book, pool, variables, left, h, e, c)
+            }
+        },
     }
 }
 
-// Two expressions, the first below the second on the stack.
+// The two operands of the line at a place, the first below the second on the stack.
 fn emit_two(
     text: &[u8],
     sheet: &[u8],
@@ -132,25 +130,18 @@ fn emit_two(
 ) -> Walked
     requires { ⌜ Near (now text) (c .at) (c .row) ⌝ }
     requires { ⌜ Ready (world e (now code) (now book) (now pool)) ⌝ }
-    requires { ⌜ h + 1 + left ≤ maxHeight ⌝ }
-    ensures { λ r. ⌜ WentTwo (sheetIn (now (sheet .entry))) (emitTwo h) left variables (now (text .entry)) (cursorOf c) (world e (now (code .entry)) (now (book .entry)) (now (pool .entry))) (world (r .emitter) (now (code .exit)) (now (book .exit)) (now (pool .exit))) (r .cursor) ⌝ }
+    requires { ⌜ h + left ≤ maxHeight ⌝ }
+    requires { ⌜ c .at < length (now text) ⌝ }
+    requires { ⌜ 0 < left ⌝ }
+    ensures { λ r. ⌜ WentTwo (sheetIn (now (sheet .entry))) (emitTwo h) (left - 1) variables (now (text .entry)) (nextLine (now (text .entry)) (cursorOf c)) (world e (now (code .entry)) (now (book .entry)) (now (pool .entry))) (world (r .emitter) (now (code .exit)) (now (book .exit)) (now (pool .exit))) (r .cursor) ⌝ }
 {
-    let deeper = h + 1;
-    let one = emit_expr(text, sheet, code, book, pool, variables, left, h, e, c);
+    let first = program::next_line(text, c);
+    let rest = left - 1;
+    let above = h + 1;
+    let one = emit_expr(text, sheet, code, book, pool, variables, rest, h, e, first);
     let on = one.cursor;
     let e = one.emitter;
-    emit_expr(
-        text,
-        sheet,
-        code,
-        book,
-        pool,
-        variables,
-        left,
-        deeper,
-        e,
-        on,
-    )
+    emit_expr(text, sheet, code, book, pool, variables, rest, above, e, on)
 }
 
 // The right side is the value where the left is true; else it is false.
@@ -169,17 +160,21 @@ fn emit_and_then(
     requires { ⌜ Near (now text) (c .at) (c .row) ⌝ }
     requires { ⌜ Ready (world e (now code) (now book) (now pool)) ⌝ }
     requires { ⌜ h + left ≤ maxHeight ⌝ }
-    ensures { λ r. ⌜ WentTwo (sheetIn (now (sheet .entry))) (λ a b. emitExpr (shortCircuit AndThen a b) h) left variables (now (text .entry)) (cursorOf c) (world e (now (code .entry)) (now (book .entry)) (now (pool .entry))) (world (r .emitter) (now (code .exit)) (now (book .exit)) (now (pool .exit))) (r .cursor) ⌝ }
+    requires { ⌜ c .at < length (now text) ⌝ }
+    requires { ⌜ 0 < left ⌝ }
+    ensures { λ r. ⌜ WentTwo (sheetIn (now (sheet .entry))) (λ a b. emitExpr (shortCircuit AndThen a b) h) (left - 1) variables (now (text .entry)) (nextLine (now (text .entry)) (cursorOf c)) (world e (now (code .entry)) (now (book .entry)) (now (pool .entry))) (world (r .emitter) (now (code .exit)) (now (book .exit)) (now (pool .exit))) (r .cursor) ⌝ }
 {
+    let first = program::next_line(text, c);
+    let rest = left - 1;
     let alternative = e.create_label(book);
     let e = alternative.emitter;
     let end = e.create_label(book);
     let e = end.emitter;
-    let lhs = emit_expr(text, sheet, code, book, pool, variables, left, h, e, c);
+    let lhs = emit_expr(text, sheet, code, book, pool, variables, rest, h, e, first);
     let on = lhs.cursor;
     let e = lhs.emitter;
     let e = e.emit_jmp_if_not(sheet, code, book, alternative.label);
-    let rhs = emit_expr(text, sheet, code, book, pool, variables, left, h, e, on);
+    let rhs = emit_expr(text, sheet, code, book, pool, variables, rest, h, e, on);
     let cursor = rhs.cursor;
     let f = rhs.emitter;
     let f = f.emit_jmp(sheet, code, book, end.label);
@@ -206,13 +201,17 @@ fn emit_or_else(
     requires { ⌜ Near (now text) (c .at) (c .row) ⌝ }
     requires { ⌜ Ready (world e (now code) (now book) (now pool)) ⌝ }
     requires { ⌜ h + left ≤ maxHeight ⌝ }
-    ensures { λ r. ⌜ WentTwo (sheetIn (now (sheet .entry))) (λ a b. emitExpr (shortCircuit OrElse a b) h) left variables (now (text .entry)) (cursorOf c) (world e (now (code .entry)) (now (book .entry)) (now (pool .entry))) (world (r .emitter) (now (code .exit)) (now (book .exit)) (now (pool .exit))) (r .cursor) ⌝ }
+    requires { ⌜ c .at < length (now text) ⌝ }
+    requires { ⌜ 0 < left ⌝ }
+    ensures { λ r. ⌜ WentTwo (sheetIn (now (sheet .entry))) (λ a b. emitExpr (shortCircuit OrElse a b) h) (left - 1) variables (now (text .entry)) (nextLine (now (text .entry)) (cursorOf c)) (world e (now (code .entry)) (now (book .entry)) (now (pool .entry))) (world (r .emitter) (now (code .exit)) (now (book .exit)) (now (pool .exit))) (r .cursor) ⌝ }
 {
+    let first = program::next_line(text, c);
+    let rest = left - 1;
     let alternative = e.create_label(book);
     let e = alternative.emitter;
     let end = e.create_label(book);
     let e = end.emitter;
-    let lhs = emit_expr(text, sheet, code, book, pool, variables, left, h, e, c);
+    let lhs = emit_expr(text, sheet, code, book, pool, variables, rest, h, e, first);
     let on = lhs.cursor;
     let e = lhs.emitter;
     let e = e.emit_jmp_if_not(sheet, code, book, alternative.label);
@@ -220,7 +219,7 @@ fn emit_or_else(
     let e = e.emit_jmp(sheet, code, book, end.label);
     let e = e.bind_label(book, alternative.label);
     let e = e.reset_stack_depth(h);
-    let rhs = emit_expr(text, sheet, code, book, pool, variables, left, h, e, on);
+    let rhs = emit_expr(text, sheet, code, book, pool, variables, rest, h, e, on);
     let cursor = rhs.cursor;
     let e = rhs.emitter;
     let emitter = e.bind_label(book, end.label);

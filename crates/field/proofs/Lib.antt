@@ -4,3 +4,4 @@ pub mod Numbers
 pub mod Parts
 pub mod Fields
 pub mod Results
+pub mod Refusals

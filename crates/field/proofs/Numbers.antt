@@ -5,13 +5,12 @@ use mathlib.Core.Option.{Option, some, none}
 use mathlib.Core.List.{List, [], _∷_}
 use Prim.Native.Nat.{ℕ, zero, suc, _+_, _-_, _*_, _^_, _≤_, _<_, min}
 use native.Mathlib.Numerals.{add-one}
-use native.Mathlib.Nat.{le-of-lt, lt-of-lt-of-le, pow-le-pow-right}
+use native.Mathlib.Nat.{le-of-lt}
 use native.Mathlib.Omega.{arith, min-cases}
-use borrow.Author.Tests.{le-leb, lt-leb, lt-ltb, le-ltb, eq-eqb, ne-eqb, ltb-true, leb-true, eqb-true, eqb-false}
+use borrow.Author.Tests.{le-leb, lt-leb, lt-ltb, le-ltb, eq-eqb, ne-eqb, leb-true, eqb-true, eqb-false}
 use lib.Dec.{leb, ltb, eqb, leb·suc-suc}
 use lib.ListN.{length, getD, take, drop, length-drop, drop-of-length-le}
 use lib.Seq.{drop-cons, take-all}
-use lib.Pow.{pow-pos}
 use Rattle.definition.specs.Field as def
 use Rattle.definition.specs.Field.{digit0, digit9, digits, natural, within, naturalWithin, negative, signed, field, upTo, below, value, malformed, outside, is}
 use Rattle.field.specs.declared.Read.{Read}

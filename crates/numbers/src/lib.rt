@@ -15,6 +15,13 @@ pub fn word(x: u16) -> u32
     x as u32
 }
 
+// A number of 32 bits.
+pub fn wide_word(x: u32) -> usize
+    ensures { λ r. ⌜ r ≡ x ⌝ }
+{
+    x as usize
+}
+
 // A number that is known to have 16 bits.
 pub fn narrow(x: usize) -> u16
     requires { ⌜ x < 2 ^ 16 ⌝ }

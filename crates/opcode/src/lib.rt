@@ -1,6 +1,6 @@
 // Roles and comparisons: the stand-in for the source's `opcode` and `cmp_op` (document 01, 'Sheet').
 ghost use mathlib.Core.Path.{_≡_};
-ghost use Prim.Native.Nat.{_<_, _^_};
+ghost use Prim.Native.Nat.{_<_};
 ghost use Rattle.definition.specs.Opcode.{arithmetic, logic, binaryRole, unaryRole, size, number, traits, shift, negate, commute, compareIndex};
 ghost use Rattle.definition.specs.Rules.{roleNumbered};
 ghost use Rattle.opcode.specs.View.{arithmeticView, boolView, binaryView, unaryView, compareView, roleView, effectView, AreTraits};
@@ -113,11 +113,11 @@ pub struct Traits {
 }
 
 impl Effect {
-    // A height after it. Heights may pass 16 bits and stay below 32.
-    pub fn shift(self, height: usize) -> usize
-        requires { ⌜ height < 2 ^ 32 ⌝ }
+    // A height after it; one above the largest of 32 bits is a height too.
+    pub fn shift(self, height: u32) -> u64
         ensures { λ r. ⌜ r ≡ shift (effectView self) height ⌝ }
     {
+        let height = height as u64;
         match self {
             Effect::Up => height + 1,
             Effect::Down => { if height == 0 { 0 } else { height - 1 } }

@@ -1,12 +1,10 @@
 -- The entry that is called alone: 14, 7 and 9 before the rest.
 use mathlib.Core.Path.{_≡_, refl, sym, _∙_}
-use mathlib.Core.Bool.{Bool, true, false, _&&_}
+use mathlib.Core.Bool.{true, false}
 use mathlib.Core.Option.{Option, some, none}
 use mathlib.Core.List.{List}
-use Prim.Native.Nat.{ℕ, _*_, _≤_, _<_}
+use Prim.Native.Nat.{ℕ, _*_}
 use native.Mathlib.Omega.{arith}
-use borrow.Author.Tests.{le-leb, lt-leb, leb-true}
-use lib.Dec.{leb}
 use lib.ListN.{length}
 use Rattle.definition.specs.Limits.{maxCode, maxProtected, maxLines, entrySize, badSheet, outputShort}
 use Rattle.definition.specs.Res.{Res, ok, refuse, _>>=_, _>>_, demand, given}
@@ -16,6 +14,7 @@ use Rattle.definition.specs.Rules.{Rule, readRules}
 use Rattle.definition.specs.Compile.{Free}
 use Rattle.definition.specs.Alone as alone
 use Rattle.definition.specs.Alone.{Given, Room, roomy, rewriteFiles, rewriteInto, answer, Rewrites}
+use Rattle.store.proofs.Rooms.{have-room}
 use Rattle.opcode.specs.declared.sheet.SheetRead.{SheetRead}
 use Rattle.opcode.specs.declared.sheet.SheetRead.the-variants.{Accepted, Refused}
 use Rattle.opcode.specs.Table.{IsTable, sheetIn}
@@ -47,7 +46,7 @@ read-from text table count (refuse m p) e q h = absurd (let z : _≡_ {A = ℕ} 
 pub rules-read : {text table : List ℕ} {r : RuleAnswer} {count : ℕ} → Answered rules.tableSize (readRules text) r table → r ≡ answers.Rules count → Read text table count
 rules-read {text} {table} {count = count} a e = read-from text table count (readRules text) refl (sym e ∙ a .is) (a .holds)
 
-rules-bad : (x : Res (List Rule)) (m p : ℕ) → answers.Refused m p ≡ rules.answerOf x → x ≡ refuse m p
+pub rules-bad : (x : Res (List Rule)) (m p : ℕ) → answers.Refused m p ≡ rules.answerOf x → x ≡ refuse m p
 unfolding rules.answerOf
 rules-bad (ok rs) m p e = absurd (let z : _≡_ {A = ℕ} 0 1 = cc in omega arith)
 rules-bad (refuse n q) m p e =
@@ -68,32 +67,14 @@ module _ (s : Sheet) (text : List ℕ) (g : Given) (r : Room) {a : alone.Answer}
 
 -- ---- 14
 
--- the test of the lent outputs
-module _ (bytes offsets entries : ℕ) where
-  pub no-bytes : bytes < maxCode → false ≡ roomy (roomOf bytes offsets entries)
-  unfolding roomy
-  no-bytes h = rw (lt-leb _ _ h)
-
-  module _ (b : maxCode ≤ bytes) where
-    pub no-offsets : offsets < maxProtected → false ≡ roomy (roomOf bytes offsets entries)
-    unfolding roomy
-    no-offsets h = rw (le-leb _ _ b, lt-leb _ _ h)
-
-    pub by-entries : maxProtected ≤ offsets → leb (maxLines * entrySize) entries ≡ roomy (roomOf bytes offsets entries)
-    unfolding roomy
-    by-entries h = rw (le-leb _ _ b, le-leb _ _ h)
-
 pub roomy-is : {r : Room} → roomy r ≡ true → Roomy r
 unfolding roomy
-roomy-is {r} = go (leb maxCode (r .code)) refl (leb maxProtected (r .protected)) refl
-  where
-    go : (t : Bool) → leb maxCode (r .code) ≡ t → (u : Bool) → leb maxProtected (r .protected) ≡ u → t && (u && leb (maxLines * entrySize) (r .lines)) ≡ true → Roomy r
-    go true a true b e = record { code = leb-true _ _ a; protected = leb-true _ _ b; lines = leb-true _ _ e }
-    go true a false b e = absurd (let z : _≡_ {A = ℕ} 0 1 = cc in omega arith)
-    go false a u b e = absurd (let z : _≡_ {A = ℕ} 0 1 = cc in omega arith)
+roomy-is {r} e =
+    let h = have-room (r .code) (r .protected) (r .lines) maxCode maxProtected (maxLines * entrySize) e in
+    record { code = h .first; protected = h .second; lines = h .third }
 
 -- a place at fault, if the sheet is bad
-place-by : (sheet : List ℕ) (o : Option Sheet) → readSheet sheet ≡ o → (n : ℕ) × Free sheet n
+pub place-by : (sheet : List ℕ) (o : Option Sheet) → readSheet sheet ≡ o → (n : ℕ) × Free sheet n
 unfolding Free
 place-by sheet none e = let f = some-fault sheet e in (f .0, λ _. f .1)
 place-by sheet (some s) e = (0, λ q. absurd (let z : _≡_ {A = ℕ} 0 1 = cc in omega arith))

@@ -53,13 +53,14 @@ fn refuse(
 fn roomy(bytes: usize, offsets: usize, entries: usize) -> bool
     ensures { λ r. ⌜ r ≡ roomy (roomOf bytes offsets entries) ⌝ }
 {
-    if bytes < MAX_CODE {
-        return false;
-    }
-    if offsets < MAX_PROTECTED {
-        return false;
-    }
-    entries >= MAX_LINES * ENTRY_SIZE
+    store::have_room(
+        bytes,
+        offsets,
+        entries,
+        MAX_CODE,
+        MAX_PROTECTED,
+        MAX_LINES * ENTRY_SIZE,
+    )
 }
 
 // The refusal of what is over its limit, 10, 11 or 12; 0 if nothing is.

@@ -3,35 +3,28 @@ use mathlib.Core.Path.{_≡_, refl, ap, sym, _∙_}
 use mathlib.Core.Bool.{false}
 use mathlib.Core.List.{List, []}
 use mathlib.Core.Option.{Option, some, none}
-use Prim.Native.Nat.{ℕ, _*_, _-_}
+use Prim.Native.Nat.{ℕ}
 use native.Mathlib.Omega.{arith}
 use borrow.Author.Tests.{ne-eqb}
 use lib.Dec.{eqb}
-use lib.ListN.{length, take}
-use Rattle.definition.specs.Limits.{maxCode, entrySize, badSheet, badRule}
+use Rattle.definition.specs.Limits.{maxCode, badSheet, badRule}
 use Rattle.definition.specs.Res.{Res, ok, refuse, _>>=_, _>>_, demand, given, open-Res}
 use Rattle.definition.specs.Opcode.{Sheet}
 use Rattle.definition.specs.Sheet.{readSheet}
-use Rattle.definition.specs.Emit.{LineEntry}
 use Rattle.definition.specs.Rules.{Rule, readRules}
 use Rattle.definition.specs.Rewrite.{decode, cut as cutBytes, endFrom, boundariesFrom}
-use Rattle.definition.specs.Lent.{filled, entryNumbers, firstEntries, entriesOf}
+use Rattle.definition.specs.Lent.{firstEntries, entriesOf}
 use Rattle.definition.specs.Alone.{Given, Rewritten, answer, boundaries, checked, rewritten, rewriteFiles, rewriteInto, roomy}
 use Rattle.definition.specs.Passes.{malformedLine, refusalLine, text}
 use Rattle.rules.proofs.File.{no-rules}
-use Rattle.line_map.proofs.Entries.{length-numbers, entries-back}
 use Rattle.store.specs.Store.{contents}
 use Rattle.store.proofs.Fills.{front-of}
-use Rattle.passes_machine.specs.Machine.{Stores, Ending, whole, cut, countless, givenIn, concludedAs}
+use Rattle.input_machine.specs.Machine.{Stores, Ending, whole, cut, countless, givenIn, concludedAs}
 use Rattle.text.specs.Text.{instructionsBy}
-use Rattle.passes_answer.specs.View.{handedRules, handed, nothingGiven, fullRoom, wholeText, endingText, answerText}
+use Rattle.text.proofs.Told.{entries-of}
+use Rattle.input_reader.specs.View.{handedRules}
+use Rattle.passes_answer.specs.View.{handed, nothingGiven, fullRoom, wholeText, endingText, answerText}
 use Rattle.passes_answer.proofs.Refusing.{Proper, Properly, readRules-proper, files-proper}
-
--- ---- what outputs give back
-
-entries-of : (room : ℕ) (ls : List LineEntry) → entriesOf (take (length ls * entrySize) (filled room (entryNumbers ls))) ≡ ls
-entries-of room ls =
-    ap (λ (n : ℕ). entriesOf (take n (filled room (entryNumbers ls)))) (sym (length-numbers ls)) ∙ ap entriesOf (front-of room (entryNumbers ls) refl) ∙ entries-back ls
 
 -- ---- refusals
 

@@ -1,54 +1,28 @@
 -- What is handed over, and what is put for an answer.
 use mathlib.Core.Path.{_≡_, refl, ap, sym, _∙_}
 use mathlib.Core.Bool.{Bool, true, false}
-use mathlib.Core.List.{List, [], _∷_, _++_}
+use mathlib.Core.List.{List, [], _∷_}
 use mathlib.Core.Option.{Option}
-use Prim.Native.Nat.{ℕ, _*_, _≤_, min}
-use native.Mathlib.Nat.{min-le-right}
-use native.Mathlib.Omega.{arith}
+use Prim.Native.Nat.{ℕ, _*_, min}
 use borrow.Author.Tests.{eq-eqb, ne-eqb}
 use lib.ListN.{length, take}
-use lib.Seq.{length-take-le}
 use Rattle.definition.specs.Limits.{entrySize}
 use Rattle.definition.specs.Opcode.{Sheet}
 use Rattle.definition.specs.Lent.{entriesOf}
 use Rattle.definition.specs.Alone.{Room, Answer, Rewrites}
 use Rattle.definition.specs.Listing.{numberLine, entryLines}
 use Rattle.definition.specs.Passes.{offsetLines}
-use Rattle.store.specs.Store.{Store, at, contents, pushAll}
-use Rattle.store.proofs.Stores.{pushAll-append}
+use Rattle.store.specs.Store.{Store, contents, pushAll}
 use Rattle.store.proofs.Fills.{take-least}
-use Rattle.passes_machine.specs.Machine.{Stores, Ending, whole, cut, countless, givenIn}
+use Rattle.input_machine.specs.Machine.{Stores, Ending, whole, cut, countless, givenIn}
 use Rattle.text.specs.Text.{instructionsBy}
 use Rattle.optimize.specs.View.{given}
-use Rattle.passes_answer.specs.View.{handedRules, handed, handedCount, isWhole, isCounted, wholeText, endingText, answerText}
-
--- ---- a part of a buffer
-
-pub handed-used : (used : ℕ) (cells : List ℕ) → take (handedCount true used (length cells)) cells ≡ contents (at cells used)
-unfolding handedCount contents
-handed-used used cells = take-least used cells
-
-handed-none : (used : ℕ) (cells : List ℕ) → take (handedCount false used (length cells)) cells ≡ []
-unfolding handedCount
-handed-none used cells = refl
-
-pub handed-within : (b : Bool) (used room : ℕ) → handedCount b used room ≤ room
-unfolding handedCount
-handed-within true used room = min-le-right used room
-handed-within false used room = omega arith
+use Rattle.passes_answer.specs.View.{handed, isWhole, wholeText, endingText, answerText}
+use Rattle.input_reader.specs.View.{isCounted, handedCount, handedRules}
+use Rattle.input_reader.proofs.Handing.{handed-used, handed-none, rules-handed, part}
+use Rattle.text.proofs.Puts.{put-four}
 
 -- ---- by the ending
-
-rules-handed : (e : Ending) (s : Stores) → take (handedCount (isCounted e) (s .rules .used) (length (s .rules .cells))) (s .rules .cells) ≡ handedRules e s
-unfolding isCounted handedRules
-rules-handed whole s = handed-used (s .rules .used) (s .rules .cells)
-rules-handed (cut n) s = handed-used (s .rules .used) (s .rules .cells)
-rules-handed countless s = handed-none (s .rules .used) (s .rules .cells)
-
--- the elements of a store that are handed over
-abbrev pub part : Bool → Store → List ℕ
-part b s = take (handedCount b (s .used) (length (s .cells))) (s .cells)
 
 given-handed : (e : Ending) (s : Stores) → given (part (isWhole e) (s .code)) (part (isWhole e) (s .offsets)) (part (isWhole e) (s .entries)) ≡ handed e s
 unfolding isWhole handed givenIn
@@ -57,12 +31,6 @@ given-handed (cut n) s = rw (handed-none (s .code .used) (s .code .cells), hande
 given-handed countless s = rw (handed-none (s .code .used) (s .code .cells), handed-none (s .offsets .used) (s .offsets .cells), handed-none (s .entries .used) (s .entries .cells)) refl
 
 -- ---- what is put
-
--- parts put one behind the other
-pub four : (A B C D : List ℕ) (s : Store) {s1 s2 s3 s4 : Store} → s1 ≡ pushAll s A → s2 ≡ pushAll s1 B → s3 ≡ pushAll s2 C → s4 ≡ pushAll s3 D → s4 ≡ pushAll s (A ++ B ++ C ++ D)
-four A B C D s a b c d = d
-    ∙ ap (λ (t : Store). pushAll t D) (c ∙ ap (λ (t : Store). pushAll t C) (b ∙ ap (λ (t : Store). pushAll t B) a ∙ sym (pushAll-append s A B)) ∙ sym (pushAll-append s (A ++ B) C))
-    ∙ sym (pushAll-append s (A ++ B ++ C) D)
 
 pub whole-put : (sheet : Option Sheet) (a : Answer) (s : Store) {k m n : ℕ} {s1 s2 s3 s4 : Store}
     → n ≡ min (a .codeLength) (length (a .code))
@@ -78,7 +46,7 @@ whole-put sheet a s {s1 = s1} {s2 = s2} {s3 = s3} {s4 = s4} en ek em p q r t =
     let q : s2 ≡ pushAll s1 (offsetLines (take (a .protectedCount) (a .protected))) = rw (← take-least (a .protectedCount) (a .protected), ← ek) q in
     let r : s3 ≡ pushAll s2 (entryLines (entriesOf (take (a .entryCount * entrySize) (a .lines)))) = rw (← take-least (a .entryCount * entrySize) (a .lines), ← em) r in
     let t : s4 ≡ pushAll s3 (instructionsBy sheet (take (a .codeLength) (a .code))) = rw (← take-least (a .codeLength) (a .code), ← en) t in
-    four _ _ _ _ s p q r t
+    put-four _ _ _ _ s p q r t
 
 pub refusal-put : (e : Ending) (sheet : Option Sheet) (a : Answer) (s : Store) {t : Store} → (a .number ≡ 0 → ⊥) → t ≡ pushAll s (numberLine (a .number) (a .place ∷ [])) → t ≡ pushAll s (answerText e sheet a)
 unfolding answerText
@@ -91,12 +59,6 @@ not-refused e sheet a z = rw (eq-eqb (a .number) 0 z, answerText)
 
 pub ending-put : (e v : Ending) (sheet : Option Sheet) (a : Answer) (s : Store) {t : Store} → v ≡ e → a .number ≡ 0 → t ≡ pushAll s (endingText e sheet a) → t ≡ pushAll s (answerText v sheet a)
 ending-put e v sheet a s h z p = p ∙ sym (ap (λ (w : Ending). pushAll s (answerText w sheet a)) h ∙ ap (pushAll s) (not-refused e sheet a z))
-
-pub part-long : (n : ℕ) (l : List ℕ) (r : ℕ) → r ≡ min n (length l) → r ≡ length (take r l)
-part-long n l r e = sym (length-take-le r l (rw e (min-le-right n (length l))))
-
-pub handed-long : (b : Bool) (used : ℕ) (l : List ℕ) (r : ℕ) → r ≡ handedCount b used (length l) → r ≡ length (take r l)
-handed-long b used l r e = sym (length-take-le r l (rw e (handed-within b used (length l))))
 
 -- the call on the parts that were computed is the call on what is handed over
 pub read-by : {room : Room} {a : Answer} (e v : Ending) (s : Stores) {counted all : Bool} {na nb nc nd ne : ℕ} → v ≡ e → counted ≡ isCounted v → all ≡ isWhole v

@@ -16,11 +16,12 @@ use Rattle.definition.specs.Rules.{isEmpty, readRule, rulesFrom, readRules}
 use Rattle.definition.specs.Rewrite.{decode, endFrom, boundariesFrom}
 use Rattle.definition.specs.Lent.{entriesOf}
 use Rattle.definition.specs.Alone.{Given, Rewritten, boundaries, checked, rewritten, rewriteFiles}
+use Rattle.definition.specs.Passes.{malformedLine}
 
 -- a refusal's number lies between 0 and that of a malformed line
 pub record Proper (n : ℕ) : Type 0 where
   pub positive : 0 < n
-  pub small : n < 63
+  pub small : n < malformedLine
 
 unfoldable pub Properly : {A : Type 0} → Res A → Type 0
 Properly (ok a) = Unit {0}

@@ -1,38 +1,29 @@
 -- The text is never longer than textRoom.
 use mathlib.Core.Path.{_≡_, refl, ap, sym, _∙_}
 use mathlib.Core.List.{List}
-use Prim.Native.Nat.{ℕ, _*_, _-_, _≤_, _<_}
+use Prim.Native.Nat.{ℕ, _*_, _-_, _^_, _≤_, _<_}
 use native.Mathlib.Omega.{arith}
-use lib.ListN.{length, getD, length-append}
+use lib.ListN.{length, getD}
 use Rattle.definition.specs.Limits.{maxCode, maxProtected, maxLines, entrySize, badSheet, badRule}
 use Rattle.definition.specs.Res.{Res, ok, refuse, given}
 use Rattle.definition.specs.Opcode.{Sheet}
 use Rattle.definition.specs.Sheet.{readSheet}
 use Rattle.definition.specs.Rules.{readRules}
-use Rattle.definition.specs.Lent.{zeros, filled, entryNumbers}
+use Rattle.definition.specs.Lent.{entryNumbers}
 use Rattle.definition.specs.Alone.{Rewritten, Answer, answer, rewriteFiles, rewriteInto}
 use Rattle.definition.specs.Passes.{malformedLine, text}
 use Rattle.field.proofs.Results.{never, ok-is, ok-bind}
 use Rattle.line_map.proofs.Entries.{length-numbers}
 use Rattle.store.specs.Store.{contents}
-use Rattle.store.proofs.Fills.{small-front}
 use Rattle.text.specs.Text.{textRoom}
 use Rattle.text.proofs.Room.{Small, text-fits, refusal-fits}
-use Rattle.passes_machine.specs.Machine.{Stores, Ending, whole, cut, countless, givenIn, concludedAs}
-use Rattle.passes_answer.specs.View.{handedRules, handed, fullRoom, Known}
+use Rattle.input_machine.specs.Machine.{Stores, Ending, whole, cut, countless, givenIn, concludedAs}
+use Rattle.passes_answer.specs.View.{handed, fullRoom, Known}
+use Rattle.input_reader.specs.View.{handedRules}
+use Rattle.text.proofs.Told.{filled-room, small-start}
 use Rattle.passes_answer.proofs.Conclusion.{into-files}
 
--- ---- what an output holds at its start is as small as the output
-
-filled-room : (room : ℕ) (xs : List ℕ) → length (filled room xs) ≡ room → length xs ≤ room
-unfolding filled
-filled-room room xs e =
-    let l = length-append xs (zeros (room - length xs)) in
-    omega (arith, e, l)
-
-small-start : (room m : ℕ) (xs : List ℕ) → 0 < m → ((i : ℕ) → getD (filled room xs) i 0 < m) → (i : ℕ) → getD xs i 0 < m
-unfolding filled
-small-start room m xs = small-front m xs (zeros (room - length xs))
+-- ---- an answer within the limits
 
 pub record Sized (a : Answer) : Type 0 where
   pub code : length (a .code) ≡ maxCode
@@ -47,9 +38,9 @@ small r a e z k =
       code = filled-room maxCode (r .code) (rw (← ap (λ (x : Answer). x .code) e) (z .code));
       protected = filled-room maxProtected (r .protected) (rw (← ap (λ (x : Answer). x .protected) e) (z .protected));
       lines = omega (arith, lines, length-numbers (r .lineMap));
-      bytes = small-start maxCode 256 (r .code) (omega arith) (rw (← ap (λ (x : Answer). x .code) e) (k .code));
-      offsets = small-start maxProtected 65536 (r .protected) (omega arith) (rw (← ap (λ (x : Answer). x .protected) e) (k .protected));
-      entries = small-start (maxLines * entrySize) 65536 (entryNumbers (r .lineMap)) (omega arith) (rw (← ap (λ (x : Answer). x .lines) e) (k .numbers));
+      bytes = small-start maxCode (2 ^ 8) (r .code) (omega arith) (rw (← ap (λ (x : Answer). x .code) e) (k .code));
+      offsets = small-start maxProtected (2 ^ 16) (r .protected) (omega arith) (rw (← ap (λ (x : Answer). x .protected) e) (k .protected));
+      entries = small-start (maxLines * entrySize) (2 ^ 16) (entryNumbers (r .lineMap)) (omega arith) (rw (← ap (λ (x : Answer). x .lines) e) (k .numbers));
     }
 
 -- ---- what is concluded

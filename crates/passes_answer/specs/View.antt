@@ -1,29 +1,20 @@
 -- How the machine's end is answered: what is handed to rewriting called alone, and the text made of its answer.
-use Prim.Native.Nat.{ℕ, _*_, _≤_, _<_, min}
-use mathlib.Core.Path.{_≡_}
+use Prim.Native.Nat.{ℕ, _*_, _^_, _<_}
 use mathlib.Core.Bool.{Bool, true, false}
 use mathlib.Core.List.{List, [], _∷_, _++_}
 use mathlib.Core.Option.{Option}
 use lib.Dec.{eqb}
-use lib.ListN.{length, take, getD}
+use lib.ListN.{take, getD}
 use Rattle.definition.specs.Limits.{maxCode, maxProtected, maxLines, entrySize, badRule}
 use Rattle.definition.specs.Opcode.{Sheet}
-use Rattle.definition.specs.Res.{Res}
-use Rattle.definition.specs.Lent.{filled, entriesOf}
-use Rattle.definition.specs.Compile.{Free}
-use Rattle.definition.specs.Alone.{Given, Room, Answer, Rewritten}
+use Rattle.definition.specs.Lent.{entriesOf}
+use Rattle.definition.specs.Alone.{Given, Room, Answer}
 use Rattle.definition.specs.Listing.{numberLine, entryLines}
-use Rattle.definition.specs.Passes.{malformedLine, offsetLines, refusalLine, text}
-use Rattle.store.specs.Store.{contents}
-use Rattle.passes_machine.specs.Machine.{Stores, Ending, whole, cut, countless, givenIn}
-use Rattle.text.specs.Text.{instructionsBy, textRoom}
+use Rattle.definition.specs.Passes.{malformedLine, offsetLines, refusalLine}
+use Rattle.input_machine.specs.Machine.{Stores, Ending, whole, cut, countless, givenIn}
+use Rattle.text.specs.Text.{instructionsBy}
 
 -- ---- what is handed over: only what the ending leaves to be read
-
-unfoldable pub handedRules : Ending → Stores → List ℕ
-handedRules whole s = contents (s .rules)
-handedRules (cut n) s = contents (s .rules)
-handedRules countless s = []
 
 abbrev pub nothingGiven : Given
 nothingGiven = record { code = []; protected = []; lines = [] }
@@ -55,36 +46,15 @@ endingText countless sheet a = numberLine badRule (0 ∷ [])
 unfoldable pub answerText : Ending → Option Sheet → Answer → List ℕ
 answerText e sheet a = elim (eqb (a .number) 0) [ true ↦ endingText e sheet a | false ↦ numberLine (a .number) (a .place ∷ []) ]
 
--- ---- what is printed
-
--- an output of textRoom bytes that holds the text of a result, all of it, and then 0; the text's length is answered. All is fixed but 7's place, which is
--- one at fault in the sheet
-pub record Told (sheet : List ℕ) (result : ℕ → Res (Sheet × Rewritten)) (out : List ℕ) (r : ℕ) : Type 0 where
-  pub place : ℕ
-  pub free : Free sheet place
-  pub is : out ≡ filled textRoom (text (result place))
-  pub end : r ≡ length (text (result place))
-  pub fits : r ≤ textRoom
-
 -- what the types of the outputs say of their elements
 pub record Known (bytes moved lines : List ℕ) : Type 0 where
-  pub code : (i : ℕ) → getD bytes i 0 < 256
-  pub protected : (i : ℕ) → getD moved i 0 < 65536
-  pub numbers : (i : ℕ) → getD lines i 0 < 65536
+  pub code : (i : ℕ) → getD bytes i 0 < 2 ^ 8
+  pub protected : (i : ℕ) → getD moved i 0 < 2 ^ 16
+  pub numbers : (i : ℕ) → getD lines i 0 < 2 ^ 16
 
 -- ---- what this crate's functions hand over
-
--- those elements of a buffer that are used, if they are to be read
-unfoldable pub handedCount : Bool → ℕ → ℕ → ℕ
-handedCount true used room = min used room
-handedCount false used room = 0
 
 unfoldable pub isWhole : Ending → Bool
 isWhole whole = true
 isWhole (cut n) = false
 isWhole countless = false
-
-unfoldable pub isCounted : Ending → Bool
-isCounted whole = true
-isCounted (cut n) = true
-isCounted countless = false

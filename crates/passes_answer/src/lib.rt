@@ -1,29 +1,29 @@
 // The end of the passes program's input: what was read is rewritten, and the text of the answer is put into a lent output.
 ghost use mathlib.Core.Path.{_≡_};
-ghost use Prim.Native.Nat.{_*_, min};
-ghost use Rattle.definition.specs.Limits.{entrySize};
 ghost use Rattle.definition.specs.Sheet.{readSheet};
 ghost use Rattle.definition.specs.Alone.{Rewrites};
 ghost use Rattle.store.specs.Store.{at, contents, pushAll};
 ghost use Rattle.definition.specs.Listing.{cutLine};
-ghost use Rattle.definition.specs.Passes.{passed};
-ghost use Rattle.passes_machine.specs.Machine.{ending, concluded};
-ghost use Rattle.passes_reader.specs.View.{headView, endingView, storesView, stateView};
+ghost use Rattle.definition.specs.Passes.{passed, text};
+ghost use Rattle.input_machine.specs.Machine.{ending, concluded};
+ghost use Rattle.input_reader.specs.View.{headView, endingView, storesView, stateView, handedRules};
 ghost use Rattle.optimize.specs.View.{answerView, room};
-ghost use Rattle.passes_answer.specs.View.{handedRules, handed, handedCount, isWhole, isCounted, wholeText, answerText, Known, Told};
+ghost use Rattle.passes_answer.specs.View.{handed, isWhole, wholeText, answerText, Known};
+ghost use Rattle.text.specs.Text.{textRoom, Told};
 use definition::BAD_RULE;
 use definition::ENTRY_SIZE;
 use definition::MAX_CODE;
 use definition::MAX_LINES;
 use definition::MAX_PROTECTED;
+use input_reader::CODE_ROOM;
+use input_reader::ENTRY_ROOM;
+use input_reader::Ending;
+use input_reader::OFFSET_ROOM;
+use input_reader::Phase;
+use input_reader::RULE_ROOM;
+use input_reader::Reader;
+use input_reader::SHEET_ROOM;
 use optimize::Answer;
-use passes_reader::CODE_ROOM;
-use passes_reader::ENTRY_ROOM;
-use passes_reader::Ending;
-use passes_reader::OFFSET_ROOM;
-use passes_reader::RULE_ROOM;
-use passes_reader::Reader;
-use passes_reader::SHEET_ROOM;
 use text::TEXT_ROOM;
 
 // Numbers that a full line list takes.
@@ -37,23 +37,6 @@ fn is_whole(e: Ending) -> bool
         Ending::Cut(_) => false,
         Ending::Countless => false,
     }
-}
-
-fn is_counted(e: Ending) -> bool
-    ensures { λ r. ⌜ r ≡ isCounted (endingView e) ⌝ }
-{
-    match e {
-        Ending::Whole => true,
-        Ending::Cut(_) => true,
-        Ending::Countless => false,
-    }
-}
-
-// How many elements of a buffer are handed over.
-fn handed_count(read: bool, used: usize, room: usize) -> usize
-    ensures { λ r. ⌜ r ≡ handedCount read used room ⌝ }
-{
-    if read { numbers::least(used, room) } else { 0 }
 }
 
 // What was read, rewritten: all of it after a whole input; else only the sheet and the rules can be refused.
@@ -71,14 +54,14 @@ fn rewrite_read(
     ensures { λ r. ⌜ Rewrites (room (now (bytes .entry)) (now (moved .entry)) (now (lines .entry))) (contents (at (now (sheet .entry)) (reader .used .sheet))) (handedRules (ending (headView (reader .head))) (storesView (reader .used) (now (sheet .entry)) (now (rules .entry)) (now (code .entry)) (now (offsets .entry)) (now (entries .entry)))) (handed (ending (headView (reader .head))) (storesView (reader .used) (now (sheet .entry)) (now (rules .entry)) (now (code .entry)) (now (offsets .entry)) (now (entries .entry)))) (answerView r (now (bytes .exit)) (now (moved .exit)) (now (lines .exit))) ⌝ }
 {
     let used = reader.used;
-    let end = passes_reader::ending_of(reader.head);
-    let counted = is_counted(end);
+    let end = input_reader::ending_of(reader.head);
+    let counted = input_reader::is_counted(end);
     let whole = is_whole(end);
-    let a = handed_count(true, used.sheet, sheet.len());
-    let b = handed_count(counted, used.rules, rules.len());
-    let c = handed_count(whole, used.code, code.len());
-    let d = handed_count(whole, used.offsets, offsets.len());
-    let e = handed_count(whole, used.entries, entries.len());
+    let a = input_reader::handed_count(true, used.sheet, sheet.len());
+    let b = input_reader::handed_count(counted, used.rules, rules.len());
+    let c = input_reader::handed_count(whole, used.code, code.len());
+    let d = input_reader::handed_count(whole, used.offsets, offsets.len());
+    let e = input_reader::handed_count(whole, used.entries, entries.len());
     optimize::rewrite_alone(
         &sheet[..a],
         &rules[..b],
@@ -89,17 +72,6 @@ fn rewrite_read(
         moved,
         lines,
     )
-}
-
-// Numbers that so many entries take in a list of them.
-fn entry_numbers(entries: usize, room: usize) -> usize
-    ensures { λ r. ⌜ r ≡ min (entries * entrySize) room ⌝ }
-{
-    if entries > room / ENTRY_SIZE {
-        room
-    } else {
-        entries * ENTRY_SIZE
-    }
 }
 
 fn put_whole(
@@ -114,7 +86,7 @@ fn put_whole(
 {
     let n = numbers::least(a.bytes, bytes.len());
     let k = numbers::least(a.protected, moved.len());
-    let m = entry_numbers(a.entries, lines.len());
+    let m = text::entry_numbers(a.entries, lines.len());
     let one = text::put_counts(out, 0, a.bytes as u64, a.protected as u64, a.entries as u64);
     let two = text::put_offsets(out, one, &moved[..k]);
     let three = text::put_entries(out, two, &lines[..m]);
@@ -168,7 +140,7 @@ pub fn finish(
     entries: &[u16],
     out: &mut [u8; TEXT_ROOM],
 ) -> usize
-    ensures { λ r. ⌜ Told (contents (at (now (sheet .entry)) (reader .used .sheet))) (λ place. concluded place (stateView reader (now (sheet .entry)) (now (rules .entry)) (now (code .entry)) (now (offsets .entry)) (now (entries .entry)))) (now (out .exit)) r ⌝ }
+    ensures { λ r. ⌜ Told textRoom text (contents (at (now (sheet .entry)) (reader .used .sheet))) (λ place. concluded place (stateView reader (now (sheet .entry)) (now (rules .entry)) (now (code .entry)) (now (offsets .entry)) (now (entries .entry)))) (now (out .exit)) r ⌝ }
 {
     let mut bytes = [0u8; MAX_CODE];
     let mut moved = [0u16; MAX_PROTECTED];
@@ -184,8 +156,8 @@ pub fn finish(
         &mut moved,
         &mut lines,
     );
-    let end = passes_reader::ending_of(reader.head);
-    let used = handed_count(true, reader.used.sheet, sheet.len());
+    let end = input_reader::ending_of(reader.head);
+    let used = input_reader::handed_count(true, reader.used.sheet, sheet.len());
     let n = put_short(end, a, &sheet[..used], &bytes, &moved, &lines, out);
     store::zero_bytes(out, n);
     n
@@ -193,15 +165,16 @@ pub fn finish(
 
 // The same for an input that is at hand as a whole.
 pub fn answer(input: &[u8], out: &mut [u8; TEXT_ROOM]) -> usize
-    ensures { λ r. ⌜ Told (cutLine (now (input .entry)) .0) (λ place. passed place (now (input .entry))) (now (out .exit)) r ⌝ }
+    ensures { λ r. ⌜ Told textRoom text (cutLine (now (input .entry)) .0) (λ place. passed place (now (input .entry))) (now (out .exit)) r ⌝ }
 {
     let mut sheet = [0u8; SHEET_ROOM];
     let mut rules = [0u8; RULE_ROOM];
     let mut code = [0u8; CODE_ROOM];
     let mut offsets = [0u16; OFFSET_ROOM];
     let mut entries = [0u16; ENTRY_ROOM];
-    let start = passes_reader::start();
-    let reader = passes_reader::feed(
+    let start = input_reader::start();
+    let reader = input_reader::feed(
+        Phase::CodeLine,
         start,
         input,
         &mut sheet,

@@ -2,21 +2,22 @@
 use mathlib.Core.Path.{_≡_, refl, ap, sym, _∙_, fun-ext}
 use mathlib.Core.Bool.{Bool, true, false}
 use mathlib.Core.Option.{Option, some, none}
-use mathlib.Core.List.{List, [], _∷_}
+use mathlib.Core.List.{List, _∷_}
 use Prim.Native.Nat.{ℕ, zero, suc, _+_, _-_, _≤_, _<_}
 use native.Mathlib.Numerals.{sub-one}
 use native.Mathlib.Omega.{arith}
 use borrow.Author.Tests.{ltb-true, eqb-false}
 use lib.Dec.{eqb, ltb}
 use lib.ListN.{length, drop}
-use Rattle.definition.specs.Limits.{badForm, badRange, wrongLines, tooDeep}
+use Rattle.definition.specs.Limits.{wrongLines, tooDeep}
 use Rattle.definition.specs.Res.{Res, ok, refuse, _>>=_}
-use Rattle.definition.specs.Field.{Numbers, wrong, far, are, numbers, split, comma, firstLine}
+use Rattle.definition.specs.Field.{split, comma, firstLine}
 use Rattle.definition.specs.Tree.{Fault, Expr, bad, Stmt, badStmt, Arms, CaseLabel, value, range, badLabel, Pos, Source}
 use Rattle.definition.specs.Program as def
-use Rattle.definition.specs.Program.{Form, Line, is, not, made, byLetter, lineOf, lineAt, refusal, Reader, A, I, S, F, L, X, N, R, K, B, D, O, U, C, H, M, StmtLine, ExprLine, ArmLine, nextLine, faultAt, exprForms, stmtForms, armForms, labelForms, exprOf, exprBy, exprAt, labelBy, labelsAt, blockOf, armBy, armsAt, stmtOf, stmtBy, stmtAt, orElse, faultOfExpr, faultOfLabels, faultOfStmt, faultOfBlock, faultOfArms}
+use Rattle.definition.specs.Program.{Form, Line, is, not, lineOf, lineAt, refusal, Reader, A, I, S, F, L, X, N, R, K, B, D, O, U, C, H, M, StmtLine, ExprLine, ArmLine, nextLine, faultAt, exprForms, stmtForms, armForms, labelForms, exprOf, exprBy, exprAt, labelBy, labelsAt, blockOf, armBy, armsAt, stmtOf, stmtBy, stmtAt, orElse, faultOfExpr, faultOfLabels, faultOfStmt, faultOfBlock, faultOfArms}
 use Rattle.field.specs.View.{Ends}
 use Rattle.field.proofs.Results.{never}
+use Rattle.field.proofs.Refusals.{LineTold, anything, at-told}
 use Rattle.program.specs.declared.Cursor.{Cursor}
 use Rattle.program.specs.declared.Walk.{Walk}
 use Rattle.program.specs.declared.Parts.{Parts}
@@ -143,38 +144,10 @@ module _ (heed : Bool) where
 
 -- ---- lines: what is known of one that is there
 
-made-some : {P : Type 0} (make : List ℕ → P) (x : Numbers) (n : ℕ) → made make x ≡ not n → n ≡ 0 → ⊥
-unfolding made
-made-some make wrong n e z = let q : _≡_ {A = ℕ} badForm 0 = cc in omega arith
-made-some make far n e z = let q : _≡_ {A = ℕ} badRange 0 = cc in omega arith
-made-some make (are ns) n e z = let q : _≡_ {A = ℕ} 1 0 = cc in omega arith
-
-letter-some : {P : Type 0} (forms : List (Form P)) (b : ℕ) (fs : List (List ℕ)) (n : ℕ) → byLetter forms b fs ≡ not n → n ≡ 0 → ⊥
-unfolding byLetter
-letter-some [] b fs n e z = let q : _≡_ {A = ℕ} badForm 0 = cc in omega arith
-letter-some {P} (x ∷ xs) b fs n e z = go (eqb (x .letter) b) e (λ h. letter-some xs b fs n h z)
-  where
-    go : (t : Bool) → _≡_ {A = Line P} (elim t [ true ↦ made (x .make) (numbers (x .fields) fs) | false ↦ byLetter xs b fs ]) (not n) → (byLetter xs b fs ≡ not n → ⊥) → ⊥
-    go true e h = made-some (x .make) _ n e z
-    go false e h = h e
-
--- no line's refusal is 0
-fields-some : {P : Type 0} (forms : List (Form P)) (fs : List (List ℕ)) (n : ℕ) → lineOf forms fs ≡ not n → n ≡ 0 → ⊥
-unfolding lineOf
-fields-some forms [] n e z = let q : _≡_ {A = ℕ} badForm 0 = cc in omega arith
-fields-some forms ([] ∷ fs) n e z = let q : _≡_ {A = ℕ} badForm 0 = cc in omega arith
-fields-some forms ((b ∷ []) ∷ fs) n e z = letter-some forms b fs n e z
-fields-some forms ((b ∷ c ∷ bs) ∷ fs) n e z = let q : _≡_ {A = ℕ} badForm 0 = cc in omega arith
-
 module _ {P : Type 0} (forms : List (Form P)) (left : ℕ) (text : List ℕ) (at : ℕ) where
   pub line-some : (n : ℕ) → lineAt forms left text at ≡ not n → n ≡ 0 → ⊥
-  unfolding lineAt
-  line-some n e z = go (ltb at (length text)) (eqb left 0) e
-    where
-      go : (t u : Bool) → _≡_ {A = Line P} (elim t [ false ↦ not wrongLines | true ↦ elim u [ true ↦ not tooDeep | false ↦ lineOf forms (split comma (firstLine (drop at text))) ] ]) (not n) → ⊥
-      go false u e = let q : _≡_ {A = ℕ} wrongLines 0 = cc in omega arith
-      go true true e = let q : _≡_ {A = ℕ} tooDeep 0 = cc in omega arith
-      go true false e = fields-some forms _ n e z
+  unfolding LineTold
+  line-some n e = let told : LineTold (λ l. Unit {0}) (lineAt forms left text at) = at-told (λ l. Unit {0}) forms left text at (anything forms) in rw e at told
 
   -- a line that is read is there, at a nesting level
   pub line-there : (l : P) → lineAt forms left text at ≡ is l → (at < length text) × (0 < left)

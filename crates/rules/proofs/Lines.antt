@@ -3,7 +3,7 @@ use mathlib.Core.Path.{_≡_, refl, ap, sym, _∙_}
 use mathlib.Core.Bool.{Bool, true, false}
 use mathlib.Core.Option.{some, none}
 use mathlib.Core.List.{List, [], _∷_, _++_, map, append-nil}
-use Prim.Native.Nat.{ℕ, zero, suc, _+_, _-_, _≤_, _<_}
+use Prim.Native.Nat.{ℕ, zero, suc, _+_, _-_, _^_, _≤_, _<_}
 use native.Mathlib.Numerals.{add-one}
 use native.Mathlib.Omega.{arith}
 use native.Mathlib.Decide.{decLt}
@@ -220,7 +220,7 @@ maxima-small (suc (suc (suc (suc (suc (suc (suc (suc zero)))))))) = lit≤ tt
 maxima-small (suc (suc (suc (suc (suc (suc (suc (suc (suc k))))))))) = lit≤ tt
 
 -- a number that was read is one of a table
-pub number-fits : {x : def.Read} (bs : List ℕ) (k : ℕ) {n : ℕ} → x ≡ field (upTo (getD maxima k 0)) bs → x ≡ is n → n < 65536
+pub number-fits : {x : def.Read} (bs : List ℕ) (k : ℕ) {n : ℕ} → x ≡ field (upTo (getD maxima k 0)) bs → x ≡ is n → n < 2 ^ 16
 number-fits bs k a b = let h = up-to-bound bs (getD maxima k 0) (sym a ∙ b) in omega (arith, maxima-small k)
 
 -- ---- the line's answer, from its numbers and their test

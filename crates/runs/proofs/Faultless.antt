@@ -15,7 +15,7 @@ use Rattle.definition.specs.Expr.{emitExpr}
 use Rattle.definition.specs.Stmt.{Loops, jumpTo, continues, isDone, onlyIf, exitWhen, exitUnless, repeatOr, whileOr, Shape, while, repeat, plain, shape, branchUnlessBy, branchUnless, elsePart, testAgainst, testLabel, testLabels, armBody, emitArm, loopBody, endTestBy, emitFor, whileBy, emitWhile, repeatBy, emitRepeat, emitPlain, emitLoop, sourceOf, recordPosition, emitStmt, emitBlock, emitRest, emitArms, emitStmts}
 use Rattle.definition.specs.Claims.{Each, empty, _also_}
 use Rattle.field.proofs.Results.{never}
-use Rattle.runs.proofs.Refusals.{Number}
+use Rattle.field.proofs.Refusals.{Number}
 
 -- ---- calls
 

@@ -1,5 +1,5 @@
 -- Patching writes each branch's offset bytes and nothing else, and a run reads its label's place back from them.
-use Prim.Native.Nat.{ℕ, _+_, _-_, _*_, _/_, _%_, suc, zero, _≤_, _<_}
+use Prim.Native.Nat.{ℕ, _+_, _-_, _*_, _/_, _%_, _^_, suc, zero, _≤_, _<_}
 use mathlib.Core.Path.{_≡_, refl, sym, _∙_, ap, subst}
 use mathlib.Core.List.{List, [], _∷_, _++_, map, append-assoc}
 use mathlib.Core.Bool.{Bool, true, false}
@@ -24,26 +24,26 @@ use Rattle.runs.proofs.Rows.{Row, next-height, bytes-of, place-at, plac
 
 -- what a run makes of two offset bytes that are the number d
 unfoldable pub reached : ℕ → ℕ → Option ℕ
-reached d next = elim (ltb d 32768) [
+reached d next = elim (ltb d (2 ^ 15)) [
   | true ↦ some (next + d)
-  | false ↦ elim (leb (65536 - d) next) [ true ↦ some (next + d - 65536) | false ↦ none ]
+  | false ↦ elim (leb (2 ^ 16 - d) next) [ true ↦ some (next + d - 2 ^ 16) | false ↦ none ]
 ]
 
 -- a target that is near the next place is read back
-reached-near : (t n : ℕ) → t ≤ n + 32767 → n ≤ t + 32768 → reached (displacement t n) n ≡ some t
+reached-near : (t n : ℕ) → t < n + 2 ^ 15 → n ≤ t + 2 ^ 15 → reached (displacement t n) n ≡ some t
 unfolding displacement reached
-reached-near t n a b = near (ltb ((t + 65536 - n) % 65536) 32768) refl
+reached-near t n a b = near (ltb ((t + 2 ^ 16 - n) % (2 ^ 16)) (2 ^ 15)) refl
   where
     d : ℕ
-    d = (t + 65536 - n) % 65536
+    d = (t + 2 ^ 16 - n) % (2 ^ 16)
 
-    back : (c : Bool) → leb (65536 - d) n ≡ c → 32768 ≤ d → elim c [ true ↦ some (n + d - 65536) | false ↦ none ] ≡ some t
-    back true e l = ap (λ x. some x) (let q : n + d - 65536 ≡ t = omega arith in q)
-    back false e l = absurd (let m = leb-false (65536 - d) n e in omega arith)
+    back : (c : Bool) → leb (2 ^ 16 - d) n ≡ c → 2 ^ 15 ≤ d → elim c [ true ↦ some (n + d - 2 ^ 16) | false ↦ none ] ≡ some t
+    back true e l = ap (λ x. some x) (let q : n + d - 2 ^ 16 ≡ t = omega arith in q)
+    back false e l = absurd (let m = leb-false (2 ^ 16 - d) n e in omega arith)
 
-    near : (c : Bool) → ltb d 32768 ≡ c → elim c [ true ↦ some (n + d) | false ↦ elim (leb (65536 - d) n) [ true ↦ some (n + d - 65536) | false ↦ none ] ] ≡ some t
-    near true e = ap (λ x. some x) (let l = ltb-true d 32768 e in let q : n + d ≡ t = omega arith in q)
-    near false e = back (leb (65536 - d) n) refl (ltb-false d 32768 e)
+    near : (c : Bool) → ltb d (2 ^ 15) ≡ c → elim c [ true ↦ some (n + d) | false ↦ elim (leb (2 ^ 16 - d) n) [ true ↦ some (n + d - 2 ^ 16) | false ↦ none ] ] ≡ some t
+    near true e = ap (λ x. some x) (let l = ltb-true d (2 ^ 15) e in let q : n + d ≡ t = omega arith in q)
+    near false e = back (leb (2 ^ 16 - d) n) refl (ltb-false d (2 ^ 15) e)
 
 -- within the code every place is near
 pub reached-back : (t n : ℕ) → t ≤ maxCode → n ≤ maxCode → reached (displacement t n) n ≡ some t

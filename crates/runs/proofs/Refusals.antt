@@ -9,15 +9,11 @@ use lib.ListN.{length, drop}
 use native.Mathlib.Omega.{arith}
 use Rattle.definition.specs.Limits.{badText, badRule, tooDeep, wrongLines, maxNesting}
 use Rattle.definition.specs.Res.{Res, ok, refuse, _>>=_, _>>_, demand, given}
-use Rattle.definition.specs.Field.{comma, split, firstLine, Numbers, wrong, far, are, numbers}
+use Rattle.definition.specs.Field.{comma, split, firstLine}
 use Rattle.definition.specs.Rules.{rulesFrom, readRule}
 use Rattle.definition.specs.Tree.{Source, Fault, Pos, Expr, CaseLabel, value, range, badLabel, Stmt, Arms}
-use Rattle.definition.specs.Program.{Cursor, Form, Line, is, not, Header, StmtLine, A, I, S, F, L, X, N, R, ExprLine, K, B, D, O, U, C, H, ArmLine, M, Reader, made, byLetter, lineOf, lineAt, refusal, nextLine, faultAt, form, headerForms, stmtForms, exprForms, armForms, labelForms, exprOf, exprBy, exprAt, labelBy, labelsAt, blockOf, armBy, armsAt, stmtOf, stmtBy, stmtAt, orElse, faultOfExpr, faultOfLabels, faultOfStmt, faultOfBlock, faultOfArms, headerOf, noFault, topStmts, readProgram}
-use Rattle.definition.specs.Claims.{Each, empty, _also_}
-
--- a number that refuses
-abbrev pub Number : ℕ → Type 0
-Number n = n ≡ 0 → ⊥
+use Rattle.definition.specs.Program.{Cursor, Form, Line, is, not, Header, StmtLine, A, I, S, F, L, X, N, R, ExprLine, K, B, D, O, U, C, H, ArmLine, M, Reader, lineOf, lineAt, refusal, nextLine, faultAt, form, headerForms, stmtForms, exprForms, armForms, labelForms, exprOf, exprBy, exprAt, labelBy, labelsAt, blockOf, armBy, armsAt, stmtOf, stmtBy, stmtAt, orElse, faultOfExpr, faultOfLabels, faultOfStmt, faultOfBlock, faultOfArms, headerOf, noFault, topStmts, readProgram}
+use Rattle.field.proofs.Refusals.{Number, LineTold, Makes, anything, at-told}
 
 -- ---- answers
 
@@ -50,52 +46,6 @@ rules-numbered n (l ∷ m ∷ ls) = numbered-demand _ badRule n _ (λ e. omega a
     (λ q. numbered-bind _ _ (numbered-given (readRule l) badRule n (λ e. omega arith)) (λ r a. numbered-bind _ _ (rules-numbered (n + 1) (m ∷ ls)) (λ rs b. tt)))
 
 -- ---- a program's lines
-
-unfoldable LineTold : {L : Type 0} → (L → Type 0) → Line L → Type 0
-LineTold G (is l) = G l
-LineTold G (not n) = Number n
-
--- what each form makes is of G
-abbrev Makes : {L : Type 0} → (L → Type 0) → List (Form L) → Type 0
-Makes G forms = Each (λ f. (ns : List ℕ) → G (f .make ns)) forms
-
-anything : {T : Type 0} (forms : List (Form T)) → Makes (λ l. Unit {0}) forms
-anything [] = empty
-anything (f ∷ fs) = (λ ns. tt) also anything fs
-
-module _ {T : Type 0} (G : T → Type 0) where
-  made-told : (f : List ℕ → T) (ns : Numbers) → ((xs : List ℕ) → G (f xs)) → LineTold G (made f ns)
-  unfolding made LineTold
-  made-told f wrong g = λ e. omega arith
-  made-told f far g = λ e. omega arith
-  made-told f (are xs) g = g xs
-
-  letter-told : {forms : List (Form T)} (b : ℕ) (fs : List (List ℕ)) → Makes G forms → LineTold G (byLetter forms b fs)
-  unfolding byLetter LineTold
-  letter-told b fs empty = λ e. omega arith
-  letter-told b fs (_also_ {x = x} {xs = xs} g gs) =
-      elim (eqb (x .letter) b) as (λ t. LineTold G (elim t [ true ↦ made (x .make) (numbers (x .fields) fs) | false ↦ byLetter xs b fs ])) [
-        | true ↦ made-told (x .make) (numbers (x .fields) fs) g
-        | false ↦ letter-told b fs gs
-      ]
-
-  line-told : {forms : List (Form T)} (fs : List (List ℕ)) → Makes G forms → LineTold G (lineOf forms fs)
-  unfolding lineOf LineTold
-  line-told [] g = λ e. omega arith
-  line-told ([] ∷ fs) g = λ e. omega arith
-  line-told ((b ∷ []) ∷ fs) g = letter-told b fs g
-  line-told ((b ∷ c ∷ bs) ∷ fs) g = λ e. omega arith
-
-  at-told : (forms : List (Form T)) (left : ℕ) (text : List ℕ) (at : ℕ) → Makes G forms → LineTold G (lineAt forms left text at)
-  unfolding lineAt LineTold
-  at-told forms left text at g =
-      elim (ltb at (length text)) as (λ t. LineTold G (elim t [ false ↦ not wrongLines | true ↦ elim (eqb left 0) [ true ↦ not tooDeep | false ↦ lineOf forms (split comma (firstLine (drop at text))) ] ])) [
-        | false ↦ λ e. omega arith
-        | true ↦ elim (eqb left 0) as (λ t. LineTold G (elim t [ true ↦ not tooDeep | false ↦ lineOf forms (split comma (firstLine (drop at text))) ])) [
-          | true ↦ λ e. omega arith
-          | false ↦ line-told (split comma (firstLine (drop at text))) g
-        ]
-      ]
 
 -- where no level is left there is a refusal
 no-level : {T : Type 0} (forms : List (Form T)) (text : List ℕ) (at : ℕ) → Number (refusal (lineAt forms 0 text at))
@@ -149,8 +99,8 @@ label-more (range a b) ls p q = q
 label-more (badLabel f) ls p q = p
 
 label-forms : Makes (λ l. Told (faultOfLabels (l ∷ []))) labelForms
-unfolding labelForms form faultOfLabels Told
-label-forms = (λ ns. tt) also ((λ ns. tt) also empty)
+unfolding labelForms form faultOfLabels Told Makes
+label-forms = (λ ns. tt, (λ ns. tt, tt))
 
 label-by : (text : List ℕ) (c : Cursor) (l : Line CaseLabel) → LineTold (λ x. Told (faultOfLabels (x ∷ []))) l → Told (faultOfLabels (labelBy text c l .0 ∷ []))
 unfolding labelBy LineTold faultOfLabels faultAt Told

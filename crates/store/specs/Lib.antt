@@ -1,2 +1,3 @@
 pub mod Store
 pub mod Fill
+pub mod Room

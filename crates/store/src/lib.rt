@@ -1,9 +1,25 @@
-// Lent lists of bytes (u8), numbers (u16) and words (u32): set, zeroed, filled from another list; and a buffer that is filled from its start, where
+// Lent lists of bytes (u8), numbers (u16) and words (u32): their room tested, set, zeroed, filled from another list; and a buffer that is filled from its start, where
 // each push answers how many elements are used then, and changes nothing where there is no room.
 ghost use mathlib.Core.Path.{_≡_};
 ghost use lib.ListN.{length};
 ghost use Rattle.store.specs.Store.{push, at};
+ghost use Rattle.store.specs.Room.{haveRoom};
 ghost use Rattle.store.specs.Fill.{setFrom, zeroedFrom, fitted};
+
+// ---- room
+
+// Have three lent lists of these lengths the room that each must have?
+pub fn have_room(first: usize, second: usize, third: usize, a: usize, b: usize, c: usize) -> bool
+    ensures { λ r. ⌜ r ≡ haveRoom first second third a b c ⌝ }
+{
+    if first < a {
+        return false;
+    }
+    if second < b {
+        return false;
+    }
+    third >= c
+}
 
 // ---- one element more
 

@@ -2,15 +2,17 @@
 use mathlib.Core.Path.{_≡_, refl, ap, sym, _∙_}
 use mathlib.Core.Bool.{Bool, true, false}
 use mathlib.Core.List.{List, [], _∷_, _++_, append-assoc}
-use Prim.Native.Nat.{ℕ, zero, suc, _+_, _*_, _/_, _%_, _^_, _≤_, _<_}
+use Prim.Native.Nat.{ℕ, zero, suc, _+_, _-_, _*_, _/_, _%_, _^_, _≤_, _<_}
 use native.Mathlib.Nat.{pow-suc, div-lt-iff-lt-mul}
 use native.Mathlib.Omega.{arith}
 use borrow.Author.Tests.{lt-ltb, le-ltb, ltb-true, ltb-false}
 use lib.Dec.{ltb}
-use Rattle.definition.specs.Field.{digit0}
-use Rattle.definition.specs.Listing.{digitsOnto, decimal}
+use lib.IntN.{pos, negsuc}
+use Rattle.definition.specs.Field.{digit0, minus}
+use Rattle.definition.specs.Iec.{signedOf}
+use Rattle.definition.specs.Listing.{digitsOnto, decimal, signedDecimal}
 use Rattle.store.specs.Store.{Store, at, push, pushAll}
-use Rattle.text.proofs.Puts.{put-then, put-one}
+use Rattle.text.proofs.Puts.{put-first, put-then, put-one}
 
 -- ---- by cases: is it one digit?
 
@@ -75,3 +77,20 @@ put-digit s n d e h p =
 
 pub put-digits : (s : Store) {t u : Store} (n d : ℕ) → n < 10 ^ 20 → d ≡ digit0 + n % 10 → 10 ≤ n → t ≡ pushAll s (decimal (n / 10)) → u ≡ push t d → u ≡ pushAll s (decimal n)
 put-digits s {t} n d few e h p q = rw (decimal-more n few h) (put-then s (decimal (n / 10)) ((digit0 + n % 10) ∷ []) p (put-one t (digit0 + n % 10) (rw e at q)))
+
+-- ---- the number that w bits stand for
+
+module _ (w k : ℕ) where
+  pub signed-positive : k < 2 ^ (w - 1) → signedDecimal (signedOf w k) ≡ decimal k
+  unfolding signedOf signedDecimal
+  signed-positive h = rw (lt-ltb k (2 ^ (w - 1)) h, signedOf)
+
+  pub signed-negative : 2 ^ (w - 1) ≤ k → k < 2 ^ w → signedDecimal (signedOf w k) ≡ minus ∷ decimal (2 ^ w - k)
+  unfolding signedOf signedDecimal
+  signed-negative h few = rw (le-ltb k (2 ^ (w - 1)) h, signedOf) (ap (λ (n : ℕ). minus ∷ decimal n) (let e : suc (2 ^ w - suc k) ≡ 2 ^ w - k = omega arith in e))
+
+  pub put-positive : (s : Store) {t : Store} {n : ℕ} → n ≡ k → n < 2 ^ (w - 1) → t ≡ pushAll s (decimal n) → t ≡ pushAll s (signedDecimal (signedOf w k))
+  put-positive s e h p = rw (signed-positive (rw e at h)) (rw e at p)
+
+  pub put-negative : (s : Store) {t u : Store} {n : ℕ} → n ≡ k → 2 ^ (w - 1) ≤ n → n < 2 ^ w → t ≡ push s minus → u ≡ pushAll t (decimal (2 ^ w - n)) → u ≡ pushAll s (signedDecimal (signedOf w k))
+  put-negative s e h few p q = rw (signed-negative (rw e at h) (rw e at few)) (put-first s minus (decimal (2 ^ w - k)) p (rw e at q))

@@ -2,3 +2,4 @@ pub mod Puts
 pub mod Decimals
 pub mod Lines
 pub mod Room
+pub mod Told

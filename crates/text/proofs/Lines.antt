@@ -1,18 +1,19 @@
 -- Fields and lines put into a store.
-use mathlib.Core.Path.{_≡_, ap, _∙_}
-use mathlib.Core.List.{List, [], _∷_}
-use Prim.Native.Nat.{ℕ, _+_, _-_, _≤_, _<_}
+use mathlib.Core.Path.{_≡_, ap, sym, _∙_}
+use mathlib.Core.List.{List, [], _∷_, _++_, append-assoc}
+use Prim.Native.Nat.{ℕ, suc, _+_, _-_, _≤_, _<_}
 use Prim.Native.Char.{code}
 use native.Mathlib.Numerals.{add-one}
 use native.Mathlib.Omega.{arith}
 use lib.ListN.{length, take, drop, getD, length-drop, drop-of-length-le}
 use lib.Seq.{drop-cons}
-use Rattle.definition.specs.Field.{lf}
+use Rattle.definition.specs.Field.{lf, comma}
+use Rattle.definition.specs.Iec.{signedOf}
 use Rattle.definition.specs.Opcode.{Sheet}
-use Rattle.definition.specs.Limits.{entrySize}
+use Rattle.definition.specs.Limits.{entrySize, width}
 use Rattle.definition.specs.Lent.{oneEntry, entryIn, entriesOf}
 use Rattle.definition.specs.Rewrite.{Bytes, decode}
-use Rattle.definition.specs.Listing.{decimal, fields, numberLine, entryLines, instructionLines}
+use Rattle.definition.specs.Listing.{decimal, signedDecimal, fields, numberLine, constantLines, entryLines, instructionLines}
 use Rattle.definition.specs.Passes.{malformedLine, offsetLines, refusalLine}
 use Rattle.definition.specs.Sheet.{readSheet}
 use Rattle.opcode.specs.declared.sheet.SheetRead.{SheetRead}
@@ -24,7 +25,7 @@ use Rattle.rewrite.specs.View.{firstOf}
 use Rattle.rewrite.proofs.Decoding.{first-is, first-none, first-within}
 use Rattle.store.specs.Store.{Store, at, push, pushAll}
 use Rattle.store.proofs.Stores.{length-push}
-use Rattle.text.specs.Text.{fieldOf, instructionLine, instructionsBy}
+use Rattle.text.specs.Text.{fieldOf, constantLine, instructionLine, instructionsBy}
 use Rattle.text.proofs.Puts.{Putting, put-first, put-then, put-one, put-goes-on, put-ends, put-ends-none, put-long}
 
 -- ---- one line
@@ -75,6 +76,29 @@ offsets-on l s {t} {i = i} {n = n} p e a f h =
 pub offsets-end : (l : List ℕ) (s : Store) {t : Store} {i : ℕ} → Putting (offsetsFrom l) (length l) s t i → length l ≤ i → t ≡ pushAll s (offsetLines l)
 unfolding offsetLines
 offsets-end l s p h = put-ends-none (offsetsFrom l) (length l) s p (rw (drop-of-length-le l h))
+
+-- ---- a line for each constant
+
+pub put-constant : (s : Store) {t v u x : Store} (k : ℕ) → t ≡ push s (code "k") → v ≡ push t comma → u ≡ pushAll v (signedDecimal (signedOf width k)) → x ≡ push u lf → x ≡ pushAll s (constantLine k)
+put-constant s {t} {v} {u} k e f g h =
+    let d = signedDecimal (signedOf width k) in
+    put-first s (code "k") (comma ∷ d ++ (lf ∷ [])) e (put-first t comma (d ++ (lf ∷ [])) f (put-then v d (lf ∷ []) g (put-one u lf h)))
+
+abbrev pub constantsFrom : List ℕ → ℕ → List ℕ
+constantsFrom l i = constantLines (drop i l)
+
+constants-first : (k : ℕ) (l : List ℕ) → constantLines (k ∷ l) ≡ constantLine k ++ constantLines l
+unfolding constantLines
+constants-first k l = ap (λ (x : List ℕ). code "k" ∷ comma ∷ x) (sym (append-assoc (signedDecimal (signedOf width k)) (lf ∷ []) (constantLines l)))
+
+pub constants-on : (l : List ℕ) (s : Store) {t u : Store} {i n : ℕ} → Putting (constantsFrom l) (length l) s t i → n ≡ getD l i 0 → u ≡ pushAll t (constantLine n) → i < length l
+    → Putting (constantsFrom l) (length l) s u (i + 1)
+constants-on l s {i = i} {n = n} p e f h =
+    put-goes-on (constantsFrom l) (length l) s (constantLine n) p f (rw (add-one i, drop-cons l i 0 h, e) (constants-first (getD l i 0) (drop (suc i) l))) (omega arith)
+
+pub constants-end : (l : List ℕ) (s : Store) {t : Store} {i : ℕ} → Putting (constantsFrom l) (length l) s t i → length l ≤ i → t ≡ pushAll s (constantLines l)
+unfolding constantLines
+constants-end l s p h = put-ends-none (constantsFrom l) (length l) s p (rw (drop-of-length-le l h))
 
 -- ---- a line for each entry
 

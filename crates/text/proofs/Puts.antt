@@ -19,6 +19,10 @@ pub put-one : (s : Store) {t : Store} (x : ℕ) → t ≡ push s x → t ≡ pus
 unfolding pushAll
 put-one s x e = e
 
+-- four parts one behind the other
+pub put-four : (A B C D : List ℕ) (s : Store) {s1 s2 s3 s4 : Store} → s1 ≡ pushAll s A → s2 ≡ pushAll s1 B → s3 ≡ pushAll s2 C → s4 ≡ pushAll s3 D → s4 ≡ pushAll s (A ++ B ++ C ++ D)
+put-four A B C D s a b c d = put-then s (A ++ B ++ C) D (put-then s (A ++ B) C (put-then s A B a b) c) d
+
 -- ---- put piece by piece: g i is what is left to put at i
 
 pub record Putting (g : ℕ → List ℕ) (n : ℕ) (s t : Store) (i : ℕ) : Type 0 where

@@ -1,20 +1,24 @@
 // What the listing and the passes program print, put into a lent output as far as there is room. Each function answers how much is used then.
 ghost use mathlib.Core.Path.{_≡_};
 ghost use mathlib.Core.List.{[], _∷_};
-ghost use Prim.Native.Nat.{_+_, _<_};
+ghost use Prim.Native.Nat.{_+_, _*_, _<_, min};
+ghost use Rattle.definition.specs.Limits.{entrySize, width};
 ghost use Rattle.definition.specs.Field.{digit0};
+ghost use Rattle.definition.specs.Iec.{signedOf};
 ghost use Rattle.definition.specs.Sheet.{readSheet};
 ghost use Rattle.definition.specs.Lent.{entriesOf};
 ghost use Rattle.definition.specs.Rewrite.{decode};
-ghost use Rattle.definition.specs.Listing.{decimal, fields, numberLine, entryLines, instructionLines};
+ghost use Rattle.definition.specs.Listing.{decimal, signedDecimal, fields, numberLine, constantLines, entryLines, instructionLines};
 ghost use Rattle.definition.specs.Passes.{malformedLine, offsetLines, refusalLine};
 ghost use Rattle.opcode.specs.Table.{IsTable, sheetIn};
 ghost use Rattle.store.specs.Store.{at, pushAll};
-ghost use Rattle.text.specs.Text.{fieldOf, instructionLine, instructionsBy, textRoom};
+ghost use Rattle.text.specs.Text.{fieldOf, constantLine, instructionLine, instructionsBy, textRoom, listingRoom};
 use definition::ENTRY_SIZE;
 use definition::MAX_CODE;
+use definition::MAX_CONSTANTS;
 use definition::MAX_LINES;
 use definition::MAX_PROTECTED;
+use definition::WIDTH;
 use opcode::sheet;
 use opcode::sheet::SheetRead;
 
@@ -23,6 +27,17 @@ pub const TEXT_ROOM: usize = 33
     + MAX_PROTECTED * 8
     + MAX_LINES * (2 + ENTRY_SIZE * 6)
     + MAX_CODE * 12;
+
+// Bytes that hold any listing.
+pub const LISTING_ROOM: usize = 41
+    + MAX_CONSTANTS * 14
+    + MAX_LINES * (2 + ENTRY_SIZE * 6)
+    + MAX_CODE * 12;
+
+// How many values the width has, and how many of them are negative.
+const VALUES: u64 = 1 << WIDTH;
+
+const NEGATIVES: u64 = 1 << (WIDTH - 1);
 
 const COMMA: u8 = 44;
 
@@ -34,6 +49,12 @@ pub fn text_room() -> usize
     TEXT_ROOM
 }
 
+pub fn listing_room() -> usize
+    ensures { λ r. ⌜ r ≡ listingRoom ⌝ }
+{
+    LISTING_ROOM
+}
+
 // ---- numbers
 
 fn from_byte(n: u8) -> u64
@@ -43,6 +64,12 @@ fn from_byte(n: u8) -> u64
 }
 
 fn from_number(n: u16) -> u64
+    ensures { λ r. ⌜ r ≡ n ⌝ }
+{
+    n as u64
+}
+
+fn from_word(n: u32) -> u64
     ensures { λ r. ⌜ r ≡ n ⌝ }
 {
     n as u64
@@ -72,6 +99,18 @@ pub fn put_decimal(out: &mut [u8], used: usize, n: u64) -> usize
     }
     let behind = put_decimal(out, used, n / 10);
     store::push_byte(out, behind, last)
+}
+
+// The signed number that a value's bits stand for.
+fn put_signed(out: &mut [u8], used: usize, bits: u32) -> usize
+    ensures { λ r. ⌜ at (now (out .exit)) r ≡ pushAll (at (now (out .entry)) used) (signedDecimal (signedOf width bits)) ⌝ }
+{
+    let n = from_word(bits);
+    if n < NEGATIVES {
+        return put_decimal(out, used, n);
+    }
+    let behind = store::push_byte(out, used, b'-');
+    put_decimal(out, behind, VALUES - n)
 }
 
 // ---- fields
@@ -139,6 +178,15 @@ pub fn put_counts(out: &mut [u8], used: usize, a: u64, b: u64, c: u64) -> usize
     put_three(out, behind, a, b, c)
 }
 
+// The first line of a listing: 0, how many bytes it has, its depth, and how many constants and entries.
+pub fn put_sizes(out: &mut [u8], used: usize, a: u64, b: u64, c: u64, d: u64) -> usize
+    ensures { λ r. ⌜ at (now (out .exit)) r ≡ pushAll (at (now (out .entry)) used) (numberLine 0 (a ∷ b ∷ c ∷ d ∷ [])) ⌝ }
+{
+    let zero = put_decimal(out, used, 0);
+    let first = put_field(out, zero, a);
+    put_three(out, first, b, c, d)
+}
+
 // A refusal of the call.
 pub fn put_refusal(out: &mut [u8], used: usize, number: u64, place: u64) -> usize
     ensures { λ r. ⌜ at (now (out .exit)) r ≡ pushAll (at (now (out .entry)) used) (numberLine number (place ∷ [])) ⌝ }
@@ -168,6 +216,40 @@ pub fn put_offsets(out: &mut [u8], used: usize, list: &[u16]) -> usize
         i += 1;
     }
     behind
+}
+
+fn put_constant(out: &mut [u8], used: usize, bits: u32) -> usize
+    ensures { λ r. ⌜ at (now (out .exit)) r ≡ pushAll (at (now (out .entry)) used) (constantLine bits) ⌝ }
+{
+    let start = store::push_byte(out, used, b'k');
+    let comma = store::push_byte(out, start, COMMA);
+    let behind = put_signed(out, comma, bits);
+    store::push_byte(out, behind, LF)
+}
+
+// A line for each constant.
+pub fn put_constants(out: &mut [u8], used: usize, list: &[u32]) -> usize
+    ensures { λ r. ⌜ at (now (out .exit)) r ≡ pushAll (at (now (out .entry)) used) (constantLines (now (list .entry))) ⌝ }
+{
+    let mut behind = used;
+    let mut i = 0;
+    while i < list.len() {
+        let bits = list[i];
+        behind = put_constant(out, behind, bits);
+        i += 1;
+    }
+    behind
+}
+
+// Numbers that so many entries take in a list of them.
+pub fn entry_numbers(entries: usize, room: usize) -> usize
+    ensures { λ r. ⌜ r ≡ min (entries * entrySize) room ⌝ }
+{
+    if entries > room / ENTRY_SIZE {
+        room
+    } else {
+        entries * ENTRY_SIZE
+    }
 }
 
 // A line for each entry, which is ENTRY_SIZE numbers of the list; fewer over are none.

@@ -1,5 +1,5 @@
 -- Made by `answers` from crates/passes/answers/print.txt: edit that file, not this one.
-use Rattle.passes_answer.proofs.Ending.{told-within, told-part}
+use Rattle.text.proofs.Told.{told-within, told-part}
 use borrow.Author.Needs.{needs}
 use Rattle.passes.proofs.print.Statement.{statement}
 use Rattle.passes.proofs.print.Tie as tie

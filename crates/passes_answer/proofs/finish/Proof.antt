@@ -1,7 +1,7 @@
 -- Made by `answers` from crates/passes_answer/answers/finish.txt: edit that file, not this one.
 use mathlib.Core.Path.{refl}
-use Rattle.passes_reader.specs.View.{stateView}
-use Rattle.passes_answer.proofs.Handing.{handed-long}
+use Rattle.input_reader.specs.View.{stateView}
+use Rattle.input_reader.proofs.Handing.{handed-long}
 use Rattle.passes_answer.proofs.Ending.{finished-by}
 use borrow.Author.Needs.{needs}
 use Rattle.passes_answer.proofs.finish.Statement.{statement}

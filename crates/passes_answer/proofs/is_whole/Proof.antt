@@ -1,6 +1,6 @@
 -- Made by `answers` from crates/passes_answer/answers/is_whole.txt: edit that file, not this one.
 use mathlib.Core.Path.{sym, ap}
-use Rattle.passes_reader.specs.View.{endingView}
+use Rattle.input_reader.specs.View.{endingView}
 use Rattle.passes_answer.specs.View.{isWhole}
 use borrow.Author.Needs.{needs}
 use Rattle.passes_answer.proofs.is_whole.Statement.{statement}

@@ -1,7 +1,7 @@
 -- Made by `answers` from crates/passes_answer/answers/put_answer.txt: edit that file, not this one.
 use mathlib.Core.Path.{ap}
-use Rattle.passes_machine.specs.Machine.{whole, cut, countless}
-use Rattle.passes_reader.specs.View.{endingView}
+use Rattle.input_machine.specs.Machine.{whole, cut, countless}
+use Rattle.input_reader.specs.View.{endingView}
 use Rattle.passes_answer.specs.View.{endingText}
 use Rattle.passes_answer.proofs.Handing.{refusal-put, ending-put}
 use borrow.Author.Needs.{needs}

@@ -3,7 +3,8 @@ use native.Mathlib.Omega.{arith}
 use native.Mathlib.Nat.{min-le-right}
 use lib.Seq.{length-take-le}
 use mathlib.Core.Path.{sym}
-use Rattle.passes_answer.proofs.Handing.{whole-put, part-long}
+use Rattle.passes_answer.proofs.Handing.{whole-put}
+use Rattle.text.proofs.Told.{part-long}
 use borrow.Author.Needs.{needs}
 use Rattle.passes_answer.proofs.put_whole.Statement.{statement}
 use Rattle.passes_answer.proofs.put_whole.Tie as tie

@@ -1,6 +1,7 @@
 -- Made by `answers` from crates/passes_answer/answers/rewrite_read.txt: edit that file, not this one.
-use Rattle.passes_reader.specs.View.{storesView}
-use Rattle.passes_answer.proofs.Handing.{handed-long, read-by}
+use Rattle.input_reader.specs.View.{storesView}
+use Rattle.input_reader.proofs.Handing.{handed-long}
+use Rattle.passes_answer.proofs.Handing.{read-by}
 use borrow.Author.Needs.{needs}
 use Rattle.passes_answer.proofs.rewrite_read.Statement.{statement}
 use Rattle.passes_answer.proofs.rewrite_read.Tie as tie

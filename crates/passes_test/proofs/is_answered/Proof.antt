@@ -1,5 +1,5 @@
 -- Made by `answers` from crates/passes_test/answers/is_answered.txt: edit that file, not this one.
-use Rattle.passes_answer.proofs.Ending.{told-within, told-part}
+use Rattle.text.proofs.Told.{told-within, told-part}
 use borrow.Author.Needs.{needs}
 use Rattle.passes_test.proofs.is_answered.Statement.{statement}
 use Rattle.passes_test.proofs.is_answered.Tie as tie

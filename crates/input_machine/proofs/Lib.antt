@@ -1,0 +1,14 @@
+pub mod Text
+pub mod Clip
+pub mod Numbers
+pub mod Readings
+pub mod Kept
+pub mod Frees
+pub mod Scan
+pub mod Count
+pub mod Begin
+pub mod Lists
+pub mod Entries
+pub mod Given
+pub mod Whole
+pub mod Listed

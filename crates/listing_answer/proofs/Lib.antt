@@ -1,0 +1,5 @@
+pub mod Conclusion
+pub mod Handing
+pub mod Short
+pub mod Ending
+pub mod Printing

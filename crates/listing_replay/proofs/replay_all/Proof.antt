@@ -1,0 +1,40 @@
+-- Made by `answers` from crates/listing_replay/answers/replay_all.txt: edit that file, not this one.
+use native.Mathlib.Omega.{arith}
+use Prim.Native.Nat.{_-_, _≤_}
+use lib.ListN.{length}
+use Rattle.listing_replay.proofs.replay_all.Statement.{statement}
+use Rattle.listing_replay.proofs.replay_all.Tie as tie
+use borrow.Author.Needs.{needs}
+
+abbrev Inv-loop : tie.InvT-loop
+Inv-loop input at₀ cases₀ differ₀ at cases differ = (at ≤ length input) × (cases ≤ at) × (differ ≤ cases)
+
+abbrev μ-loop : tie.MeasureT-loop
+μ-loop input at₀ cases₀ differ₀ at cases differ = length input - at
+
+loop-less : tie.Need-loop-less Inv-loop μ-loop
+unfolding μ-loop
+loop-less c = omega (arith, c .before .before .before .before .before .loop-test .taken, c .before .before .before .before .case-at .ensures .ahead)
+
+pub replay-all-spec : {M : Type 1} → statement M
+replay-all-spec =
+    tie.close
+    (tie.spec
+    Inv-loop
+    μ-loop
+    (λ c. search needs)  -- loop-holds
+    (λ c κs. search needs)  -- case-at-requires
+    (λ c. search needs)  -- add-cases
+    (λ c. search needs)  -- sub-is-answered
+    (λ c. search needs)  -- part-is-answered-start
+    (λ c. search needs)  -- part-is-answered-end
+    (λ c. search needs)  -- sub-is-answered-2
+    (λ c. search needs)  -- part-is-answered-start-2
+    (λ c. search needs)  -- part-is-answered-end-2
+    (λ c κs. search needs)  -- is-answered-requires
+    (λ c κs. search needs)  -- missed-requires
+    (λ c. search needs)  -- add-differ
+    loop-less
+    (λ c. (c .before .before .before .before .case-at .ensures .within, omega (arith, c .before .before .before .before .before .before .loop .inv .1, c .before .before .before .before .case-at .ensures .ahead), omega (arith, c .before .before .before .before .before .before .loop .inv .2, c .missed .ensures)))  -- loop-again
+    (λ c κs. search needs)  -- total-requires
+    (λ c. search needs))  -- returns

@@ -1,0 +1,26 @@
+// Replays stored answers for listings (crate replay says how they lie): the number of each case that is answered otherwise, and at the end how many
+// cases there were and how many differ.
+use text::LISTING_ROOM;
+
+fn is_answered(input: &[u8], expected: &[u8]) -> bool {
+    let mut out = [0u8; LISTING_ROOM];
+    let n = listing_answer::answer(input, &mut out);
+    replay::is_same(&out[..n], expected)
+}
+
+pub fn replay_all(input: &[u8]) {
+    let mut at = 0;
+    let mut cases = 0u64;
+    let mut differ = 0u64;
+    while at < input.len() {
+        let case = replay::case_at(input, at);
+        let end = case.end;
+        let answer = case.answer;
+        let stop = case.stop;
+        cases += 1;
+        let same = is_answered(&input[at..end], &input[answer..stop]);
+        differ += replay::missed(cases, same);
+        at = case.next;
+    }
+    replay::total(cases, differ);
+}
