@@ -47,7 +47,6 @@ fn compile_accepted(
     ensures { λ r. ⌜ Ends (compileProgram (sheetIn (now (sheet .entry))) (rulesIn (now (rules .entry)) count) (programOf (now (text .entry)) (record { variables = variables; statements = statements; pos = posView pos }))) (now (code .entry)) (now (constants .entry)) (now (lines .entry)) (now (code .exit)) (now (constants .exit)) (now (lines .exit)) r ⌝ }
 {
     let mut book = [0u16; book::BOOK_SIZE];
-    let mut loops = [0u16; stmt::LOOPS_SIZE];
     let begun = Emitter::new(pos);
     let top = Cursor { at: next, row: 2 };
     let walked = stmt::emit_stmts(
@@ -56,7 +55,6 @@ fn compile_accepted(
         &mut code[..MAX_CODE],
         &mut book,
         &mut constants[..MAX_CONSTANTS],
-        &mut loops,
         variables,
         numbers::wide(statements),
         begun,
