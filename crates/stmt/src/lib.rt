@@ -578,7 +578,7 @@ fn plain(
     Walked { cursor, emitter }
 }
 
-// A WHILE: its body without the IF, of n statements, stands at `rest`.
+// A WHILE: its body without the IF, of n statements, stands at c.
 fn while_(
     text: &[u8],
     sheet: &[u8],
@@ -591,14 +591,14 @@ fn while_(
     n: usize,
     e: Emitter,
     condition: Cursor,
-    rest: Cursor,
+    c: Cursor,
 ) -> Walked
     requires { ⌜ length (now loops) ≡ loopsSize ⌝ }
     requires { ⌜ Near (now text) (condition .at) (condition .row) ⌝ }
-    requires { ⌜ Near (now text) (rest .at) (rest .row) ⌝ }
+    requires { ⌜ Near (now text) (c .at) (c .row) ⌝ }
     requires { ⌜ Ready (world e (now code) (now book) (now pool)) ⌝ }
     requires { ⌜ ctx .inside + 1 + ctx .left ≤ maxNesting ⌝ }
-    ensures { λ r. ⌜ RanWhile (sheetIn (now (sheet .entry))) ctx (now (text .entry)) i n (cursorOf condition) (cursorOf rest) (world e (now (code .entry)) (now (book .entry)) (now (pool .entry))) (world (r .emitter) (now (code .exit)) (now (book .exit)) (now (pool .exit))) (now (loops .entry)) (now (loops .exit)) (r .cursor) ⌝ }
+    ensures { λ r. ⌜ RanWhile (sheetIn (now (sheet .entry))) ctx (now (text .entry)) i n (cursorOf condition) (cursorOf c) (world e (now (code .entry)) (now (book .entry)) (now (pool .entry))) (world (r .emitter) (now (code .exit)) (now (book .exit)) (now (pool .exit))) (now (loops .entry)) (now (loops .exit)) (r .cursor) ⌝ }
 {
     let inner = ctx.inner();
     let made = e.create_label(book);
@@ -607,20 +607,7 @@ fn while_(
     let h = conditions::while_head(text, sheet, code, book, pool, inner, e1, condition, end);
     let back = h.label;
     let e2 = h.emitter;
-    let b = loop_body(
-        text,
-        sheet,
-        code,
-        book,
-        pool,
-        loops,
-        ctx,
-        i,
-        end,
-        n,
-        e2,
-        rest,
-    );
+    let b = loop_body(text, sheet, code, book, pool, loops, ctx, i, end, n, e2, c);
     let cursor = b.cursor;
     let e3 = b.emitter;
     let t = conditions::while_end(text, sheet, code, book, pool, inner, e3, condition, back);

@@ -77,12 +77,12 @@ pub fn exit(
 {
     let row = c.row;
     let cursor = program::next_line(text, c);
-    let k = labels(loops, inside, i);
-    if k == 0 {
+    let found = labels(loops, inside, i);
+    if found == 0 {
         let emitter = e.refuse(NO_LOOP, row);
         return Walked { cursor, emitter };
     }
-    let at = LOOP_SIZE * (k - 1);
+    let at = LOOP_SIZE * (found - 1);
     let l = loops[at + 1];
     let emitter = e.emit_jmp(sheet, code, book, Label(l));
     Walked { cursor, emitter }
