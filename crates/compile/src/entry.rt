@@ -62,16 +62,8 @@ fn compile_accepted(
         begun,
         top,
     );
-    call::finish(
-        sheet,
-        rules,
-        count,
-        walked.emitter,
-        &book,
-        code,
-        constants,
-        lines,
-    )
+    let e = walked.emitter;
+    call::finish(sheet, rules, count, e, &book, code, constants, lines)
 }
 
 // 1, and line by line 6, 5, 2 and 3; then the rest.

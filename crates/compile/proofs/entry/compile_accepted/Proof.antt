@@ -12,70 +12,23 @@ use Rattle.compile.proofs.Entries.{front-long, lent-roomy, lent-patchab
 use borrow.Author.Needs.{needs}
 use Rattle.compile.proofs.entry.compile_accepted.Statement.{statement}
 use Rattle.compile.proofs.entry.compile_accepted.Tie as tie
-use Rattle.compile.proofs.entry.compile_accepted.Reads as reads
-use Rattle.compile.proofs.entry.compile_accepted.Lts as lts
-
-new-requires : tie.Need-new-requires
-new-requires c κs = search needs
-
-slice-relend-prefix-emit-stmts : tie.Need-slice-relend-prefix-emit-stmts
-slice-relend-prefix-emit-stmts c = search needs
-
-slice-aggregate-emit-stmts : tie.Need-slice-aggregate-emit-stmts
-slice-aggregate-emit-stmts c = sym (length-take-le maxCode (c .before .before .before .before .before .before .before .before .args .code .now) (c .before .before .before .before .before .before .before .before .pre .1 .1 .1 .1 .code))
-
-slice-aggregate-emit-stmts-2 : tie.Need-slice-aggregate-emit-stmts-2
-slice-aggregate-emit-stmts-2 c = search needs
-
-slice-relend-prefix-emit-stmts-2 : tie.Need-slice-relend-prefix-emit-stmts-2
-slice-relend-prefix-emit-stmts-2 c = search needs
-
-slice-aggregate-emit-stmts-3 : tie.Need-slice-aggregate-emit-stmts-3
-slice-aggregate-emit-stmts-3 c = sym (length-take-le maxConstants (c .before .before .before .before .before .before .before .before .before .before .args .constants .now) (c .before .before .before .before .before .before .before .before .before .before .pre .1 .1 .1 .1 .constants))
-
-slice-aggregate-emit-stmts-4 : tie.Need-slice-aggregate-emit-stmts-4
-slice-aggregate-emit-stmts-4 c = search needs
-
-wide-requires : tie.Need-wide-requires
-wide-requires c κs = search needs
-
-emit-stmts-requires : tie.Need-emit-stmts-requires
-emit-stmts-requires c κs = (refl, (c .before .before .before .before .before .before .before .before .before .before .before .before .pre .1 .1 .1 .0 .near, record { fine = c .before .before .before .before .before .new .ensures .fine; room = length-take-le maxCode (c .before .before .before .before .before .before .before .before .before .before .before .before .args .code .now) (c .before .before .before .before .before .before .before .before .before .before .before .before .pre .1 .1 .1 .1 .code); slots = length-replicate {A = ℕ} bookSize 0; long = length-take-le maxConstants (c .before .before .before .before .before .before .before .before .before .before .before .before .args .constants .now) (c .before .before .before .before .before .before .before .before .before .before .before .before .pre .1 .1 .1 .1 .constants) }))
-
-slice-aggregate-finish : tie.Need-slice-aggregate-finish
-slice-aggregate-finish c = search needs
-
-finish-requires : tie.Need-finish-requires
-finish-requires c κs = (c .before .before .before .before .before .before .before .before .before .before .before .before .before .before .before .before .before .before .before .before .before .before .before .pre .0, (c .before .before .before .before .before .before .before .before .before .before .emit-stmts .ensures .0 .ready .fine, (c .before .before .before .before .before .before .before .before .before .before .emit-stmts .ensures .0 .ready .slots, (lent-roomy (c .before .before .before .before .before .before .before .before .before .before .emit-stmts .last .1 .1 .0) (c .before .before .before .before .before .before .before .before .before .before .emit-stmts .last .1 .1 .1 .1 .0) (c .before .before .before .before .before .before .before .before .before .before .before .before .before .before .before .before .before .before .before .before .before .before .before .args .code .now) (c .before .before .before .before .before .before .before .before .before .before .before .before .before .before .before .before .before .before .before .before .before .before .before .args .constants .now) (c .before .before .before .before .before .before .before .before .before .before .before .before .before .before .before .before .before .before .before .before .before .before .before .args .lines .now) (c .before .before .before .before .before .before .before .before .before .before .emit-stmts .ensures .0 .ready .room) (c .before .before .before .before .before .before .before .before .before .before .emit-stmts .ensures .0 .ready .long) (c .before .before .before .before .before .before .before .before .before .before .before .before .before .before .before .before .before .before .before .before .before .before .before .pre .1 .1 .1 .1), lent-patchable (sheetIn (c .before .before .before .before .before .before .before .before .before .before .before .before .before .before .before .before .before .before .before .before .before .before .before .args .sheet .now)) (c .before .before .before .before .before .before .before .before .before .before .before .before .before .before .before .before .before .before .before .before .before .before .before .args .text .now) (record { variables = c .before .before .before .before .before .before .before .before .before .before .before .before .before .before .before .before .before .before .before .before .before .before .before .args .variables; statements = c .before .before .before .before .before .before .before .before .before .before .before .before .before .before .before .before .before .before .before .before .before .before .before .args .statements; pos = posView (c .before .before .before .before .before .before .before .before .before .before .before .before .before .before .before .before .before .before .before .before .before .before .before .args .pos) }) (c .before .before .before .before .before .before .before .before .before .before .before .before .before .before .before .before .before .before .before .before .before .before .before .args .next) (c .before .before .before .before .before .before .before .before .before .before .before .before .before .before .before .before .before .before .before .before .before .before .before .pre .1 .1 .1 .0) _ _ _ (c .before .before .before .before .before .before .before .before .before .before .before .before .before .before .before .before .new .ensures) (rw (c .before .before .before .before .before .before .before .before .before .before .before .wide .ensures) at (c .before .before .before .before .before .before .before .before .before .before .emit-stmts .ensures .0 .did)) _ _ refl (c .before .before .before .before .before .before .before .before .before .before .emit-stmts .ensures .0 .ready) (rulesIn (c .before .before .before .before .before .before .before .before .before .before .before .before .before .before .before .before .before .before .before .before .before .before .before .args .rules .now) (c .before .before .before .before .before .before .before .before .before .before .before .before .before .before .before .before .before .before .before .before .before .before .before .args .count)) (c .before .before .before .before .before .before .before .before .before .before .before .before .before .before .before .before .before .before .before .before .before .before .before .pre .1 .0) (c .before .before .before .before .before .before .before .before .before .before .before .before .before .before .before .before .before .before .before .before .before .before .before .pre .1 .1 .0)))))
-
-same-length : tie.Need-same-length
-same-length c = c .before .before .before .before .before .before .finish .kept .1 .1 .1 .1 .1 .0 ∙ front-long (c .before .before .before .before .before .before .before .before .before .before .before .before .before .before .before .before .before .emit-stmts .last .1 .1 .0) (c .before .before .before .before .before .before .before .before .before .before .before .before .before .before .before .before .before .before .before .before .before .before .before .before .before .before .before .before .before .before .args .code .now) maxCode (c .before .before .before .before .before .before .before .before .before .before .before .before .before .before .before .before .before .emit-stmts .ensures .0 .ready .room) (c .before .before .before .before .before .before .before .before .before .before .before .before .before .before .before .before .before .before .before .before .before .before .before .before .before .before .before .before .before .before .pre .1 .1 .1 .1 .code)
-
-same-length-2 : tie.Need-same-length-2
-same-length-2 c = c .before .before .before .before .before .before .finish .kept .1 .1 .1 .1 .1 .1 .0 ∙ front-long (c .before .before .before .before .before .before .before .before .before .before .before .before .before .before .before .before .before .emit-stmts .last .1 .1 .1 .1 .0) (c .before .before .before .before .before .before .before .before .before .before .before .before .before .before .before .before .before .before .before .before .before .before .before .before .before .before .before .before .before .before .args .constants .now) maxConstants (c .before .before .before .before .before .before .before .before .before .before .before .before .before .before .before .before .before .emit-stmts .ensures .0 .ready .long) (c .before .before .before .before .before .before .before .before .before .before .before .before .before .before .before .before .before .before .before .before .before .before .before .before .before .before .before .before .before .before .pre .1 .1 .1 .1 .constants)
-
-same-length-3 : tie.Need-same-length-3
-same-length-3 c = search needs
-
-returns : tie.Need-returns
-returns c = ends-emitted (sheetIn (c .before .before .before .before .before .before .before .before .before .before .before .before .before .before .before .before .before .before .before .before .before .before .before .before .before .before .before .before .before .before .args .sheet .now)) (c .before .before .before .before .before .before .before .before .before .before .before .before .before .before .before .before .before .before .before .before .before .before .before .before .before .before .before .before .before .before .args .text .now) (record { variables = c .before .before .before .before .before .before .before .before .before .before .before .before .before .before .before .before .before .before .before .before .before .before .before .before .before .before .before .before .before .before .args .variables; statements = c .before .before .before .before .before .before .before .before .before .before .before .before .before .before .before .before .before .before .before .before .before .before .before .before .before .before .before .before .before .before .args .statements; pos = posView (c .before .before .before .before .before .before .before .before .before .before .before .before .before .before .before .before .before .before .before .before .before .before .before .before .before .before .before .before .before .before .args .pos) }) (c .before .before .before .before .before .before .before .before .before .before .before .before .before .before .before .before .before .before .before .before .before .before .before .before .before .before .before .before .before .before .args .next) (c .before .before .before .before .before .before .before .before .before .before .before .before .before .before .before .before .before .before .before .before .before .before .before .before .before .before .before .before .before .before .pre .1 .1 .1 .0) _ _ _ (c .before .before .before .before .before .before .before .before .before .before .before .before .before .before .before .before .before .before .before .before .before .before .before .new .ensures) (rw (c .before .before .before .before .before .before .before .before .before .before .before .before .before .before .before .before .before .before .wide .ensures) at (c .before .before .before .before .before .before .before .before .before .before .before .before .before .before .before .before .before .emit-stmts .ensures .0 .did)) _ _ refl (c .before .before .before .before .before .before .before .before .before .before .before .before .before .before .before .before .before .emit-stmts .ensures .0 .ready) (rulesIn (c .before .before .before .before .before .before .before .before .before .before .before .before .before .before .before .before .before .before .before .before .before .before .before .before .before .before .before .before .before .before .args .rules .now) (c .before .before .before .before .before .before .before .before .before .before .before .before .before .before .before .before .before .before .before .before .before .before .before .before .before .before .before .before .before .before .args .count)) (c .before .before .before .before .before .before .before .before .before .before .before .before .before .before .before .before .before .before .before .before .before .before .before .before .before .before .before .before .before .before .args .code .now) (c .before .before .before .before .before .before .before .before .before .before .before .before .before .before .before .before .before .before .before .before .before .before .before .before .before .before .before .before .before .before .args .constants .now) (front-long (c .before .before .before .before .before .before .before .before .before .before .before .before .before .before .before .before .before .emit-stmts .last .1 .1 .0) (c .before .before .before .before .before .before .before .before .before .before .before .before .before .before .before .before .before .before .before .before .before .before .before .before .before .before .before .before .before .before .args .code .now) maxCode (c .before .before .before .before .before .before .before .before .before .before .before .before .before .before .before .before .before .emit-stmts .ensures .0 .ready .room) (c .before .before .before .before .before .before .before .before .before .before .before .before .before .before .before .before .before .before .before .before .before .before .before .before .before .before .before .before .before .before .pre .1 .1 .1 .1 .code)) (front-long (c .before .before .before .before .before .before .before .before .before .before .before .before .before .before .before .before .before .emit-stmts .last .1 .1 .1 .1 .0) (c .before .before .before .before .before .before .before .before .before .before .before .before .before .before .before .before .before .before .before .before .before .before .before .before .before .before .before .before .before .before .args .constants .now) maxConstants (c .before .before .before .before .before .before .before .before .before .before .before .before .before .before .before .before .before .emit-stmts .ensures .0 .ready .long) (c .before .before .before .before .before .before .before .before .before .before .before .before .before .before .before .before .before .before .before .before .before .before .before .before .before .before .before .before .before .before .pre .1 .1 .1 .1 .constants)) (c .before .before .before .before .before .before .finish .ensures)
 
 pub compile-accepted-spec : {M : Type 1} → statement M
 compile-accepted-spec =
     tie.close
     (tie.spec
-    new-requires
-    slice-relend-prefix-emit-stmts
-    slice-aggregate-emit-stmts
-    slice-aggregate-emit-stmts-2
-    slice-relend-prefix-emit-stmts-2
-    slice-aggregate-emit-stmts-3
-    slice-aggregate-emit-stmts-4
-    wide-requires
-    emit-stmts-requires
-    slice-aggregate-finish
-    finish-requires
-    same-length
-    same-length-2
-    same-length-3
-    returns)
+    (λ c κs. search needs)  -- new-requires
+    (λ c. search needs)  -- slice-relend-prefix-emit-stmts
+    (λ c. sym (length-take-le maxCode (c .before .before .before .before .before .before .before .before .args .code .now) (c .before .before .before .before .before .before .before .before .pre .1 .1 .1 .1 .code)))  -- slice-aggregate-emit-stmts
+    (λ c. search needs)  -- slice-aggregate-emit-stmts-2
+    (λ c. search needs)  -- slice-relend-prefix-emit-stmts-2
+    (λ c. sym (length-take-le maxConstants (c .before .before .before .before .before .before .before .before .before .before .args .constants .now) (c .before .before .before .before .before .before .before .before .before .before .pre .1 .1 .1 .1 .constants)))  -- slice-aggregate-emit-stmts-3
+    (λ c. search needs)  -- slice-aggregate-emit-stmts-4
+    (λ c κs. search needs)  -- wide-requires
+    (λ c κs. (refl, (c .before .before .before .before .before .before .before .before .before .before .before .before .pre .1 .1 .1 .0 .near, record { fine = c .before .before .before .before .before .new .ensures .fine; room = length-take-le maxCode (c .before .before .before .before .before .before .before .before .before .before .before .before .args .code .now) (c .before .before .before .before .before .before .before .before .before .before .before .before .pre .1 .1 .1 .1 .code); slots = length-replicate {A = ℕ} bookSize 0; long = length-take-le maxConstants (c .before .before .before .before .before .before .before .before .before .before .before .before .args .constants .now) (c .before .before .before .before .before .before .before .before .before .before .before .before .pre .1 .1 .1 .1 .constants) })))  -- emit-stmts-requires
+    (λ c. search needs)  -- slice-aggregate-finish
+    (λ c κs. (c .before .before .before .before .before .before .before .before .before .before .before .before .before .before .before .before .before .before .before .before .before .before .before .before .pre .0, (c .before .before .before .before .before .before .before .before .before .before .before .emit-stmts .ensures .0 .ready .fine, (c .before .before .before .before .before .before .before .before .before .before .before .emit-stmts .ensures .0 .ready .slots, (lent-roomy (c .before .before .before .before .before .before .before .before .before .before .before .emit-stmts .last .1 .1 .0) (c .before .before .before .before .before .before .before .before .before .before .before .emit-stmts .last .1 .1 .1 .1 .0) (c .before .before .before .before .before .before .before .before .before .before .before .before .before .before .before .before .before .before .before .before .before .before .before .before .args .code .now) (c .before .before .before .before .before .before .before .before .before .before .before .before .before .before .before .before .before .before .before .before .before .before .before .before .args .constants .now) (c .before .before .before .before .before .before .before .before .before .before .before .before .before .before .before .before .before .before .before .before .before .before .before .before .args .lines .now) (c .before .before .before .before .before .before .before .before .before .before .before .emit-stmts .ensures .0 .ready .room) (c .before .before .before .before .before .before .before .before .before .before .before .emit-stmts .ensures .0 .ready .long) (c .before .before .before .before .before .before .before .before .before .before .before .before .before .before .before .before .before .before .before .before .before .before .before .before .pre .1 .1 .1 .1), lent-patchable (sheetIn (c .before .before .before .before .before .before .before .before .before .before .before .before .before .before .before .before .before .before .before .before .before .before .before .before .args .sheet .now)) (c .before .before .before .before .before .before .before .before .before .before .before .before .before .before .before .before .before .before .before .before .before .before .before .before .args .text .now) (record { variables = c .before .before .before .before .before .before .before .before .before .before .before .before .before .before .before .before .before .before .before .before .before .before .before .before .args .variables; statements = c .before .before .before .before .before .before .before .before .before .before .before .before .before .before .before .before .before .before .before .before .before .before .before .before .args .statements; pos = posView (c .before .before .before .before .before .before .before .before .before .before .before .before .before .before .before .before .before .before .before .before .before .before .before .before .args .pos) }) (c .before .before .before .before .before .before .before .before .before .before .before .before .before .before .before .before .before .before .before .before .before .before .before .before .args .next) (c .before .before .before .before .before .before .before .before .before .before .before .before .before .before .before .before .before .before .before .before .before .before .before .before .pre .1 .1 .1 .0) _ _ _ (c .before .before .before .before .before .before .before .before .before .before .before .before .before .before .before .before .before .new .ensures) (rw (c .before .before .before .before .before .before .before .before .before .before .before .before .wide .ensures) at (c .before .before .before .before .before .before .before .before .before .before .before .emit-stmts .ensures .0 .did)) _ _ refl (c .before .before .before .before .before .before .before .before .before .before .before .emit-stmts .ensures .0 .ready) (rulesIn (c .before .before .before .before .before .before .before .before .before .before .before .before .before .before .before .before .before .before .before .before .before .before .before .before .args .rules .now) (c .before .before .before .before .before .before .before .before .before .before .before .before .before .before .before .before .before .before .before .before .before .before .before .before .args .count)) (c .before .before .before .before .before .before .before .before .before .before .before .before .before .before .before .before .before .before .before .before .before .before .before .before .pre .1 .0) (c .before .before .before .before .before .before .before .before .before .before .before .before .before .before .before .before .before .before .before .before .before .before .before .before .pre .1 .1 .0))))))  -- finish-requires
+    (λ c. c .before .before .before .before .before .before .finish .kept .1 .1 .1 .1 .1 .0 ∙ front-long (c .before .before .before .before .before .before .before .before .before .before .before .before .before .before .before .before .before .before .emit-stmts .last .1 .1 .0) (c .before .before .before .before .before .before .before .before .before .before .before .before .before .before .before .before .before .before .before .before .before .before .before .before .before .before .before .before .before .before .before .args .code .now) maxCode (c .before .before .before .before .before .before .before .before .before .before .before .before .before .before .before .before .before .before .emit-stmts .ensures .0 .ready .room) (c .before .before .before .before .before .before .before .before .before .before .before .before .before .before .before .before .before .before .before .before .before .before .before .before .before .before .before .before .before .before .before .pre .1 .1 .1 .1 .code))  -- same-length
+    (λ c. c .before .before .before .before .before .before .finish .kept .1 .1 .1 .1 .1 .1 .0 ∙ front-long (c .before .before .before .before .before .before .before .before .before .before .before .before .before .before .before .before .before .before .emit-stmts .last .1 .1 .1 .1 .0) (c .before .before .before .before .before .before .before .before .before .before .before .before .before .before .before .before .before .before .before .before .before .before .before .before .before .before .before .before .before .before .before .args .constants .now) maxConstants (c .before .before .before .before .before .before .before .before .before .before .before .before .before .before .before .before .before .before .emit-stmts .ensures .0 .ready .long) (c .before .before .before .before .before .before .before .before .before .before .before .before .before .before .before .before .before .before .before .before .before .before .before .before .before .before .before .before .before .before .before .pre .1 .1 .1 .1 .constants))  -- same-length-2
+    (λ c. search needs)  -- same-length-3
+    (λ c. ends-emitted (sheetIn (c .before .before .before .before .before .before .before .before .before .before .before .before .before .before .before .before .before .before .before .before .before .before .before .before .before .before .before .before .before .before .before .args .sheet .now)) (c .before .before .before .before .before .before .before .before .before .before .before .before .before .before .before .before .before .before .before .before .before .before .before .before .before .before .before .before .before .before .before .args .text .now) (record { variables = c .before .before .before .before .before .before .before .before .before .before .before .before .before .before .before .before .before .before .before .before .before .before .before .before .before .before .before .before .before .before .before .args .variables; statements = c .before .before .before .before .before .before .before .before .before .before .before .before .before .before .before .before .before .before .before .before .before .before .before .before .before .before .before .before .before .before .before .args .statements; pos = posView (c .before .before .before .before .before .before .before .before .before .before .before .before .before .before .before .before .before .before .before .before .before .before .before .before .before .before .before .before .before .before .before .args .pos) }) (c .before .before .before .before .before .before .before .before .before .before .before .before .before .before .before .before .before .before .before .before .before .before .before .before .before .before .before .before .before .before .before .args .next) (c .before .before .before .before .before .before .before .before .before .before .before .before .before .before .before .before .before .before .before .before .before .before .before .before .before .before .before .before .before .before .before .pre .1 .1 .1 .0) _ _ _ (c .before .before .before .before .before .before .before .before .before .before .before .before .before .before .before .before .before .before .before .before .before .before .before .before .new .ensures) (rw (c .before .before .before .before .before .before .before .before .before .before .before .before .before .before .before .before .before .before .before .wide .ensures) at (c .before .before .before .before .before .before .before .before .before .before .before .before .before .before .before .before .before .before .emit-stmts .ensures .0 .did)) _ _ refl (c .before .before .before .before .before .before .before .before .before .before .before .before .before .before .before .before .before .before .emit-stmts .ensures .0 .ready) (rulesIn (c .before .before .before .before .before .before .before .before .before .before .before .before .before .before .before .before .before .before .before .before .before .before .before .before .before .before .before .before .before .before .before .args .rules .now) (c .before .before .before .before .before .before .before .before .before .before .before .before .before .before .before .before .before .before .before .before .before .before .before .before .before .before .before .before .before .before .before .args .count)) (c .before .before .before .before .before .before .before .before .before .before .before .before .before .before .before .before .before .before .before .before .before .before .before .before .before .before .before .before .before .before .before .args .code .now) (c .before .before .before .before .before .before .before .before .before .before .before .before .before .before .before .before .before .before .before .before .before .before .before .before .before .before .before .before .before .before .before .args .constants .now) (front-long (c .before .before .before .before .before .before .before .before .before .before .before .before .before .before .before .before .before .before .emit-stmts .last .1 .1 .0) (c .before .before .before .before .before .before .before .before .before .before .before .before .before .before .before .before .before .before .before .before .before .before .before .before .before .before .before .before .before .before .before .args .code .now) maxCode (c .before .before .before .before .before .before .before .before .before .before .before .before .before .before .before .before .before .before .emit-stmts .ensures .0 .ready .room) (c .before .before .before .before .before .before .before .before .before .before .before .before .before .before .before .before .before .before .before .before .before .before .before .before .before .before .before .before .before .before .before .pre .1 .1 .1 .1 .code)) (front-long (c .before .before .before .before .before .before .before .before .before .before .before .before .before .before .before .before .before .before .emit-stmts .last .1 .1 .1 .1 .0) (c .before .before .before .before .before .before .before .before .before .before .before .before .before .before .before .before .before .before .before .before .before .before .before .before .before .before .before .before .before .before .before .args .constants .now) maxConstants (c .before .before .before .before .before .before .before .before .before .before .before .before .before .before .before .before .before .before .emit-stmts .ensures .0 .ready .long) (c .before .before .before .before .before .before .before .before .before .before .before .before .before .before .before .before .before .before .before .before .before .before .before .before .before .before .before .before .before .before .before .pre .1 .1 .1 .1 .constants)) (c .before .before .before .before .before .before .finish .ensures)))  -- returns
