@@ -205,7 +205,7 @@ rules-open q k line s l n =
       goes = rw (rule-line q line k) (r .3 ∙ ap (state (r .0)) (all-rules s (clippedLine l) ∙ ap (onRules s) (sym (text-open 0 0 l n))));
     }
 
-pub rules-steps : (q : Phase) (k line : ℕ) (s : Stores) (bs : List ℕ) → line + length bs ≤ lastLine → RulesDone q k line s bs ⊎ RulesShort q k line s bs
+rules-steps : (q : Phase) (k line : ℕ) (s : Stores) (bs : List ℕ) → line + length bs ≤ lastLine → RulesDone q k line s bs ⊎ RulesShort q k line s bs
 rules-steps q zero line s bs h = inl (rules-none q line s bs h)
 rules-steps q (suc k) line s bs h = go (cut bs) (rules-steps q k (suc line))
   where
@@ -222,3 +222,10 @@ rules-steps q (suc k) line s bs h = go (cut bs) (rules-steps q k (suc line))
             → RulesDone q (suc k) line s (p .0 ++ (lf ∷ p .1)) ⊎ RulesShort q (suc k) line s (p .0 ++ (lf ∷ p .1))
         by p g (inl d) = inl (done-more q k line s (p .0) (p .1) (p .2) g d)
         by p g (inr d) = inr (short-more q k line s (p .0) (p .1) (p .2) g d)
+
+pub by-rules : {P : Type 0} (q : Phase) (k line : ℕ) (s : Stores) (bs : List ℕ) → line + length bs ≤ lastLine → (RulesDone q k line s bs → P) → (RulesShort q k line s bs → P) → P
+by-rules {P = P} q k line s bs h done short = go (rules-steps q k line s bs h)
+  where
+    go : RulesDone q k line s bs ⊎ RulesShort q k line s bs → P
+    go (inl d) = done d
+    go (inr d) = short d

@@ -1,6 +1,5 @@
 -- The whole input of the listing: the machine answers what the definition does.
 use mathlib.Core.Path.{_≡_, refl, ap, sym, _∙_}
-use mathlib.Core.Logic.{_⊎_, inl, inr}
 use mathlib.Core.Bool.{Bool, true, false, _&&_}
 use mathlib.Core.Option.{Option, some, none}
 use mathlib.Core.List.{List, [], _∷_}
@@ -22,7 +21,7 @@ use Rattle.store.specs.Store.{Store, contents}
 use Rattle.input_machine.specs.Machine.{Head, ruleLine, programText, intoCode, lineIn, start, rulesAt, nextIn, next, putIn, Stores, stored, State, step, steps, lastLine, sheetRoom, ruleRoom, programRoom, Ending, whole, cut, countless, endingIn, ending, listedFrom, listedAs, listedAt}
 use Rattle.input_machine.proofs.Text.{state, storedAll}
 use Rattle.input_machine.proofs.Clip.{clipped}
-use Rattle.input_machine.proofs.Kept.{onSheet, onRules, RulesDone, RulesShort, rules-steps}
+use Rattle.input_machine.proofs.Kept.{onSheet, onRules, RulesDone, RulesShort, by-rules}
 use Rattle.input_machine.proofs.Begin.{Empty, kept, all-code, Holds, rules-kept, sheet-kept, start-on}
 
 -- empty stores with room for a listing's input: nothing is put into the others
@@ -124,11 +123,7 @@ module _ (place k : ℕ) (s : Stores) (sheet bs : List ℕ) (holds : Holds s she
       ∙ rw (d .all)
 
   rules-on : 3 + length bs ≤ lastLine → listedAt place (steps programText (state (rulesAt programText 3 k) s) bs) ≡ answer
-  rules-on h = go (rules-steps programText k 3 s bs h)
-    where
-      go : RulesDone programText k 3 s bs ⊎ RulesShort programText k 3 s bs → listedAt place (steps programText (state (rulesAt programText 3 k) s) bs) ≡ answer
-      go (inl d) = done-on d
-      go (inr d) = short-on d
+  rules-on h = by-rules programText k 3 s bs h done-on short-on
 
 -- ---- after the count, and from the start
 

@@ -1,6 +1,5 @@
 -- The whole input of the passes program: the machine answers what the definition does.
 use mathlib.Core.Path.{_≡_, refl, ap, sym, _∙_}
-use mathlib.Core.Logic.{_⊎_, inl, inr}
 use mathlib.Core.Option.{Option, some, none}
 use mathlib.Core.List.{List, [], _∷_}
 use Prim.Native.Nat.{ℕ, _+_, _≤_, _<_}
@@ -19,7 +18,7 @@ use Rattle.input_machine.specs.Machine as machine
 use Rattle.input_machine.specs.Machine.{Head, codeLine, start, rulesAt, Stores, steps, lastLine, sheetRoom, ruleRoom, Ending, endingIn, ending, concludedAs, concluded}
 use Rattle.input_machine.proofs.Text.{state, rules-count}
 use Rattle.input_machine.proofs.Clip.{clipped}
-use Rattle.input_machine.proofs.Kept.{onSheet, onRules, RulesDone, RulesShort, rules-steps}
+use Rattle.input_machine.proofs.Kept.{onSheet, onRules, RulesDone, RulesShort, by-rules}
 use Rattle.input_machine.proofs.Begin.{Empty, Holds, rules-kept, sheet-kept, start-on}
 use Rattle.input_machine.proofs.Lists.{outcome}
 use Rattle.input_machine.proofs.Given.{Lent, answered, code-on}
@@ -94,11 +93,7 @@ module _ (place k : ℕ) (s : Stores) (sheet bs : List ℕ) (holds : Holds s she
       ∙ rw (d .all)
 
   rules-on : 3 + length bs ≤ lastLine → outcome place (rulesAt codeLine 3 k) s bs ≡ fromRules place sheet k bs
-  rules-on h = go (rules-steps codeLine k 3 s bs h)
-    where
-      go : RulesDone codeLine k 3 s bs ⊎ RulesShort codeLine k 3 s bs → outcome place (rulesAt codeLine 3 k) s bs ≡ fromRules place sheet k bs
-      go (inl d) = done-on d
-      go (inr d) = short-on d
+  rules-on h = by-rules codeLine k 3 s bs h done-on short-on
 
 -- ---- after the count, and from the start
 

@@ -12,10 +12,6 @@ Inv-loop input at₀ cases₀ differ₀ at cases differ = (at ≤ length input) 
 abbrev μ-loop : tie.MeasureT-loop
 μ-loop input at₀ cases₀ differ₀ at cases differ = length input - at
 
-loop-less : tie.Need-loop-less Inv-loop μ-loop
-unfolding μ-loop
-loop-less c = omega (arith, c .before .before .before .before .before .loop-test .taken, c .before .before .before .before .case-at .ensures .ahead)
-
 pub replay-all-spec : {M : Type 1} → statement M
 replay-all-spec =
     tie.close
@@ -34,7 +30,7 @@ replay-all-spec =
     (λ c κs. search needs)  -- is-answered-requires
     (λ c κs. search needs)  -- missed-requires
     (λ c. search needs)  -- add-differ
-    loop-less
+    (λ c. omega (arith, c .before .before .before .before .before .loop-test .taken, c .before .before .before .before .case-at .ensures .ahead))  -- loop-less
     (λ c. (c .before .before .before .before .case-at .ensures .within, omega (arith, c .before .before .before .before .before .before .loop .inv .1, c .before .before .before .before .case-at .ensures .ahead), omega (arith, c .before .before .before .before .before .before .loop .inv .2, c .missed .ensures)))  -- loop-again
     (λ c κs. search needs)  -- total-requires
     (λ c. search needs))  -- returns
