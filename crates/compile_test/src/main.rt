@@ -154,20 +154,6 @@ fn read_line(line: &[u8], at: usize, end: usize, text: &mut [u8], c: Case) -> Ca
 
 // ---- answering
 
-fn is_same(a: &[u8], b: &[u8]) -> bool {
-    if a.len() != b.len() {
-        return false;
-    }
-    let mut i = 0;
-    while i < a.len() {
-        if a[i] != b[i] {
-            return false;
-        }
-        i += 1;
-    }
-    true
-}
-
 fn are_zero_bytes(list: &[u8], from: usize) -> bool {
     let mut i = from;
     while i < list.len() {
@@ -236,7 +222,7 @@ fn is_told(
     if used > out.len() {
         return false;
     }
-    is_same(&out[..used], expected)
+    check::same(&out[..used], expected)
 }
 
 // The answer is the one that is expected, and behind it every output is 0.

@@ -5,7 +5,7 @@ use text::LISTING_ROOM;
 fn is_answered(input: &[u8], expected: &[u8]) -> bool {
     let mut out = [0u8; LISTING_ROOM];
     let n = listing_answer::answer(input, &mut out);
-    replay::is_same(&out[..n], expected)
+    check::same(&out[..n], expected)
 }
 
 pub fn replay_all(input: &[u8]) {

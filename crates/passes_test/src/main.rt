@@ -6,7 +6,7 @@ use text::TEXT_ROOM;
 fn is_answered(input: &[u8], expected: &[u8]) -> bool {
     let mut out = [0u8; TEXT_ROOM];
     let n = passes_answer::answer(input, &mut out);
-    replay::is_same(&out[..n], expected)
+    check::same(&out[..n], expected)
 }
 
 fn replay(input: &[u8]) {

@@ -1,5 +1,5 @@
-// Stored answers, which programs of the gate replay: a case is an input, a line ====, the answer, a line ====. Finds the cases, compares, and tells
-// the number of each that differs.
+// Stored answers, which programs of the gate replay: a case is an input, a line ====, the answer, a line ====. Finds the cases, and tells the
+// number of each that differs.
 ghost use Prim.Native.Nat.{_-_, _≤_, _<_};
 ghost use lib.ListN.{length};
 ghost use Rattle.replay.specs.Case.{Parts};
@@ -77,20 +77,6 @@ pub fn case_at(input: &[u8], at: usize) -> Case
         stop: stop,
         next: next,
     }
-}
-
-pub fn is_same(a: &[u8], b: &[u8]) -> bool {
-    if a.len() != b.len() {
-        return false;
-    }
-    let mut i = 0;
-    while i < a.len() {
-        if a[i] != b[i] {
-            return false;
-        }
-        i += 1;
-    }
-    true
 }
 
 fn print(n: u64, last: u8) {

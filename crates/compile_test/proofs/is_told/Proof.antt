@@ -13,8 +13,8 @@ is-told-spec =
     (λ c κs. search needs)  -- put-answer-requires
     (λ c. search needs)  -- same-length
     (λ c. search needs)  -- returns
-    (λ c. search needs)  -- slice-reshare-prefix-is-same
-    (λ c. sym (length-take-le _ _ (omega arith)))  -- slice-aggregate-is-same
-    (λ c κs. search needs)  -- is-same-requires
+    (λ c. search needs)  -- slice-reshare-prefix-same
+    (λ c. sym (length-take-le _ _ (omega arith)))  -- slice-aggregate-same
+    (λ c κs. search needs)  -- same-requires
     (λ c. search needs)  -- same-length-2
     (λ c. search needs))  -- returns-2

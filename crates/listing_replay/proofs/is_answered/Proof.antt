@@ -10,6 +10,6 @@ is-answered-spec =
     (tie.spec
     (λ c κs. search needs)  -- answer-requires
     (λ c. told-within (c .answer .ensures))  -- array-share-prefix-out
-    (λ c. told-part (c .before .answer .ensures))  -- slice-aggregate-is-same
-    (λ c κs. search needs)  -- is-same-requires
+    (λ c. told-part (c .before .answer .ensures))  -- slice-aggregate-same
+    (λ c κs. search needs)  -- same-requires
     (λ c. search needs))  -- returns
