@@ -20,7 +20,7 @@ use Rattle.definition.specs.Alone.{Given, Rewritten, checked, rewritten, rewrit
 use Rattle.definition.specs.Passes.{givenFrom}
 use Rattle.line_map.proofs.Entries.{count-entries}
 use Rattle.store.specs.Store.{contents, pushAll}
-use Rattle.input_machine.specs.Machine.{Stores, intoCode, intoOffsets, intoEntries, codeLine, whole, lastLine, codeRoom, offsetRoom, entryRoom, lineIn, stored, givenIn, concludedAs}
+use Rattle.input_machine.specs.Machine.{Stores, intoOffsets, intoEntries, codeLine, whole, lastLine, codeRoom, offsetRoom, entryRoom, lineIn, stored, givenIn, concludedAs}
 use Rattle.input_machine.proofs.Text.{storedAll}
 use Rattle.input_machine.proofs.Begin.{Empty, kept, all-code}
 use Rattle.input_machine.proofs.Lists.{outcome, refused}

@@ -1,6 +1,6 @@
 -- The whole input of the listing: the machine answers what the definition does.
 use mathlib.Core.Path.{_≡_, refl, ap, sym, _∙_}
-use mathlib.Core.Bool.{Bool, true, false, _&&_}
+use mathlib.Core.Bool.{Bool, true, false}
 use mathlib.Core.Option.{Option, some, none}
 use mathlib.Core.List.{List, [], _∷_}
 use Prim.Native.Nat.{ℕ, _+_, _≤_, _<_}
@@ -10,15 +10,15 @@ use lib.Dec.{leb}
 use lib.ListN.{length, take, length-take}
 use lib.Seq.{take-all}
 use Rattle.definition.specs.Limits.{maxProgram, maxRules, badSheet, badRule}
-use Rattle.definition.specs.Res.{Res, ok, refuse, _>>=_, _>>_, demand, given}
+use Rattle.definition.specs.Res.{Res, ok, _>>=_, _>>_, demand, given}
 use Rattle.definition.specs.Opcode.{Sheet}
 use Rattle.definition.specs.Sheet.{readSheet}
 use Rattle.definition.specs.Rules.{readRules}
-use Rattle.definition.specs.Program.{endsInLF, readProgram}
+use Rattle.definition.specs.Program.{readProgram}
 use Rattle.definition.specs.Compile.{FinalizedFunction, compileFiles}
 use Rattle.definition.specs.Listing.{cutLine, cutLines, withoutLF, countLine, listed}
-use Rattle.store.specs.Store.{Store, contents}
-use Rattle.input_machine.specs.Machine.{Head, ruleLine, programText, intoCode, lineIn, start, rulesAt, nextIn, next, putIn, Stores, stored, State, step, steps, lastLine, sheetRoom, ruleRoom, programRoom, Ending, whole, cut, countless, endingIn, ending, listedFrom, listedAs, listedAt}
+use Rattle.store.specs.Store.{contents}
+use Rattle.input_machine.specs.Machine.{Head, ruleLine, programText, intoCode, lineIn, start, rulesAt, nextIn, next, putIn, Stores, stored, step, steps, lastLine, sheetRoom, ruleRoom, programRoom, Ending, countless, endingIn, ending, listedFrom, listedAs, listedAt}
 use Rattle.input_machine.proofs.Text.{state, storedAll}
 use Rattle.input_machine.proofs.Clip.{clipped}
 use Rattle.input_machine.proofs.Kept.{onSheet, onRules, RulesDone, RulesShort, by-rules}

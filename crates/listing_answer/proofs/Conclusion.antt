@@ -1,20 +1,17 @@
 -- The text made of the call's answer is the text of what the machine concludes.
-use mathlib.Core.Path.{_≡_, refl, ap, sym, _∙_}
-use mathlib.Core.Bool.{Bool, true, false}
+use mathlib.Core.Path.{_≡_, refl, _∙_}
+use mathlib.Core.Bool.{true, false}
 use mathlib.Core.List.{List, [], _∷_}
 use mathlib.Core.Option.{Option, some, none}
 use Prim.Native.Nat.{ℕ}
 use borrow.Author.Tests.{ne-eqb}
-use lib.Dec.{eqb}
-use Rattle.definition.specs.Limits.{badSheet, badRule, badText}
+use Rattle.definition.specs.Limits.{badSheet, badText}
 use Rattle.definition.specs.Res.{Res, ok, refuse, _>>=_, _>>_, demand, given, open-Res}
 use Rattle.definition.specs.Opcode.{Sheet}
 use Rattle.definition.specs.Sheet.{readSheet}
-use Rattle.definition.specs.Rules.{Rule, readRules}
-use Rattle.definition.specs.Tree.{Program}
 use Rattle.definition.specs.Program.{endsInLF, readProgram}
-use Rattle.definition.specs.Compile.{FinalizedFunction, compileProgram, compileFiles, compileInto, roomy, answer}
-use Rattle.definition.specs.Listing.{numberLine, text}
+use Rattle.definition.specs.Compile.{FinalizedFunction, compileFiles, compileInto, roomy, answer}
+use Rattle.definition.specs.Listing.{text}
 use Rattle.rules.proofs.File.{no-rules}
 use Rattle.runs.proofs.Refusals.{Numbered}
 use Rattle.runs.proofs.Answers.{call-numbered}

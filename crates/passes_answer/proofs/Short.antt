@@ -3,7 +3,7 @@ use mathlib.Core.Path.{_≡_, refl, ap, sym, _∙_}
 use mathlib.Core.List.{List}
 use Prim.Native.Nat.{ℕ, _*_, _-_, _^_, _≤_, _<_}
 use native.Mathlib.Omega.{arith}
-use lib.ListN.{length, getD}
+use lib.ListN.{length}
 use Rattle.definition.specs.Limits.{maxCode, maxProtected, maxLines, entrySize, badSheet, badRule}
 use Rattle.definition.specs.Res.{Res, ok, refuse, given}
 use Rattle.definition.specs.Opcode.{Sheet}

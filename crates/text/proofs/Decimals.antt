@@ -7,7 +7,6 @@ use native.Mathlib.Nat.{pow-suc, div-lt-iff-lt-mul}
 use native.Mathlib.Omega.{arith}
 use borrow.Author.Tests.{lt-ltb, le-ltb, ltb-true, ltb-false}
 use lib.Dec.{ltb}
-use lib.IntN.{pos, negsuc}
 use Rattle.definition.specs.Field.{digit0, minus}
 use Rattle.definition.specs.Iec.{signedOf}
 use Rattle.definition.specs.Listing.{digitsOnto, decimal, signedDecimal}
