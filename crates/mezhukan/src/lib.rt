@@ -1,0 +1,77 @@
+// The library for the phone, the rig and the log reader (`rt staticlib mezhukan`, for a program in C or Rust to link): the call, and rewriting called alone.
+ghost use mathlib.Core.Path.{_≡_};
+ghost use Rattle.definition.specs.Compile.{Compiles};
+ghost use Rattle.definition.specs.Alone.{Rewrites};
+ghost use Rattle.definition.specs.Claims.{Safe};
+ghost use Rattle.compile.specs.Call as call;
+ghost use Rattle.optimize.specs.View as alone;
+ghost use Rattle.mezhukan.specs.Exported.{compiled, rewritten};
+use emit::Constant;
+
+// Numbers of an answer of the call: number, place, bytes, depth, constants, line entries.
+const COMPILED: usize = 6;
+// Numbers of an answer of rewriting called alone: number, place, bytes, protected offsets, line entries.
+const REWRITTEN: usize = 5;
+
+// The call. A refusal's number is answered, or 0.
+#[no_mangle]
+pub extern "C" fn mezhukan_compile(
+    sheet: &[u8],
+    rules: &[u8],
+    program: &[u8],
+    code: &mut [u8],
+    constants: &mut [Constant],
+    lines: &mut [u16],
+    answer: &mut [u64; COMPILED],
+) -> u8
+    ensures { λ r. ⌜ Compiles (call.room (now (code .entry)) (now (constants .entry)) (now (lines .entry))) (now (sheet .entry)) (now (rules .entry)) (now (program .entry)) (compiled (now (answer .exit)) (now (code .exit)) (now (constants .exit)) (now (lines .exit))) ⌝ }
+    ensures { λ r. ⌜ r ≡ compiled (now (answer .exit)) (now (code .exit)) (now (constants .exit)) (now (lines .exit)) .number ⌝ }
+    ensures { λ r. ⌜ (r ≡ 0 → Safe (now (sheet .entry)) (now (rules .entry)) (now (program .entry)) (compiled (now (answer .exit)) (now (code .exit)) (now (constants .exit)) (now (lines .exit)))) ⌝ }
+{
+    let a = compile::entry::compile(sheet, rules, program, code, constants, lines);
+    *answer = [
+        a.number as u64,
+        a.place as u64,
+        a.bytes as u64,
+        a.depth as u64,
+        a.constants as u64,
+        a.entries as u64,
+    ];
+    a.number
+}
+
+// Rewriting and line mapping called alone. A refusal's number is answered, or 0.
+#[no_mangle]
+pub extern "C" fn mezhukan_rewrite_alone(
+    sheet: &[u8],
+    rules: &[u8],
+    code: &[u8],
+    protected: &[u16],
+    lines: &[u16],
+    bytes: &mut [u8],
+    offsets: &mut [u16],
+    entries: &mut [u16],
+    answer: &mut [u64; REWRITTEN],
+) -> u8
+    ensures { λ r. ⌜ Rewrites (alone.room (now (bytes .entry)) (now (offsets .entry)) (now (entries .entry))) (now (sheet .entry)) (now (rules .entry)) (alone.given (now (code .entry)) (now (protected .entry)) (now (lines .entry))) (rewritten (now (answer .exit)) (now (bytes .exit)) (now (offsets .exit)) (now (entries .exit))) ⌝ }
+    ensures { λ r. ⌜ r ≡ rewritten (now (answer .exit)) (now (bytes .exit)) (now (offsets .exit)) (now (entries .exit)) .number ⌝ }
+{
+    let a = optimize::rewrite_alone(
+        sheet,
+        rules,
+        code,
+        protected,
+        lines,
+        bytes,
+        offsets,
+        entries,
+    );
+    *answer = [
+        a.number as u64,
+        a.place as u64,
+        a.bytes as u64,
+        a.protected as u64,
+        a.entries as u64,
+    ];
+    a.number
+}
