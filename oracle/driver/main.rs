@@ -168,25 +168,42 @@ fn bench(program: Program, runs: u64) -> Result<(), String> {
     let runs = runs.max(1);
     let times = match program {
         Program::Listing => {
-            let input = oracle::reader::read(&text).map_err(|_| "a bad input cannot be timed")?;
+            let read = || oracle::reader::read(&text).map_err(|_| "a bad input cannot be timed");
+            let input = read()?;
             let compile = time(runs, || drop(black_box(oracle::listing::compile(&input))));
-            format!("compile,{compile}\n")
+            let whole = time(runs, || drop(black_box(read().map(|input| oracle::listing::compile(&input)))));
+            format!("compile,{compile}\nread and compile,{whole}\n{}", our_call(&text, runs, compile, whole)?)
         }
         Program::Passes => {
             let request = oracle::alone::read(&text).map_err(|_| "a bad input cannot be timed")?;
             let rewritten = oracle::alone::rewrite(&request);
             let optimize = time(runs, || drop(black_box(oracle::alone::rewrite(&request))));
             let remap = time(runs, || drop(black_box(oracle::alone::remap(&request, &rewritten))));
-            format!("optimize,{optimize}\nremap_line_map,{remap}\n{}", ours(&text, runs, optimize)?)
+            format!("optimize,{optimize}\nremap_line_map,{remap}\n{}", our_rewriting(&text, runs, optimize)?)
         }
     };
     write(times.as_bytes())
 }
 
+/// Our call on the same input, once its answer is the published code's: its time, and what part of the published code's it is, with reading and without.
+#[cfg(feature = "ours")]
+fn our_call(text: &[u8], runs: u64, compile: u128, whole: u128) -> Result<String, String> {
+    let mut call = ours::Compile::of(text);
+    let number = call.run();
+    let printed = answer(Program::Listing, text, true)?;
+    let (code, head): (Vec<&str>, Vec<&str>) = printed.split_inclusive('\n').partition(|line| line.starts_with('b'));
+    let bytes: Vec<u8> = code.into_iter().flat_map(instruction).collect();
+    if number != 0 || head.concat() != call.head() || bytes != call.code() {
+        return Err("our call differs: nothing was timed".to_string());
+    }
+    let ours = time(runs, || _ = black_box(call.run()));
+    Ok(format!("ours,{ours}\nratio with reading,{}\nratio without,{}\n", ratio(ours, whole), ratio(ours, compile)))
+}
+
 /// Our rewriting called alone on the same input, once its code bytes are the published code's: its time, and what part of `optimize`'s it is.
 #[cfg(feature = "ours")]
-fn ours(text: &[u8], runs: u64, optimize: u128) -> Result<String, String> {
-    let mut call = ours::Call::of(&String::from_utf8_lossy(text));
+fn our_rewriting(text: &[u8], runs: u64, optimize: u128) -> Result<String, String> {
+    let mut call = ours::Rewrite::of(text);
     let number = call.run();
     let printed = answer(Program::Passes, text, true)?;
     let mut bytes: Vec<u8> = printed.lines().filter(|line| line.starts_with('b')).flat_map(instruction).collect();
@@ -195,16 +212,26 @@ fn ours(text: &[u8], runs: u64, optimize: u128) -> Result<String, String> {
         return Err("our rewriting differs: nothing was timed".to_string());
     }
     let alone = time(runs, || _ = black_box(call.run()));
-    Ok(format!("rewrite_alone,{alone}\npercent of optimize,{}\n", alone * 100 / optimize.max(1)))
+    Ok(format!("rewrite_alone,{alone}\nratio,{}\n", ratio(alone, optimize)))
+}
+
+#[cfg(feature = "ours")]
+fn ratio(ours: u128, theirs: u128) -> String {
+    format!("{:.2}", ours as f64 / theirs.max(1) as f64)
 }
 
 /// The bytes of a printed instruction.
 #[cfg(feature = "ours")]
 fn instruction(line: &str) -> Vec<u8> {
-    line.split(',').skip(2).filter_map(|byte| byte.parse().ok()).collect()
+    line.trim_end().split(',').skip(2).filter_map(|byte| byte.parse().ok()).collect()
 }
 
 #[cfg(not(feature = "ours"))]
-fn ours(_: &[u8], _: u64, _: u128) -> Result<String, String> {
+fn our_call(_: &[u8], _: u64, _: u128, _: u128) -> Result<String, String> {
+    Ok(String::new())
+}
+
+#[cfg(not(feature = "ours"))]
+fn our_rewriting(_: &[u8], _: u64, _: u128) -> Result<String, String> {
     Ok(String::new())
 }

@@ -1,8 +1,20 @@
-//! Our own rewriting called alone, linked as a static library (crates/alone_c): for the times.
+//! Our own call and our rewriting called alone, linked as a static library (crates/mezhukan): for the times.
 
-use oracle::limits::{CODE, ENTRIES, LABELS};
+use oracle::limits::{CODE, CONSTANTS, ENTRIES, LABELS};
+use oracle::reader::split_line;
 
 extern "C" {
+    #[allow(improper_ctypes)]
+    fn mezhukan_compile(
+        sheet: &[u8],
+        rules: &[u8],
+        program: &[u8],
+        code: &mut [u8],
+        constants: &mut [u32],
+        lines: &mut [u16],
+        answer: &mut [u64; 6],
+    ) -> u8;
+
     #[allow(improper_ctypes)]
     fn mezhukan_rewrite_alone(
         sheet: &[u8],
@@ -13,43 +25,100 @@ extern "C" {
         bytes: &mut [u8],
         offsets: &mut [u16],
         entries: &mut [u16],
+        answer: &mut [u64; 5],
     ) -> u8;
-}
-
-/// What is handed over, and room for what comes back.
-pub struct Call {
-    sheet: Vec<u8>,
-    rules: Vec<u8>,
-    code: Vec<u8>,
-    protected: Vec<u16>,
-    lines: Vec<u16>,
-    pub bytes: Vec<u8>,
-    pub offsets: Vec<u16>,
-    pub entries: Vec<u16>,
 }
 
 fn numbers<T: std::str::FromStr>(line: &str) -> Vec<T> {
     line.split(',').filter_map(|field| field.parse().ok()).collect()
 }
 
-impl Call {
-    /// From an input that the oracle's reader accepts.
-    pub fn of(text: &str) -> Self {
-        let mut lines = text.lines();
-        let mut line = || lines.next().unwrap_or("");
-        let sheet = format!("{}\n", line()).into_bytes();
-        let count = line().parse().unwrap_or(0);
-        let rules = (0..count).map(|_| format!("{}\n", line())).collect::<String>().into_bytes();
-        let code = numbers(line());
-        let protected = numbers(line());
-        let lines = lines.flat_map(numbers::<u16>).collect();
-        let (bytes, offsets, entries) = (vec![0; CODE], vec![0; LABELS], vec![0; 3 * ENTRIES]);
-        Call { sheet, rules, code, protected, lines, bytes, offsets, entries }
+/// The sheet file, the rule file and what follows them, of an input that the oracle's reader accepts.
+fn files(text: &[u8]) -> (Vec<u8>, Vec<u8>, &[u8]) {
+    let next = |rest| split_line(rest).unwrap_or((rest, &[]));
+    let file = |line: &[u8]| [line, b"\n"].concat();
+    let (sheet, rest) = next(text);
+    let (count, mut rest) = next(rest);
+    let mut rules = Vec::new();
+    for _ in 0..String::from_utf8_lossy(count).parse().unwrap_or(0) {
+        let (rule, after) = next(rest);
+        rules.extend(file(rule));
+        rest = after;
+    }
+    (file(sheet), rules, rest)
+}
+
+/// The call: what is handed over, and room for what comes back.
+pub struct Compile {
+    sheet: Vec<u8>,
+    rules: Vec<u8>,
+    program: Vec<u8>,
+    code: Vec<u8>,
+    constants: Vec<u32>,
+    lines: Vec<u16>,
+    answer: [u64; 6],
+}
+
+impl Compile {
+    pub fn of(text: &[u8]) -> Self {
+        let (sheet, rules, program) = files(text);
+        let (code, constants, lines) = (vec![0; CODE], vec![0; CONSTANTS], vec![0; 3 * ENTRIES]);
+        Compile { sheet, rules, program: program.to_vec(), code, constants, lines, answer: [0; 6] }
     }
 
     pub fn run(&mut self) -> u8 {
-        let Call { sheet, rules, code, protected, lines, bytes, offsets, entries } = self;
+        let Compile { sheet, rules, program, code, constants, lines, answer } = self;
         // SAFETY: the function has no requirement, and the slices are those of live vectors.
-        unsafe { mezhukan_rewrite_alone(sheet, rules, code, protected, lines, bytes, offsets, entries) }
+        unsafe { mezhukan_compile(sheet, rules, program, code, constants, lines, answer) }
+    }
+
+    /// The listing but for its instructions: numbers, constants, entries.
+    pub fn head(&self) -> String {
+        let [number, place, length, depth, constants, entries] = self.answer;
+        if number != 0 {
+            return format!("{number},{place}\n");
+        }
+        let mut text = format!("0,{length},{depth},{constants},{entries}\n");
+        self.constants.iter().take(constants as usize).for_each(|k| text += &format!("k,{}\n", *k as i32));
+        let entries = self.lines.chunks(3).take(entries as usize);
+        entries.for_each(|entry| text += &format!("l,{},{},{}\n", entry[0], entry[1], entry[2]));
+        text
+    }
+
+    /// The code that was given back.
+    pub fn code(&self) -> &[u8] {
+        &self.code[..self.answer[2] as usize]
+    }
+}
+
+/// Rewriting called alone: what is handed over, and room for what comes back.
+pub struct Rewrite {
+    sheet: Vec<u8>,
+    rules: Vec<u8>,
+    code: Vec<u8>,
+    protected: Vec<u16>,
+    lines: Vec<u16>,
+    pub bytes: Vec<u8>,
+    offsets: Vec<u16>,
+    entries: Vec<u16>,
+    answer: [u64; 5],
+}
+
+impl Rewrite {
+    pub fn of(text: &[u8]) -> Self {
+        let (sheet, rules, rest) = files(text);
+        let rest = String::from_utf8_lossy(rest);
+        let mut lines = rest.lines();
+        let code = numbers(lines.next().unwrap_or(""));
+        let protected = numbers(lines.next().unwrap_or(""));
+        let lines = lines.flat_map(numbers::<u16>).collect();
+        let (bytes, offsets, entries) = (vec![0; CODE], vec![0; LABELS], vec![0; 3 * ENTRIES]);
+        Rewrite { sheet, rules, code, protected, lines, bytes, offsets, entries, answer: [0; 5] }
+    }
+
+    pub fn run(&mut self) -> u8 {
+        let Rewrite { sheet, rules, code, protected, lines, bytes, offsets, entries, answer } = self;
+        // SAFETY: the function has no requirement, and the slices are those of live vectors.
+        unsafe { mezhukan_rewrite_alone(sheet, rules, code, protected, lines, bytes, offsets, entries, answer) }
     }
 }
