@@ -1,5 +1,5 @@
 -- `lent_emitter::emit_stmts` meets its contract: a walk of its MIR, by hand. The borrow is opened, the Emitter is copied out of it and passed to `emit_stmts` with the slices, and what `emit_stmts` returned is stored there and the borrow closed at it.
--- All that the proof knows of `emit_stmts` is that it meets its contract. The steps are those of `tools/thin.py`.
+-- All that the proof knows of `emit_stmts` is that it meets its contract. The steps are those of `tools/thin`.
 -- Assumes nothing.
 use mathlib.Core.Path.{_≡_, refl, ap}
 use Prim.Native.Nat.{ℕ, _<_, _^_}

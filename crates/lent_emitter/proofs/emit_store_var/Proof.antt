@@ -1,5 +1,5 @@
 -- `lent_emitter::emit_store_var` meets its contract: a walk of its MIR, by hand. The borrow is opened, the Emitter is copied out of it and passed to `emit_store_var` with the slices, and what `emit_store_var` returned is stored there and the borrow closed at it.
--- All that the proof knows of `emit_store_var` is that it meets its contract. The steps are those of `tools/thin.py`.
+-- All that the proof knows of `emit_store_var` is that it meets its contract. The steps are those of `tools/thin`.
 -- Assumes nothing.
 use mathlib.Core.Path.{_≡_, refl}
 use Prim.Native.Nat.{ℕ, _<_, _^_}
