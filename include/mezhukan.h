@@ -1,0 +1,88 @@
+/* Mezhukan for C: a dial program turned into branch code, and rewriting called alone. The library is target/staticlib/libmezhukan.a
+ * (`rt staticlib mezhukan`, x86-64); what is proved of the two functions stands in crates/mezhukan/src/lib.rt.
+ *
+ * A list is a pointer and a count of elements. Nothing is required of the contents of any list, nor of its length. What C must see to itself:
+ * a pointer is not null and is aligned for its elements, even where the count is 0; so many elements stand there; no output overlaps
+ * another list. No heap is used and nothing is kept between calls. */
+#ifndef MEZHUKAN_H
+#define MEZHUKAN_H
+
+#include <stddef.h>
+#include <stdint.h>
+
+#ifdef __cplusplus
+extern "C" {
+#endif
+
+/* Limits. An output shorter than its limit is refused (14), a longer one is zeroed behind the result. */
+#define MEZHUKAN_MAX_CODE 16384      /* bytes of code, emitted and finished */
+#define MEZHUKAN_MAX_CONSTANTS 1024  /* constants */
+#define MEZHUKAN_MAX_LINES 4096      /* line entries */
+#define MEZHUKAN_ENTRY_SIZE 3        /* numbers of a line entry: offset, line, column */
+#define MEZHUKAN_MAX_PROTECTED 4096  /* protected offsets of rewriting called alone */
+#define MEZHUKAN_MAX_LABELS 4096     /* labels that emission creates */
+#define MEZHUKAN_MAX_PROGRAM 65536   /* bytes of a program */
+#define MEZHUKAN_MAX_NESTING 64      /* nesting levels of a program */
+#define MEZHUKAN_MAX_VARIABLES 1024  /* variables of a program */
+#define MEZHUKAN_MAX_RULES 64        /* lines of a rule file */
+
+/* Refusals. Each has a place: a line of the program from 1 for 2 to 6, a line of the rules from 1 for 9, an offset for 8, for 7 some field at
+ * fault from 1 (0 if the line or the field count is bad), else 0. After a refusal every element of every output is 0. */
+#define MEZHUKAN_BAD_TEXT 1         /* program empty, too long, or not ended by LF */
+#define MEZHUKAN_BAD_FORM 2         /* wrong letter, wrong field count or malformed number */
+#define MEZHUKAN_BAD_RANGE 3        /* a number outside its range */
+#define MEZHUKAN_NO_LOOP 4          /* no open loop of that number */
+#define MEZHUKAN_TOO_DEEP 5         /* nesting too deep */
+#define MEZHUKAN_WRONG_LINES 6      /* a line missing or left over */
+#define MEZHUKAN_BAD_SHEET 7        /* bad opcode sheet */
+#define MEZHUKAN_BAD_CODE 8         /* rewriting alone: unlisted opcode, cut instruction, or an offset that is neither a start nor the end */
+#define MEZHUKAN_BAD_RULE 9         /* bad rule line */
+#define MEZHUKAN_CODE_FULL 10       /* code over its limit */
+#define MEZHUKAN_LABELS_FULL 11     /* labels, or protected offsets, over their limit */
+#define MEZHUKAN_LINES_FULL 12      /* line entries over their limit */
+#define MEZHUKAN_CONSTANTS_FULL 13  /* constants over their limit */
+#define MEZHUKAN_OUTPUT_SHORT 14    /* an output shorter than its limit */
+
+/* What stands where in an answer: first the refusal's number, or 0, and its place, or 0; after a refusal all others are 0. */
+enum {
+    MEZHUKAN_NUMBER = 0,
+    MEZHUKAN_PLACE = 1,
+    MEZHUKAN_CODE_LENGTH = 2, /* bytes of code given back */
+
+    MEZHUKAN_DEPTH = 3,     /* of the call: no run of the code goes above this height of the stack */
+    MEZHUKAN_CONSTANTS = 4, /* of the call: constants given back */
+    MEZHUKAN_ENTRIES = 5,   /* of the call: line entries given back */
+    MEZHUKAN_COMPILED = 6,  /* of the call: numbers of its answer */
+
+    MEZHUKAN_ALONE_PROTECTED = 3, /* of rewriting alone: protected offsets given back */
+    MEZHUKAN_ALONE_ENTRIES = 4,   /* of rewriting alone: line entries given back */
+    MEZHUKAN_REWRITTEN = 5        /* of rewriting alone: numbers of its answer */
+};
+
+/* The call. The result is the answer's number: 0, or a refusal's. */
+uint8_t mezhukan_compile(
+    const uint8_t *sheet, size_t sheet_length,     /* the opcode sheet, a line of 33 numbers with its LF */
+    const uint8_t *rules, size_t rules_length,     /* the rule file, 0 to 64 lines */
+    const uint8_t *program, size_t program_length, /* the program */
+    uint8_t *code, size_t code_length,             /* out: finished code, then 0; at least MEZHUKAN_MAX_CODE */
+    uint32_t *constants, size_t constants_length,  /* out: the constants as 32-bit two's complement, then 0; at least MEZHUKAN_MAX_CONSTANTS */
+    uint16_t *lines, size_t lines_length,          /* out: the line entries, then 0; at least MEZHUKAN_MAX_LINES * MEZHUKAN_ENTRY_SIZE */
+    uint64_t answer[MEZHUKAN_COMPILED]);           /* out: every element is set */
+
+/* Rewriting and line mapping called alone; branch bytes are copied as they are. The result is the answer's number: 0, or a refusal's. */
+uint8_t mezhukan_rewrite_alone(
+    const uint8_t *sheet, size_t sheet_length,          /* the opcode sheet */
+    const uint8_t *rules, size_t rules_length,          /* the rule file */
+    const uint8_t *code, size_t code_length,            /* the code to rewrite */
+    const uint16_t *protected_, size_t protected_length, /* offsets at which no pair may be rewritten: each a start or the end */
+    const uint16_t *lines, size_t lines_length,         /* line entries, three numbers each; one or two numbers left over are not looked at */
+    uint8_t *bytes, size_t bytes_length,                /* out: the code, then 0; at least MEZHUKAN_MAX_CODE */
+    uint16_t *offsets, size_t offsets_length,           /* out: the protected offsets as moved, then 0; at least MEZHUKAN_MAX_PROTECTED */
+    uint16_t *entries, size_t entries_length,           /* out: the line entries kept, then 0; at least MEZHUKAN_MAX_LINES * MEZHUKAN_ENTRY_SIZE */
+    uint64_t answer[MEZHUKAN_REWRITTEN]);               /* out: every element is set */
+
+#ifdef __cplusplus
+}
+#endif
+
+#endif
