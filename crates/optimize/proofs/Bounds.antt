@@ -15,7 +15,7 @@ use Rattle.definition.specs.Opcode.{Sheet}
 use Rattle.definition.specs.Rewrite.{Bytes, OffsetMap, decode, endFrom, boundariesFrom, movedTo}
 use Rattle.definition.specs.Optimize.{identity}
 use Rattle.definition.specs.Alone.{boundaries}
-use Rattle.rewrite.specs.View.{slotCount, firstOf, Clear}
+use Rattle.rewrite.specs.View.{firstOf, Clear}
 use Rattle.rewrite.proofs.Decoding.{first-is, first-none, first-within}
 use Rattle.field.proofs.Lists.{has-here}
 use Rattle.rewrite.proofs.Marked.{has-past}
@@ -33,26 +33,29 @@ unfolding boundariesFrom movedTo
 below at [] x h = moved-past at at x [] (λ e. omega arith)
 below at (i ∷ is) x h = moved-past at at x (at-itself (boundariesFrom (at + length i) is)) (λ e. omega arith) ∙ below (at + length i) is x (omega arith)
 
-pub record Listing (s : Sheet) (code table : List ℕ) (at : ℕ) : Type 0 where
+-- in a table of k elements
+pub record Listing (s : Sheet) (code : List ℕ) (k : ℕ) (table : List ℕ) (at : ℕ) : Type 0 where
   pub end : endFrom 0 (decode s code) ≡ endFrom at (decode s (drop at code))
   pub moved : (x : ℕ) → movedTo (identity s code) x ≡ getD table x 0 + movedTo (at-itself (boundariesFrom at (decode s (drop at code)))) x
   pub fresh : (x : ℕ) → at ≤ x → getD table x 0 ≡ 0
-  pub slots : length table ≡ slotCount
+  pub long : length table ≡ k
+  pub slots : length code < k
   pub within : at ≤ length code
 
 module _ (s : Sheet) (code : List ℕ) (few : length code ≤ maxCode) where
-  pub list-begins : (table : List ℕ) → Clear table → Listing s code table 0
+  pub list-begins : (table : List ℕ) → Clear (length code) table → Listing s code (length table) table 0
   unfolding identity
   list-begins table c = record {
     end = refl;
     moved = λ x. rw (c .none x) (omega arith);
     fresh = λ x _. c .none x;
+    long = refl;
     slots = c .slots;
     within = omega arith;
   }
 
-  module _ (table : List ℕ) (at n : ℕ) (g : Listing s code table at) (same : n ≡ at) (a : Bytes) (here : a ≡ firstOf (decode s (drop at code))) where
-    pub list-goes-on : (length a ≡ 0 → ⊥) → Listing s code (set table at n) (at + length a)
+  module _ {k : ℕ} (table : List ℕ) (at n : ℕ) (g : Listing s code k table at) (same : n ≡ at) (a : Bytes) (here : a ≡ firstOf (decode s (drop at code))) where
+    pub list-goes-on : (length a ≡ 0 → ⊥) → Listing s code k (set table at n) (at + length a)
     unfolding endFrom boundariesFrom
     list-goes-on full =
         let d = first-is s code at a here (omega arith) in
@@ -62,9 +65,10 @@ module _ (s : Sheet) (code : List ℕ) (few : length code ≤ maxCode) where
           end = g .end ∙ rw d;
           moved = λ x.
               let m = rw d at (g .moved x) in
-              m ∙ moved-set table at at x _ (omega (arith, g .slots, g .within)) (g .fresh at (omega arith)) (below (at + length a) (decode s (drop (at + length a) code)) at (omega arith));
+              m ∙ moved-set table at at x _ (omega (arith, g .long, g .slots, g .within)) (g .fresh at (omega arith)) (below (at + length a) (decode s (drop (at + length a) code)) at (omega arith));
           fresh = λ x k. getD-set-other table at x at 0 (λ e. omega arith) ∙ g .fresh x (omega arith);
-          slots = length-set table at at ∙ g .slots;
+          long = length-set table at at ∙ g .long;
+          slots = g .slots;
           within = w;
         })
 
@@ -80,8 +84,8 @@ module _ (s : Sheet) (code : List ℕ) (few : length code ≤ maxCode) where
           end = sym (g .end ∙ rw d);
           moved = λ x.
               let m = rw d at (g .moved x) in
-              sym (m ∙ moved-set table at at x [] (omega (arith, g .slots, g .within)) (g .fresh at (omega arith)) refl ∙ add-zero (getD (set table at at) x 0));
-          slots = length-set table at at ∙ g .slots;
+              sym (m ∙ moved-set table at at x [] (omega (arith, g .long, g .slots, g .within)) (g .fresh at (omega arith)) refl ∙ add-zero (getD (set table at at) x 0));
+          slots = rw (length-set table at at, g .long) (g .slots);
           within = g .within;
         })
 

@@ -20,7 +20,6 @@ use Rattle.optimize.proofs.Tables.{fixed-small}
 use Rattle.line_map.specs.declared.LineEntry.{LineEntry}
 use Rattle.line_map.specs.View.{entryView}
 use Rattle.line_map.proofs.Entries.{entries-at, entries-none}
-use Rattle.rewrite.specs.View.{slotCount}
 
 pub bounds-more : (places : List ℕ) (x : ℕ) (xs : List ℕ) → has places x ≡ true → boundaries places (x ∷ xs) ≡ boundaries places xs
 unfolding boundaries _>>_ demand
@@ -32,41 +31,41 @@ bounds-bad places x xs h = ap (λ (t : Bool). demand t badCode x >> boundaries p
 
 -- ---- a plain list
 
-pub record Checking (places list : List ℕ) (i : ℕ) : Type 0 where
+pub record Checking (places : List ℕ) (n : ℕ) (list : List ℕ) (i : ℕ) : Type 0 where
   pub left : boundaries places list ≡ boundaries places (drop i list)
-  pub small : (k : ℕ) → k < i → getD list k 0 ≤ maxCode
+  pub small : (k : ℕ) → k < i → getD list k 0 < n
 
 module _ (table list : List ℕ) where
-  pub check-begins : Checking (fixedIn table) list 0
+  pub check-begins : Checking (fixedIn table) (length table) list 0
   check-begins = record { left = refl; small = λ k h. absurd (omega arith) }
 
-  pub check-goes-on : (i : ℕ) → length table ≡ slotCount → Checking (fixedIn table) list i → i < length list → true ≡ has (fixedIn table) (getD list i 0) → Checking (fixedIn table) list (i + 1)
+  pub check-goes-on : (i : ℕ) → 1 ≤ length table → Checking (fixedIn table) (length table) list i → i < length list → true ≡ has (fixedIn table) (getD list i 0) → Checking (fixedIn table) (length table) list (i + 1)
   check-goes-on i slots c h on = record {
     left = c .left ∙ rw (drop-cons list i 0 h, add-one i) (bounds-more (fixedIn table) (getD list i 0) (drop (suc i) list) (sym on));
     small = λ k q. byPlace k q (leb i k) refl;
   }
     where
-      byPlace : (k : ℕ) → k < i + 1 → (t : Bool) → leb i k ≡ t → getD list k 0 ≤ maxCode
+      byPlace : (k : ℕ) → k < i + 1 → (t : Bool) → leb i k ≡ t → getD list k 0 < length table
       byPlace k q true e =
           let same : k ≡ i = omega (arith, leb-true i k e) in
           rw same (fixed-small table (getD list i 0) slots (sym on))
       byPlace k q false e = c .small k (leb-false _ _ e)
 
-  pub check-bad : (i : ℕ) → Checking (fixedIn table) list i → i < length list → false ≡ has (fixedIn table) (getD list i 0)
-      → Checks (boundaries (fixedIn table) list) list (Bad (getD list i 0))
+  pub check-bad : (i : ℕ) → Checking (fixedIn table) (length table) list i → i < length list → false ≡ has (fixedIn table) (getD list i 0)
+      → Checks (boundaries (fixedIn table) list) (length table) list (Bad (getD list i 0))
   check-bad i c h off = record {
     is = sym (c .left ∙ rw (drop-cons list i 0 h) (bounds-bad (fixedIn table) (getD list i 0) (drop (suc i) list) (sym off)));
     small = λ e. absurd (let n : _≡_ {A = ℕ} 0 1 = cc in omega arith);
   }
 
-  pub check-ends : (i : ℕ) → Checking (fixedIn table) list i → length list ≤ i → Checks (boundaries (fixedIn table) list) list Fine
+  pub check-ends : (i : ℕ) → 1 ≤ length table → Checking (fixedIn table) (length table) list i → length list ≤ i → Checks (boundaries (fixedIn table) list) (length table) list Fine
   unfolding boundaries
-  check-ends i c h = record {
+  check-ends i slots c h = record {
     is = sym (c .left ∙ rw (drop-of-length-le list h));
     small = λ _. record { at = λ k. byPlace k (leb (length list) k) refl };
   }
     where
-      byPlace : (k : ℕ) (t : Bool) → leb (length list) k ≡ t → getD list k 0 ≤ maxCode
+      byPlace : (k : ℕ) (t : Bool) → leb (length list) k ≡ t → getD list k 0 < length table
       byPlace k true e = rw (List·getD-eq-default list 0 (leb-true _ _ e)) (omega arith)
       byPlace k false e = c .small k (omega (arith, leb-false (length list) k e))
 

@@ -2,7 +2,7 @@
 use mathlib.Core.Path.{_≡_, refl, _∙_}
 use mathlib.Core.Bool.{true, false}
 use mathlib.Core.List.{List}
-use Prim.Native.Nat.{ℕ}
+use Prim.Native.Nat.{ℕ, suc}
 use native.Mathlib.Omega.{arith}
 use borrow.Author.Tests.{eq-eqb, ne-eqb}
 use lib.Dec.{eqb}
@@ -33,18 +33,18 @@ module _ (s : Sheet) (code protected lines table : List ℕ) (end : ℕ) (b : Bo
       let off : eqb (endFrom 0 (decode s code)) (length code) ≡ false = rw (← (b .end)) (ne-eqb end (length code) h) in
       record { is = rw (order, off, e, b .end); end = end; bounds = b; small = λ q. absurd (let z : _≡_ {A = ℕ} 0 1 = cc in omega arith) }
 
-  module _ (whole : end ≡ length code) where
+  module _ (whole : end ≡ length code) (exact : length table ≡ suc (length code)) where
     on : eqb (endFrom 0 (decode s code)) (length code) ≡ true
     on = rw (← (b .end)) (eq-eqb end (length code) whole)
 
-    pub bad-protected : {x : ℕ} {o : Offset} → o ≡ Bad x → Checks (boundaries (fixedIn table) protected) protected o → Passed s (given code protected lines) table (Bad x)
+    pub bad-protected : {x : ℕ} {o : Offset} → o ≡ Bad x → Checks (boundaries (fixedIn table) protected) (length table) protected o → Passed s (given code protected lines) table (Bad x)
     unfolding _>>_ demand
     bad-protected {x} q c =
         let r : refuse badCode x ≡ boundaries (boundariesFrom 0 (decode s code)) protected = (rw q at (c .is)) ∙ listed protected in
         record { is = rw (order, on, ← r); end = end; bounds = b; small = λ e. absurd (let z : _≡_ {A = ℕ} 0 1 = cc in omega arith) }
 
-    pub checked-lines : {o r : Offset} → o ≡ Fine → Checks (boundaries (fixedIn table) protected) protected o → offsetView r ≡ boundaries (fixedIn table) (entryOffsets lines) → Passed s (given code protected lines) table r
+    pub checked-lines : {o r : Offset} → o ≡ Fine → Checks (boundaries (fixedIn table) protected) (length table) protected o → offsetView r ≡ boundaries (fixedIn table) (entryOffsets lines) → Passed s (given code protected lines) table r
     unfolding _>>_ demand
     checked-lines q c l =
         let p : ok tt ≡ boundaries (boundariesFrom 0 (decode s code)) protected = (rw q at (c .is)) ∙ listed protected in
-        record { is = rw (order, on, ← p) (l ∙ listed (entryOffsets lines)); end = end; bounds = b; small = λ _. c .small q }
+        record { is = rw (order, on, ← p) (l ∙ listed (entryOffsets lines)); end = end; bounds = b; small = λ _. rw exact at (c .small q) }

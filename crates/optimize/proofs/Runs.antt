@@ -3,7 +3,7 @@ use mathlib.Core.Path.{_≡_, refl, ap, sym, _∙_}
 use mathlib.Core.Bool.{Bool, true, false, _||_}
 use mathlib.Core.Option.{Option, some, none}
 use mathlib.Core.List.{List, [], _∷_, _++_, map}
-use Prim.Native.Nat.{ℕ, zero, suc, _+_, _-_, _≤_}
+use Prim.Native.Nat.{ℕ, zero, suc, _+_, _-_, _≤_, _<_}
 use native.Mathlib.Omega.{arith}
 use lib.ListN.{length, take, drop, getD}
 use lib.Seq.{length-take-le}
@@ -68,19 +68,19 @@ unfolding mapFrom mapThrough
 map-from m at [] = refl
 map-from m at (y ∷ ys) = ap (λ (r : OffsetMap). (at, movedTo m y) ∷ r) (map-from m (suc at) ys)
 
-small-map : (f : ℕ → ℕ) (xs : List ℕ) → ((x : ℕ) → f x ≤ maxCode) → (i : ℕ) → getD (map f xs) i 0 ≤ maxCode
-small-map f [] h i = omega arith
-small-map f (x ∷ xs) h zero = h x
-small-map f (x ∷ xs) h (suc i) = small-map f xs h i
+small-map : (f : ℕ → ℕ) (n : ℕ) (xs : List ℕ) → ((x : ℕ) → f x ≤ n) → (i : ℕ) → getD (map f xs) i 0 < suc n
+small-map f n [] h i = omega arith
+small-map f n (x ∷ xs) h zero = omega (arith, h x)
+small-map f n (x ∷ xs) h (suc i) = small-map f n xs h i
 
 -- ---- one pass
 
-pub ran : (s : Sheet) (rules : List ℕ) (count pass : ℕ) {protected marks code code′ moves protected′ total′ : List ℕ} {n : ℕ} (total : List ℕ) → length code ≤ maxCode
+pub ran : (s : Sheet) (rules : List ℕ) (count pass : ℕ) {protected marks code code′ moves protected′ total′ : List ℕ} {n : ℕ} (total : List ℕ)
     → Marks protected marks → Peephole (applyPeephole s (matcher rules count pass) (marked marks) code) code code′ moves n
     → protected′ ≡ map (movedTo (mapIn moves)) protected → total′ ≡ map (movedTo (mapIn moves)) total
     → Ran (run s (rulesIn rules count) pass (pipeline code protected total)) code code′ protected′ total′ n
 unfolding run mapIn
-ran s rules count pass {protected} {marks} {code} {code′} {moves} {protected′} {total′} {n} total few mk ph ep et =
+ran s rules count pass {protected} {marks} {code} {code′} {moves} {protected′} {total′} {n} total mk ph ep et =
     let M = applyPeephole s (matcher rules count pass) protected code .1 in
     let same = same-pass s (matcher rules count pass) (marked marks) protected (mk .is) code in
     let ph′ = rw same at ph in
@@ -91,7 +91,7 @@ ran s rules count pass {protected} {marks} {code} {code′} {moves} {protected�
       within = ph′ .within;
       protected = ep ∙ same-map (movedTo (mapIn moves)) (movedTo M) protected by;
       map = rw (et ∙ same-map (movedTo (mapIn moves)) (movedTo M) total by) (map-from M 0 total);
-      small = record { at = rw ep (small-map (movedTo (mapIn moves)) protected (λ x. rw (moved-in moves x) (omega (arith, ph .small x)))) };
+      small = record { at = rw ep (small-map (movedTo (mapIn moves)) n protected (λ x. rw (moved-in moves x) (ph .small x))) };
     }
 
 -- ---- passes in turn, each over what the one before left
@@ -115,14 +115,21 @@ then-run s rules {q} {code} {c} {p} {t} {d} {p′} {t′} {n} {n′} pass a b =
 pub runnable : {sheet rules : List ℕ} {count : ℕ} {code c p p₀ t : List ℕ} {n : ℕ} {q : Pipeline} → Runnable sheet rules count code p₀ → Ran q code c p t n → Runnable sheet rules count (take n c) p
 runnable {code = code} {c = c} {n = n} {q = q} r a =
     let here : take n c ≡ q .bytecode = rw (a .bytes) (front (length code) (q .bytecode) n (sym (a .end))) in
-    record { table = r .table; held = r .held; few = rw here (omega (arith, a .end, a .within, r .few)); small = a .small }
+    record { table = r .table; held = r .held; few = rw here (omega (arith, a .end, a .within, r .few)); small = rw (here, ← (a .end)) (a .small) }
 
-ran-long : {code c p t : List ℕ} {n : ℕ} {q : Pipeline} → Ran q code c p t n → length c ≡ length code
+pub ran-long : {code c p t : List ℕ} {n : ℕ} {q : Pipeline} → Ran q code c p t n → length c ≡ length code
 ran-long {code} {c} {q = q} a = ap length (a .bytes) ∙ length-filled (length code) (q .bytecode) (omega (arith, a .end, a .within))
 
 -- the part of a slice that the next pass is lent
 pub part-long : {code c p t : List ℕ} {n : ℕ} {q : Pipeline} → Ran q code c p t n → n ≡ length (take n c)
 part-long {c = c} {n = n} a = sym (length-take-le n c (omega (arith, ran-long a, a .within)))
+
+-- and its code is not longer
+pub part-few : {code c p t : List ℕ} {n : ℕ} {q : Pipeline} → Ran q code c p t n → length (take n c) ≤ length code
+part-few a = let l = part-long a in omega (arith, a .within)
+
+pub later-few : {code c d e p t p′ t′ : List ℕ} {n : ℕ} {q q′ : Pipeline} → Ran q code c p t n → Ran q′ d e p′ t′ n → length (take n c) ≤ length d
+later-few a b = let l = part-long a in omega (arith, b .within)
 
 pub part-within : {code c p t : List ℕ} {n : ℕ} {q : Pipeline} → Ran q code c p t n → n ≤ length c
 part-within a = omega (arith, ran-long a, a .within)

@@ -9,11 +9,13 @@ use native.Mathlib.Omega.{arith}
 use borrow.Author.Tests.{ne-eqb, eqb-true, eqb-false, leb-true, leb-false}
 use lib.ListN.{length, getD, set, take, drop, length-set, drop-of-length-le, replicate, length-replicate, List·getD-eq-default}
 use lib.Dec.{eqb, leb}
-use lib.Seq.{getD-set-same, getD-set-other, drop-cons, take-suc-set, drop-set-lt, take-all, append-snoc}
-use Rattle.definition.specs.Limits.{maxCode}
+use lib.Seq.{length-take-le, getD-set-same, getD-set-other, drop-cons, take-suc-set, drop-set-lt, take-all, append-snoc}
 use Rattle.definition.specs.Field.{has}
 use Rattle.definition.specs.Rewrite.{movedTo}
 use Rattle.rewrite.specs.View.{isMark, slotCount, Clear}
+use Rattle.definition.specs.Limits.{maxCode}
+use Rattle.store.specs.Fill.{zeroedFrom}
+use Rattle.store.proofs.Fills.{zeros-replicate, length-zeros, zero-all}
 use Rattle.field.proofs.Lists.{has-here}
 use Rattle.rewrite.proofs.Marked.{has-past, has-where, has-marked}
 use Rattle.rewrite.proofs.Pass.{moved-here, moved-past}
@@ -58,17 +60,17 @@ or-false : (b : Bool) → (b || false) ≡ b
 or-false true = refl
 or-false false = refl
 
--- what is left to mark from the i-th on
-pub record Marking (protected marks : List ℕ) (i : ℕ) : Type 0 where
-  pub slots : length marks ≡ slotCount
+-- what is left to mark from the i-th on, in a table of k elements
+pub record Marking (protected : List ℕ) (k : ℕ) (marks : List ℕ) (i : ℕ) : Type 0 where
+  pub slots : length marks ≡ k
   pub left : (x : ℕ) → has protected x ≡ (isMark (getD marks x 0) || has (drop i protected) x)
 
 module _ (protected : List ℕ) where
-  pub mark-begins : (marks : List ℕ) → Clear marks → Marking protected marks 0
+  pub mark-begins : (marks : List ℕ) → ((x : ℕ) → getD marks x 0 ≡ 0) → Marking protected (length marks) marks 0
   unfolding isMark
-  mark-begins marks c = record { slots = c .slots; left = λ x. rw (c .none x) }
+  mark-begins marks none = record { slots = refl; left = λ x. rw (none x) }
 
-  pub mark-goes-on : (marks : List ℕ) (i y : ℕ) → Small protected → Marking protected marks i → i < length protected → y ≡ getD protected i 0 → Marking protected (set marks y 1) (i + 1)
+  pub mark-goes-on : {k : ℕ} (marks : List ℕ) (i y : ℕ) → Small k protected → Marking protected k marks i → i < length protected → y ≡ getD protected i 0 → Marking protected k (set marks y 1) (i + 1)
   unfolding isMark
   mark-goes-on marks i y small m h e =
       let small-here = small .at i in
@@ -90,10 +92,9 @@ module _ (protected : List ℕ) where
             rw (add-one i) (byTest (eqb x y) refl);
       }
 
-  pub mark-ends : (marks : List ℕ) (i : ℕ) → Marking protected marks i → length protected ≤ i → Marks protected marks
+  pub mark-ends : {k : ℕ} (marks : List ℕ) (i : ℕ) → Marking protected k marks i → length protected ≤ i → Marks protected marks
   unfolding has
   mark-ends marks i m h = record {
-    slots = m .slots;
     is = λ x. has-marked marks x ∙ sym (rw (drop-of-length-le protected h, or-false) at (m .left x));
   }
 
@@ -125,19 +126,45 @@ replicate-none zero x = refl
 replicate-none (suc n) zero = refl
 replicate-none (suc n) (suc x) = replicate-none n x
 
-pub clear-table : (n : ℕ) → n ≡ slotCount → Clear (replicate n 0)
-clear-table n e = record { slots = length-replicate n 0 ∙ e; none = replicate-none n }
+-- the part of it that code of m bytes needs
+part-none : (k n x : ℕ) → _≡_ {A = ℕ} (getD (take k (replicate n 0)) x 0) 0
+part-none zero n x = refl
+part-none (suc k) zero x = refl
+part-none (suc k) (suc n) zero = refl
+part-none (suc k) (suc n) (suc x) = part-none k n x
+
+abbrev slots-for : ℕ → List ℕ
+slots-for m = take (m + 1) (replicate slotCount 0)
+
+pub slots-long : (m : ℕ) → m ≤ maxCode → length (slots-for m) ≡ m + 1
+slots-long m h = length-take-le {A = ℕ} (m + 1) (replicate slotCount 0) (let l = length-replicate {A = ℕ} slotCount 0 in omega arith)
+
+pub slots-clear : (m : ℕ) → m ≤ maxCode → Clear m (slots-for m)
+slots-clear m h = record { slots = rw (slots-long m h) (omega arith); none = part-none (m + 1) slotCount }
+
+-- cleared again
+pub cleared : {out : List ℕ} {n : ℕ} (l : List ℕ) → out ≡ zeroedFrom 0 l → n < length l → Clear n out
+cleared l e h =
+    let z = zero-all l e in
+    record { slots = rw (z, length-zeros (length l)) h; none = λ x. rw (z, ← (zeros-replicate (length l))) (replicate-none (length l) x) }
+
+-- for shorter code
+pub shorter : {m n : ℕ} {table : List ℕ} → m ≤ n → Clear n table → Clear m table
+shorter h c = record { slots = omega (arith, c .slots); none = c .none }
+
+pub smaller : {j k : ℕ} {list : List ℕ} → j ≤ k → Small j list → Small k list
+smaller h s = record { at = λ i. omega (arith, s .at i) }
 
 never : (b : Bool) → b ≡ true → b ≡ false → ⊥
 never b p q = let z : _≡_ {A = ℕ} 0 1 = cc in omega arith
 
-pub fixed-small : (table : List ℕ) (x : ℕ) → length table ≡ slotCount → has (fixedIn table) x ≡ true → x ≤ maxCode
+pub fixed-small : (table : List ℕ) (x : ℕ) → 1 ≤ length table → has (fixedIn table) x ≡ true → x < length table
 fixed-small table x slots h = byPlace (leb (length table) x) refl
   where
-    byPlace : (t : Bool) → leb (length table) x ≡ t → x ≤ maxCode
-    byPlace true q = absurd (never _ h (fixed-past table x (omega arith) (leb-true _ _ q)))
-    byPlace false q = omega (arith, leb-false (length table) x q)
+    byPlace : (t : Bool) → leb (length table) x ≡ t → x < length table
+    byPlace true q = absurd (never _ h (fixed-past table x slots (leb-true _ _ q)))
+    byPlace false q = leb-false (length table) x q
 
 -- one offset's test in code
-pub is-fixed : (table : List ℕ) (x y : ℕ) → length table ≡ slotCount → y ≡ movedTo (mapIn table) x → eqb y x ≡ has (fixedIn table) x
-is-fixed table x y slots e = rw (e, moved-in table x) (sym (has-fixed table x (omega arith)))
+pub is-fixed : (table : List ℕ) (x y : ℕ) → 1 ≤ length table → y ≡ movedTo (mapIn table) x → eqb y x ≡ has (fixedIn table) x
+is-fixed table x y slots e = rw (e, moved-in table x) (sym (has-fixed table x slots))

@@ -1,5 +1,5 @@
 -- What this crate's functions give, said of the definition.
-use Prim.Native.Nat.{ℕ, _*_, _/_, _≤_, suc}
+use Prim.Native.Nat.{ℕ, _*_, _/_, _≤_, _<_, suc}
 use mathlib.Core.Path.{_≡_}
 use mathlib.Core.Bool.{true, false}
 use mathlib.Core.List.{List, [], _∷_, map}
@@ -21,7 +21,7 @@ use Rattle.definition.specs.Alone as def-alone
 use Rattle.definition.specs.Alone.{Given, Rewritten, Room, checked, rewritten}
 use Rattle.optimize.specs.declared.alone.Answer.{Answer}
 use Rattle.line_map.specs.View.{entryView}
-use Rattle.rewrite.specs.View.{offsetsWhere, marked, slotCount}
+use Rattle.rewrite.specs.View.{offsetsWhere, marked}
 use Rattle.optimize.specs.declared.Kept.{Kept}
 use Rattle.optimize.specs.declared.Kept.the-variants.{None, At}
 use Rattle.optimize.specs.declared.Remapped.{Remapped}
@@ -31,13 +31,12 @@ use Rattle.optimize.specs.declared.Offset.the-variants.{Fine, Bad}
 
 -- ---- tables by offset
 
--- offsets that such a table has a place for
-pub record Small (list : List ℕ) : Type 0 where
-  pub at : (i : ℕ) → getD list i 0 ≤ maxCode
+-- offsets that such a table of k elements has a place for
+pub record Small (k : ℕ) (list : List ℕ) : Type 0 where
+  pub at : (i : ℕ) → getD list i 0 < k
 
 -- a table that marks these offsets and no others
 pub record Marks (protected marks : List ℕ) : Type 0 where
-  pub slots : length marks ≡ slotCount
   pub is : (x : ℕ) → has (marked marks) x ≡ has protected x
 
 -- the map that a table is: each offset below its length with what stands there
@@ -56,7 +55,7 @@ fixedIn table = offsetsWhere (λ x y. eqb y x) 0 table
 pub record Bounds (s : Sheet) (code table : List ℕ) (r : ℕ) : Type 0 where
   pub end : r ≡ endFrom 0 (decode s code)
   pub moved : (x : ℕ) → getD table x 0 ≡ movedTo (identity s code) x
-  pub slots : length table ≡ slotCount
+  pub slots : length code < length table
   pub within : r ≤ length code
 
 -- ---- the code between passes
@@ -73,7 +72,7 @@ pub record Runnable (sheet rules : List ℕ) (count : ℕ) (code protected : Lis
   pub table : IsTable sheet
   pub held : IsRules rules count
   pub few : length code ≤ maxCode
-  pub small : Small protected
+  pub small : Small (suc (length code)) protected
 
 -- the slices hold what is left of the code and then 0, the protected offsets and the map so far; the code's length is answered
 pub record Ran (p : Pipeline) (code code′ protected′ total′ : List ℕ) (r : ℕ) : Type 0 where
@@ -82,7 +81,7 @@ pub record Ran (p : Pipeline) (code code′ protected′ total′ : List ℕ) (r
   pub within : r ≤ length code
   pub protected : protected′ ≡ p .protected
   pub map : mapIn total′ ≡ p .map
-  pub small : Small protected′
+  pub small : Small (suc r) protected′
 
 -- the same in outputs that have room for more: 0 up to their ends
 pub record Rewrote (p : Pipeline) (bytes offsets bytes′ offsets′ total′ : List ℕ) (r : ℕ) : Type 0 where
@@ -115,10 +114,10 @@ offsetView (Bad x) = refuse badCode x
 abbrev pub entryOffsets : List ℕ → List ℕ
 entryOffsets lines = map (λ (x : def.LineEntry). x .offset) (entriesOf lines)
 
--- where nothing is bad, every offset has a place in a table
-pub record Checks (result : Res (Unit {0})) (list : List ℕ) (r : Offset) : Type 0 where
+-- where nothing is bad, every offset has a place in a table of k elements
+pub record Checks (result : Res (Unit {0})) (k : ℕ) (list : List ℕ) (r : Offset) : Type 0 where
   pub is : offsetView r ≡ result
-  pub small : r ≡ Fine → Small list
+  pub small : r ≡ Fine → Small k list
 
 -- the entries kept from the start of an output of numbers, and 0 up to its end
 pub record Remaps (kept : List def.LineEntry) (out out′ : List ℕ) (r : ℕ) : Type 0 where
@@ -135,7 +134,7 @@ pub record Passed (s : Sheet) (g : Given) (table : List ℕ) (r : Offset) : Type
   pub is : offsetView r ≡ checked s g
   pub end : ℕ
   pub bounds : Bounds s (g .code) table end
-  pub small : r ≡ Fine → Small (g .protected)
+  pub small : r ≡ Fine → Small (suc (length (g .code))) (g .protected)
 
 abbrev pub roomOf : ℕ → ℕ → ℕ → Room
 roomOf bytes offsets entries = record { code = bytes; protected = offsets; lines = entries }

@@ -2,6 +2,9 @@
 ghost use mathlib.Core.Path.{_≡_};
 ghost use Rattle.definition.specs.Res.{refuse};
 ghost use Rattle.definition.specs.Alone.{roomy, answer, Rewrites};
+ghost use Prim.Native.Nat.{suc};
+ghost use lib.ListN.{length};
+ghost use Rattle.rewrite.specs.View.{Clear};
 ghost use Rattle.opcode.specs.Table.{IsTable, sheetIn};
 ghost use Rattle.rules.specs.View.{rulesIn};
 ghost use Rattle.optimize.specs.View.{given, room, roomOf, overLimit, answerView, Tables, Within, Roomy, afterLimits, afterRules, afterSheet};
@@ -79,7 +82,7 @@ fn over_limit(code: usize, protected: usize, entries: usize) -> u8
     0
 }
 
-// Within the limits: 8, or the code rewritten and the lines mapped.
+// Within the limits: 8, or the code rewritten and the lines mapped. The map is lent, an element for each offset.
 fn rewrite_checked(
     sheet: &[u8],
     rules: &[u16],
@@ -87,16 +90,18 @@ fn rewrite_checked(
     code: &[u8],
     protected: &[u16],
     lines: &[u16],
+    total: &mut [u16],
     bytes: &mut [u8],
     offsets: &mut [u16],
     entries: &mut [u16],
 ) -> Answer
     requires { ⌜ Tables (now sheet) (now rules) count ⌝ }
     requires { ⌜ Within (given (now code) (now protected) (now lines)) (room (now bytes) (now offsets) (now entries)) ⌝ }
+    requires { ⌜ Clear (length (now code)) (now total) ⌝ }
+    requires { ⌜ length (now total) ≡ suc (length (now code)) ⌝ }
     ensures { λ r. ⌜ answerView r (now (bytes .exit)) (now (offsets .exit)) (now (entries .exit)) ≡ answer (room (now (bytes .entry)) (now (offsets .entry)) (now (entries .entry))) (afterLimits (sheetIn (now (sheet .entry))) (rulesIn (now (rules .entry)) count) (given (now (code .entry)) (now (protected .entry)) (now (lines .entry)))) ⌝ }
 {
-    let mut total = [0u16; rewrite::SLOTS];
-    match crate::check(sheet, code, protected, lines, &mut total) {
+    match crate::check(sheet, code, protected, lines, total) {
         Offset::Bad(x) => {
             let place = numbers::word(x);
             refuse(BAD_CODE, place, bytes, offsets, entries)
@@ -111,9 +116,9 @@ fn rewrite_checked(
                 protected,
                 bytes,
                 offsets,
-                &mut total,
+                total,
             );
-            let e = crate::remap_line_map(&total, n, lines, entries);
+            let e = crate::remap_line_map(total, n, lines, entries);
             Answer {
                 number: 0,
                 place: 0,
@@ -145,6 +150,8 @@ fn rewrite_limited(
     if over != 0 {
         return refuse(over, 0, bytes, offsets, entries);
     }
+    let end = code.len() + 1;
+    let mut total = [0u16; rewrite::SLOTS];
     rewrite_checked(
         sheet,
         rules,
@@ -152,6 +159,7 @@ fn rewrite_limited(
         code,
         protected,
         lines,
+        &mut total[..end],
         bytes,
         offsets,
         entries,

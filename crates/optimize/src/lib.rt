@@ -2,7 +2,7 @@
 ghost use mathlib.Core.Path.{_≡_};
 ghost use mathlib.Core.List.{map, [], _∷_};
 ghost use mathlib.Core.Option.{none};
-ghost use Prim.Native.Nat.{_*_, _/_, _≤_};
+ghost use Prim.Native.Nat.{_*_, _/_, _≤_, suc};
 ghost use lib.ListN.{length};
 ghost use Rattle.definition.specs.Limits.{maxCode, entrySize};
 ghost use Rattle.definition.specs.Field.{has};
@@ -14,7 +14,7 @@ ghost use Rattle.opcode.specs.Table.{IsTable, sheetIn};
 ghost use Rattle.rules.specs.View.{rulesIn};
 ghost use Rattle.store.specs.Store.{at, pushAll};
 ghost use Rattle.line_map.specs.View.{entryView};
-ghost use Rattle.rewrite.specs.View.{slotCount, Clear};
+ghost use Rattle.rewrite.specs.View.{Clear};
 ghost use Rattle.optimize.specs.View.{Small, Marks, Bounds, Runnable, pipeline, passes, Ran, Rewrote, Passed, given, mapIn, fixedIn, Checks, offsetView, entryOffsets, keptView, remappedView, lastAfter, Remaps};
 use definition::ENTRY_SIZE;
 use line_map::LineEntry;
@@ -64,8 +64,8 @@ fn move_all(moves: &[u16], list: &mut [u16])
 
 // A mark at each of the offsets, in a table that has none.
 fn mark(protected: &[u16], marks: &mut [u8])
-    requires { ⌜ Small (now protected) ⌝ }
-    requires { ⌜ Clear (now marks) ⌝ }
+    requires { ⌜ Small (length (now marks)) (now protected) ⌝ }
+    requires { ⌜ Clear 0 (now marks) ⌝ }
     ensures { λ r. ⌜ Marks (now (protected .entry)) (now (marks .exit)) ⌝ }
 {
     let mut i = 0;
@@ -80,7 +80,7 @@ fn mark(protected: &[u16], marks: &mut [u8])
 pub fn list_boundaries(sheet: &[u8], code: &[u8], table: &mut [u16]) -> usize
     requires { ⌜ IsTable (now sheet) ⌝ }
     requires { ⌜ length (now code) ≤ maxCode ⌝ }
-    requires { ⌜ Clear (now table) ⌝ }
+    requires { ⌜ Clear (length (now code)) (now table) ⌝ }
     ensures { λ r. ⌜ Bounds (sheetIn (now (sheet .entry))) (now (code .entry)) (now (table .exit)) r ⌝ }
 {
     let mut at = 0;
@@ -97,7 +97,7 @@ pub fn list_boundaries(sheet: &[u8], code: &[u8], table: &mut [u16]) -> usize
 
 // Whether a table of starts and the end leaves an offset where it is.
 fn is_boundary(table: &[u16], x: u16) -> bool
-    requires { ⌜ length (now table) ≡ slotCount ⌝ }
+    requires { ⌜ 1 ≤ length (now table) ⌝ }
     ensures { λ r. ⌜ r ≡ has (fixedIn (now (table .entry))) x ⌝ }
 {
     moved_to(table, x) == x
@@ -105,8 +105,8 @@ fn is_boundary(table: &[u16], x: u16) -> bool
 
 // The first of the protected offsets that is no boundary.
 fn check_protected(table: &[u16], list: &[u16]) -> Offset
-    requires { ⌜ length (now table) ≡ slotCount ⌝ }
-    ensures { λ r. ⌜ Checks (boundaries (fixedIn (now (table .entry))) (now (list .entry))) (now (list .entry)) r ⌝ }
+    requires { ⌜ 1 ≤ length (now table) ⌝ }
+    ensures { λ r. ⌜ Checks (boundaries (fixedIn (now (table .entry))) (now (list .entry))) (length (now (table .entry))) (now (list .entry)) r ⌝ }
 {
     let mut i = 0;
     while i < list.len() {
@@ -121,7 +121,7 @@ fn check_protected(table: &[u16], list: &[u16]) -> Offset
 
 // The first of the line entries' offsets that is no boundary.
 fn check_lines(table: &[u16], lines: &[u16]) -> Offset
-    requires { ⌜ length (now table) ≡ slotCount ⌝ }
+    requires { ⌜ 1 ≤ length (now table) ⌝ }
     ensures { λ r. ⌜ offsetView r ≡ boundaries (fixedIn (now (table .entry))) (entryOffsets (now (lines .entry))) ⌝ }
 {
     let mut i = 0;
@@ -202,7 +202,7 @@ pub fn remap_line_map(moves: &[u16], end: usize, lines: &[u16], out: &mut [u16])
     to / ENTRY_SIZE
 }
 
-// One pass, with the protected offsets and the map so far moved with the code. Marks and moves are made anew for each.
+// One pass, with the protected offsets and the map so far moved with the code. Marks and moves are lent without any, and left so.
 fn run(
     sheet: &[u8],
     rules: &[u16],
@@ -211,20 +211,67 @@ fn run(
     code: &mut [u8],
     protected: &mut [u16],
     total: &mut [u16],
+    marks: &mut [u8],
+    moves: &mut [u16],
 ) -> usize
     requires { ⌜ Runnable (now sheet) (now rules) count (now code) (now protected) ⌝ }
+    requires { ⌜ Clear (length (now code)) (now marks) ⌝ }
+    requires { ⌜ Clear (length (now code)) (now moves) ⌝ }
     ensures { λ r. ⌜ Ran (run (sheetIn (now (sheet .entry))) (rulesIn (now (rules .entry)) count) pass (pipeline (now (code .entry)) (now (protected .entry)) (now (total .entry)))) (now (code .entry)) (now (code .exit)) (now (protected .exit)) (now (total .exit)) r ⌝ }
+    ensures { λ r. ⌜ Clear (length (now (code .entry))) (now (marks .exit)) ⌝ }
+    ensures { λ r. ⌜ Clear (length (now (code .entry))) (now (moves .exit)) ⌝ }
 {
-    let mut marks = [0u8; rewrite::SLOTS];
-    mark(protected, &mut marks);
-    let mut moves = [0u16; rewrite::SLOTS];
-    let n = rewrite::apply_peephole(sheet, rules, count, pass, &marks, code, &mut moves);
-    move_all(&moves, protected);
-    move_all(&moves, total);
+    mark(protected, marks);
+    let n = rewrite::apply_peephole(sheet, rules, count, pass, marks, code, moves);
+    move_all(moves, protected);
+    move_all(moves, total);
+    store::zero_bytes(marks, 0);
+    store::zero_numbers(moves, 0);
     n
 }
 
-// The three passes, over the whole of a slice of code.
+// The three passes one after another, each over what the one before left.
+fn passes(
+    sheet: &[u8],
+    rules: &[u16],
+    count: usize,
+    code: &mut [u8],
+    protected: &mut [u16],
+    total: &mut [u16],
+    marks: &mut [u8],
+    moves: &mut [u16],
+) -> usize
+    requires { ⌜ Runnable (now sheet) (now rules) count (now code) (now protected) ⌝ }
+    requires { ⌜ Clear (length (now code)) (now marks) ⌝ }
+    requires { ⌜ Clear (length (now code)) (now moves) ⌝ }
+    ensures { λ r. ⌜ Ran (passes (sheetIn (now (sheet .entry))) (rulesIn (now (rules .entry)) count) (pipeline (now (code .entry)) (now (protected .entry)) (now (total .entry)))) (now (code .entry)) (now (code .exit)) (now (protected .exit)) (now (total .exit)) r ⌝ }
+{
+    let one = run(sheet, rules, count, 1, code, protected, total, marks, moves);
+    let two = run(
+        sheet,
+        rules,
+        count,
+        2,
+        &mut code[..one],
+        protected,
+        total,
+        marks,
+        moves,
+    );
+    run(
+        sheet,
+        rules,
+        count,
+        3,
+        &mut code[..two],
+        protected,
+        total,
+        marks,
+        moves,
+    )
+}
+
+// The three passes, over the whole of a slice of code. Their tables are used, and cleared, as far as the code goes.
 pub fn optimize(
     sheet: &[u8],
     rules: &[u16],
@@ -236,9 +283,19 @@ pub fn optimize(
     requires { ⌜ Runnable (now sheet) (now rules) count (now code) (now protected) ⌝ }
     ensures { λ r. ⌜ Ran (passes (sheetIn (now (sheet .entry))) (rulesIn (now (rules .entry)) count) (pipeline (now (code .entry)) (now (protected .entry)) (now (total .entry)))) (now (code .entry)) (now (code .exit)) (now (protected .exit)) (now (total .exit)) r ⌝ }
 {
-    let one = run(sheet, rules, count, 1, code, protected, total);
-    let two = run(sheet, rules, count, 2, &mut code[..one], protected, total);
-    run(sheet, rules, count, 3, &mut code[..two], protected, total)
+    let end = code.len() + 1;
+    let mut marks = [0u8; rewrite::SLOTS];
+    let mut moves = [0u16; rewrite::SLOTS];
+    passes(
+        sheet,
+        rules,
+        count,
+        code,
+        protected,
+        total,
+        &mut marks[..end],
+        &mut moves[..end],
+    )
 }
 
 // What code and protected offsets called alone come to, in lent outputs that have room for them. The code is copied once, here.
@@ -274,7 +331,8 @@ fn rewrite_into(
 fn check(sheet: &[u8], code: &[u8], protected: &[u16], lines: &[u16], table: &mut [u16]) -> Offset
     requires { ⌜ IsTable (now sheet) ⌝ }
     requires { ⌜ length (now code) ≤ maxCode ⌝ }
-    requires { ⌜ Clear (now table) ⌝ }
+    requires { ⌜ Clear (length (now code)) (now table) ⌝ }
+    requires { ⌜ length (now table) ≡ suc (length (now code)) ⌝ }
     ensures { λ r. ⌜ Passed (sheetIn (now (sheet .entry))) (given (now (code .entry)) (now (protected .entry)) (now (lines .entry))) (now (table .exit)) r ⌝ }
 {
     let end = list_boundaries(sheet, code, table);

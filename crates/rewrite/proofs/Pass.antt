@@ -4,7 +4,7 @@ use mathlib.Core.Bool.{Bool, true, false, _||_}
 use mathlib.Core.Option.{Option, some, none}
 use mathlib.Core.List.{List, [], _∷_, _++_, append-assoc, append-nil}
 use Prim.Native.Nat.{ℕ, zero, suc, _+_, _-_, _≤_, _<_}
-use native.Mathlib.Nat.{add-zero}
+use native.Mathlib.Nat.{add-zero, le-trans}
 use native.Mathlib.Omega.{arith}
 use borrow.Author.Tests.{eq-eqb, ne-eqb, eqb-true, eqb-false}
 use lib.ListN.{length, take, drop, set, getD, length-set, length-drop, length-append}
@@ -18,7 +18,7 @@ use Rattle.definition.specs.Emit.{le16}
 use Rattle.definition.specs.Rewrite.{Bytes, Matcher, OffsetMap, decode, instruction, actions, applied, output, offsets, movedTo, applyPeephole}
 use Rattle.definition.specs.Lent.{filled}
 use Rattle.store.specs.Fill.{zeroedFrom}
-use Rattle.rewrite.specs.View.{slotCount, firstOf, actionsAfter, Fitting, FittingNext, Planned, put, Peephole}
+use Rattle.rewrite.specs.View.{firstOf, actionsAfter, Fitting, FittingNext, Planned, put, Peephole}
 use Rattle.rewrite.proofs.Decoding.{First, first, first-is, first-none}
 
 -- ---- bytes put over others
@@ -176,26 +176,28 @@ set-small (y ∷ l) (suc i) v b h k zero = h zero
 set-small (y ∷ l) (suc i) v b h k (suc x) = set-small l i v b (λ z. h (suc z)) k x
 
 module _ (s : Sheet) (matches : Matcher) (protected code₀ : List ℕ) where
-  -- what is left of a pass, at `at` in the code and `to` in what is written
-  pub record Going (code map : List ℕ) (at to : ℕ) (next : Option Action) : Type 0 where
+  -- what is left of a pass, at `at` in the code and `to` in what is written; the map has k elements
+  pub record Going (k : ℕ) (code map : List ℕ) (at to : ℕ) (next : Option Action) : Type 0 where
     pub behind : to ≤ at
     pub within : at ≤ length code
     pub room : length code ≡ length code₀
-    pub slots : length map ≡ slotCount
+    pub long : length map ≡ k
+    pub slots : length code₀ < k
     pub later : FittingNext next (firstOf (decode s (drop at code)))
     pub out : applyPeephole s matches protected code₀ .0
         ≡ take to code ++ output (actionsAfter s matches protected next at (decode s (drop at code))) (decode s (drop at code))
     pub moved : (x : ℕ) → movedTo (applyPeephole s matches protected code₀ .1) x
         ≡ getD map x 0 + movedTo (offsets (actionsAfter s matches protected next at (decode s (drop at code))) (decode s (drop at code)) at to) x
     pub fresh : (x : ℕ) → at ≤ x → getD map x 0 ≡ 0
-    pub small : (x : ℕ) → getD map x 0 ≤ length code₀
+    pub small : (x : ℕ) → getD map x 0 ≤ to
 
-  pub begins : (map : List ℕ) → length map ≡ slotCount → ((x : ℕ) → getD map x 0 ≡ 0) → Going code₀ map 0 0 none
+  pub begins : (map : List ℕ) → length code₀ < length map → ((x : ℕ) → getD map x 0 ≡ 0) → Going (length map) code₀ map 0 0 none
   unfolding FittingNext actionsAfter applyPeephole
   begins map slots free = record {
     behind = omega arith;
     within = omega arith;
     room = refl;
+    long = refl;
     slots = slots;
     later = tt;
     out = refl;
@@ -204,11 +206,11 @@ module _ (s : Sheet) (matches : Matcher) (protected code₀ : List ℕ) where
     small = λ x. rw (free x) (omega arith);
   }
 
-  pub goes-on : {code map : List ℕ} {at to z : ℕ} {next then : Option Action} {x : Action} → Going code map at to next
-      → Planned s matches protected code at next z x then → 1 ≤ z → length code₀ ≤ maxCode
-      → Going (put code to (applied x (take z (drop at code)))) (set map at to) (at + z) (to + length (applied x (take z (drop at code)))) then
+  pub goes-on : {k : ℕ} {code map : List ℕ} {at to z : ℕ} {next then : Option Action} {x : Action} → Going k code map at to next
+      → Planned s matches protected code at next z x then → 1 ≤ z
+      → Going k (put code to (applied x (take z (drop at code)))) (set map at to) (at + z) (to + length (applied x (take z (drop at code)))) then
   unfolding output offsets
-  goes-on {code} {map} {at} {to} {z} {next} {then} {x} g p h small =
+  goes-on {k} {code} {map} {at} {to} {z} {next} {then} {x} g p h =
       let D′ = decode s (drop (at + z) code) in
       let a = take z (drop at code) in
       let f : First s code at z = rw (← (p .long)) at (first s code at) in
@@ -223,21 +225,22 @@ module _ (s : Sheet) (matches : Matcher) (protected code₀ : List ℕ) where
         behind = omega (arith, g .behind);
         within = rw (length-put code to (applied x a) fits) inside;
         room = length-put code to (applied x a) fits ∙ g .room;
-        slots = length-set map at to ∙ g .slots;
+        long = length-set map at to ∙ g .long;
+        slots = g .slots;
         later = rw rest (p .later);
         out = rw (rest, take-put code to (applied x a) fits) (out ∙ sym (append-assoc (take to code) (applied x a) _));
         moved = λ y.
             let m = rw (acts, f .some h, la) at (g .moved y) in
-            rw rest (m ∙ moved-set map at to y _ (omega (arith, g .room, g .slots, g .within)) (g .fresh at (omega arith)) (moved-below (actionsAfter s matches protected then (at + z) D′) D′ (at + z) (to + length (applied x a)) at (omega arith)));
+            rw rest (m ∙ moved-set map at to y _ (omega (arith, g .room, g .long, g .slots, g .within)) (g .fresh at (omega arith)) (moved-below (actionsAfter s matches protected then (at + z) D′) D′ (at + z) (to + length (applied x a)) at (omega arith)));
         fresh = λ y k. getD-set-other map at y to 0 (λ e. omega arith) ∙ g .fresh y (omega arith);
-        small = set-small map at to (length code₀) (g .small) (omega (arith, g .behind, g .within, g .room));
+        small = set-small map at to (to + length (applied x a)) (λ y. le-trans (g .small y) (omega arith)) (omega arith);
       }
 
   -- nothing is left
-  pub ends : {code map : List ℕ} {at to : ℕ} {next : Option Action} → Going code map at to next → decode s (drop at code) ≡ [] → length code₀ ≤ maxCode
+  pub ends : {k : ℕ} {code map : List ℕ} {at to : ℕ} {next : Option Action} → Going k code map at to next → decode s (drop at code) ≡ []
       → Peephole (applyPeephole s matches protected code₀) code₀ (zeroedFrom to code) (set map at to) to
   unfolding output offsets actionsAfter actions movedTo filled zeroedFrom
-  ends {code} {map} {at} {to} {next} g e small =
+  ends {k} {code} {map} {at} {to} {next} g e =
       let none-left : (n : Option Action) → actionsAfter s matches protected n at [] ≡ [] = λ n. elim n as (λ o. actionsAfter s matches protected o at [] ≡ []) [ none ↦ refl | some x ↦ refl ] in
       let out = rw (e, none-left next) at (g .out) in
       let is : applyPeephole s matches protected code₀ .0 ≡ take to code = out ∙ append-nil (take to code) in
@@ -247,8 +250,7 @@ module _ (s : Sheet) (matches : Matcher) (protected code₀ : List ℕ) where
         end = rw is (sym long);
         moved = λ x.
             let m = rw (e, none-left next) at (g .moved x) in
-            sym (m ∙ moved-set map at to x [] (omega (arith, g .room, g .slots, g .within)) (g .fresh at (omega arith)) refl ∙ add-zero (getD (set map at to) x 0));
-        slots = length-set map at to ∙ g .slots;
-        small = set-small map at to (length code₀) (g .small) (omega (arith, g .behind, g .within, g .room));
+            sym (m ∙ moved-set map at to x [] (omega (arith, g .room, g .long, g .slots, g .within)) (g .fresh at (omega arith)) refl ∙ add-zero (getD (set map at to) x 0));
+        small = set-small map at to to (g .small) (omega arith);
         within = omega (arith, g .behind, g .within, g .room);
       }

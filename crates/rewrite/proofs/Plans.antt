@@ -99,15 +99,15 @@ module _ (s : Sheet) (table : List ℕ) (count pass : ℕ) (marks code : List �
 
 -- ---- the loop
 
-module _ {s : Sheet} {matches : Matcher} {protected code₀ code code′ moves : List ℕ} {at to n z : ℕ} {next then : Option def.Action} {x : def.Action}
-    (g : Going s matches protected code₀ code moves at to next) (p : Planned s matches protected code at next z x then) (same : n ≡ to) (small : length code₀ ≤ maxCode) where
-  pub turns : {to′ : ℕ} → (z ≡ 0 → ⊥) → Puts (applied x (take z (drop at code))) code code′ to to′ → Going s matches protected code₀ code′ (set moves at n) (at + z) to′ then
-  turns full q = rw (same, q .is, q .end) (goes-on s matches protected code₀ g p (omega arith) small)
+module _ {s : Sheet} {matches : Matcher} {protected code₀ code code′ moves : List ℕ} {k at to n z : ℕ} {next then : Option def.Action} {x : def.Action}
+    (g : Going s matches protected code₀ k code moves at to next) (p : Planned s matches protected code at next z x then) (same : n ≡ to) where
+  pub turns : {to′ : ℕ} → (z ≡ 0 → ⊥) → Puts (applied x (take z (drop at code))) code code′ to to′ → Going s matches protected code₀ k code′ (set moves at n) (at + z) to′ then
+  turns full q = rw (same, q .is, q .end) (goes-on s matches protected code₀ g p (omega arith))
 
   pub finishes : z ≡ 0 → code′ ≡ zeroedFrom to code → Peephole (applyPeephole s matches protected code₀) code₀ code′ (set moves at n) to
   finishes e q =
       let f : First s code at z = rw (← (p .long)) at (first s code at) in
-      rw (same, q) (ends s matches protected code₀ g (f .none e) small)
+      rw (same, q) (ends s matches protected code₀ g (f .none e))
 
 pub turn-within : {s : Sheet} {matches : Matcher} {protected code : List ℕ} {at z : ℕ} {next then : Option def.Action} {x : def.Action}
     → Planned s matches protected code at next z x then → (z ≡ 0 → ⊥) → at + z ≤ length code
@@ -117,4 +117,4 @@ turn-within {s} {code = code} {at = at} {z = z} p full =
 
 -- `decide` is asked of the code as it is
 pub still-ready : {sheet rules marks code₀ code : List ℕ} {count : ℕ} → Ready sheet rules count marks code₀ → length code ≡ length code₀ → Ready sheet rules count marks code
-still-ready r e = record { table = r .table; held = r .held; slots = r .slots; small = rw e (r .small) }
+still-ready r e = record { table = r .table; held = r .held; slots = rw e (r .slots); small = rw e (r .small) }

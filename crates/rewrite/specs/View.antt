@@ -1,5 +1,5 @@
 -- What this crate's functions give, said of the definition: the first instruction of some bytes, and what is left of a pass at a place.
-use Prim.Native.Nat.{ℕ, _+_, _≤_, suc}
+use Prim.Native.Nat.{ℕ, _+_, _≤_, _<_, suc}
 use mathlib.Core.Path.{_≡_}
 use mathlib.Core.Bool.{Bool, true, false, not}
 use mathlib.Core.List.{List, [], _∷_, _++_}
@@ -71,20 +71,20 @@ pub record Kept (z : ℕ) (r : Plan) : Type 0 where
   pub action : actionView (r .action) ≡ keep
   pub next : nextView (r .next) ≡ none
 
--- elements of a table by offset: one for each offset of the longest code, its end among them
-abbrev pub slotCount : ℕ
-slotCount = maxCode + 1
-
 -- what is lent to a pass: the tables of a sheet and of rules, a mark for each offset, and code within its limit
 pub record Ready (sheet rules : List ℕ) (count : ℕ) (marks code : List ℕ) : Type 0 where
   pub table : IsTable sheet
   pub held : IsRules rules count
-  pub slots : length marks ≡ slotCount
+  pub slots : length code < length marks
   pub small : length code ≤ maxCode
 
--- a table by offset with nothing in it
-pub record Clear (table : List ℕ) : Type 0 where
-  pub slots : length table ≡ slotCount
+-- elements of a table by offset: one for each offset of the longest code, its end among them
+abbrev pub slotCount : ℕ
+slotCount = maxCode + 1
+
+-- a table by offset with nothing in it, and an element for each offset of code of n bytes, its end among them
+pub record Clear (n : ℕ) (table : List ℕ) : Type 0 where
+  pub slots : n < length table
   pub none : (x : ℕ) → getD table x 0 ≡ 0
 
 -- what is decided for the instruction at a place: its size (0: there is none), its action, and what is then known of the next one's
@@ -109,6 +109,5 @@ pub record Peephole (result : List ℕ × OffsetMap) (code code′ map′ : List
   pub is : code′ ≡ filled (length code) (result .0)
   pub end : r ≡ length (result .0)
   pub moved : (x : ℕ) → getD map′ x 0 ≡ movedTo (result .1) x
-  pub slots : length map′ ≡ slotCount
-  pub small : (x : ℕ) → getD map′ x 0 ≤ length code
+  pub small : (x : ℕ) → getD map′ x 0 ≤ r
   pub within : r ≤ length code

@@ -201,7 +201,7 @@ pub fn apply_peephole(
     moves: &mut [u16],
 ) -> usize
     requires { ⌜ Ready (now sheet) (now rules) count (now marks) (now code) ⌝ }
-    requires { ⌜ Clear (now moves) ⌝ }
+    requires { ⌜ Clear (length (now code)) (now moves) ⌝ }
     ensures { λ r. ⌜ Peephole (applyPeephole (sheetIn (now (sheet .entry))) (matcher (now (rules .entry)) count pass) (marked (now (marks .entry))) (now (code .entry))) (now (code .entry)) (now (code .exit)) (now (moves .exit)) r ⌝ }
 {
     let mut at = 0;

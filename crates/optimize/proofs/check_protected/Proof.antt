@@ -10,7 +10,7 @@ use Rattle.optimize.proofs.check_protected.Tie as tie
 use borrow.Author.Needs.{needs}
 
 abbrev Inv-loop : tie.InvT-loop
-Inv-loop table list i₀ i = Checking (fixedIn table) list i
+Inv-loop table list i₀ i = Checking (fixedIn table) (length table) list i
 
 abbrev μ-loop : tie.MeasureT-loop
 μ-loop table list i₀ i = length list - i
@@ -29,4 +29,4 @@ check-protected-spec =
     (λ c. search needs)  -- add-i
     (λ c. search needs)  -- loop-less
     (λ c. check-goes-on _ _ _ (c .before .before .before .before .before .before .before .pre) (c .before .before .before .before .loop .inv) (c .before .before .before .loop-test .taken) (sym (not-false _ (c .if1 .left)) ∙ (c .before .is-boundary) .ensures))  -- loop-again
-    (λ c. check-ends _ _ _ (c .before .loop .inv) (c .loop-test .left)))  -- returns-2
+    (λ c. check-ends _ _ _ (c .before .before .before .before .pre) (c .before .loop .inv) (c .loop-test .left)))  -- returns-2

@@ -8,7 +8,7 @@ use Rattle.optimize.proofs.mark.Tie as tie
 use borrow.Author.Needs.{needs}
 
 abbrev Inv-loop : tie.InvT-loop
-Inv-loop protected marks₀ i₀ marks i = Marking protected marks i
+Inv-loop protected marks₀ i₀ marks i = Marking protected (length marks₀) marks i
 
 abbrev μ-loop : tie.MeasureT-loop
 μ-loop protected marks₀ i₀ marks i = length protected - i
@@ -19,7 +19,7 @@ mark-spec =
     (tie.spec
     Inv-loop
     μ-loop
-    (λ c. mark-begins _ _ (c .before .before .pre .1))  -- loop-holds
+    (λ c. mark-begins _ _ (c .before .before .pre .1 .none))  -- loop-holds
     (λ c. search needs)  -- mul-wide
     (λ c. search needs)  -- shared-slice-read-wide
     (λ c κs. search needs)  -- wide-requires
