@@ -55,19 +55,20 @@ each-patch {P} book n i e h is = subst P (sym is) (each-row patchIn patchBase pa
 
 -- ---- where their labels are bound
 
-module _ (labels : List (Option ℕ)) where
-  pub near-small : {p : PendingPatch} {place : ℕ} → Near labels (patchView p) → place ≡ boundLabel labels (p .label .0) → place < 2 ^ 16
-  near-small near e = omega (arith, near .is)
+module _ {size : ℕ} (labels : List (Option ℕ)) where
+  pub near-small : {p : PendingPatch} {place : ℕ} → size ≤ maxCode → Near size labels (patchView p) → place ≡ boundLabel labels (p .label .0) → place < 2 ^ 16
+  near-small few near e = omega (arith, near .is)
 
-  small-at : (ps : List def.PendingPatch) → Each (Near labels) ps → (i : ℕ) → getD (targetsOf labels ps) i 0 ≤ maxCode
+  small-at : (ps : List def.PendingPatch) → Each (Near size labels) ps → (i : ℕ) → getD (targetsOf labels ps) i 0 < suc size
   unfolding targetsOf
   small-at [] empty i = omega arith
-  small-at (p ∷ ps) (n also ns) zero = n .is
+  small-at (p ∷ ps) (n also ns) zero = omega (arith, n .is)
   small-at (p ∷ ps) (n also ns) (suc i) = small-at ps ns i
 
-  pub small-targets : (ps : List def.PendingPatch) → Each (Near labels) ps → Small (targetsOf labels ps)
+  pub small-targets : (ps : List def.PendingPatch) → Each (Near size labels) ps → Small (suc size) (targetsOf labels ps)
   small-targets ps e = record { at = small-at ps e }
 
+module _ (labels : List (Option ℕ)) where
   pub record Targeting (book : List ℕ) (n : ℕ) (targets : List ℕ) (i : ℕ) : Type 0 where
     pub head : take i targets ≡ targetsOf labels (patchesIn book i)
     pub room : length targets ≡ n

@@ -30,10 +30,10 @@ use Rattle.compile.proofs.Patches.{small-targets, same-patches}
 
 -- ---- the passes
 
-pub runnable : {sheet rules code : List ℕ} {count : ℕ} (e : Emitter) (book : List ℕ) {targets : List ℕ} → Tables sheet rules count → length code ≤ maxCode
-    → Each (Near (labelsIn book (e .labels))) (patchesIn book (e .patches)) → targets ≡ targetsIn e book → Runnable sheet rules count code targets
-runnable e book t few near is =
-    rw is (record { table = t .table; held = t .held; few = few; small = small-targets (labelsIn book (e .labels)) (patchesIn book (e .patches)) near })
+pub runnable : {sheet rules code : List ℕ} {count : ℕ} (e : Emitter) (book : List ℕ) {targets : List ℕ} → Tables sheet rules count → Fine e → length code ≡ e .size
+    → Each (Near (e .size) (labelsIn book (e .labels))) (patchesIn book (e .patches)) → targets ≡ targetsIn e book → Runnable sheet rules count code targets
+runnable e book t fine long near is =
+    rw is (record { table = t .table; held = t .held; few = rw long (fine .size); small = rw long (small-targets (labelsIn book (e .labels)) (patchesIn book (e .patches)) near) })
 
 pub moved : (s : Sheet) (rs : List Rule) (e : Emitter) (book code table : List ℕ) {targets code′ protected′ total′ : List ℕ} {end n : ℕ} → targets ≡ targetsIn e book → Bounds s code table end
     → Ran (passes s rs (pipeline code targets table)) code code′ protected′ total′ n → Moved (optimize s rs code (targetsIn e book)) code code′ total′ n
@@ -50,8 +50,13 @@ moved s rs e book code table {targets} {code′} {protected′} {total′} {end}
 
 -- ---- patching, and the whole
 
-pub emitted-few : (e : Emitter) (code : List ℕ) → Fine e → maxCode ≤ length code → length (take (e .size) code) ≤ maxCode
-emitted-few e code fine enough = rw (length-take-le (e .size) code (omega (arith, fine .size))) (fine .size)
+pub emitted-long : (e : Emitter) (code : List ℕ) → Fine e → maxCode ≤ length code → length (take (e .size) code) ≡ e .size
+emitted-long e code fine enough = length-take-le (e .size) code (omega (arith, fine .size))
+
+-- labels are bound within what was emitted
+pub nears : (s : Sheet) (rs : List Rule) (e : Emitter) (code book : List ℕ) → Fine e → maxCode ≤ length code → Patchable s rs (state (world e code book []))
+    → Each (Near (e .size) (labelsIn book (e .labels))) (patchesIn book (e .patches))
+nears s rs e code book fine enough q = rw (emitted-long e code fine enough) at (q .near)
 
 module _ (s : Sheet) (rs : List Rule) (e : Emitter) (code book lines : List ℕ) (enough : e .size ≤ length code) {c₁ total : List ℕ} {n : ℕ}
     (mv : Moved (optimize s rs (take (e .size) code) (targetsIn e book)) (take (e .size) code) c₁ total n) where

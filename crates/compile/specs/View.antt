@@ -4,7 +4,6 @@ use mathlib.Core.Path.{_≡_}
 use mathlib.Core.List.{List, map}
 use mathlib.Core.Option.{Option}
 use lib.ListN.{length}
-use Rattle.definition.specs.Limits.{maxCode}
 use Rattle.definition.specs.Opcode.{Sheet}
 use Rattle.definition.specs.Rules.{Rule}
 use Rattle.definition.specs.Emit as def
@@ -31,9 +30,9 @@ targetsOf labels patches = map (λ (p : PendingPatch). boundLabel labels (p .lab
 abbrev pub targetsIn : Emitter → List ℕ → List ℕ
 targetsIn e book = targetsOf (labelsIn book (e .labels)) (patchesIn book (e .patches))
 
--- a patch's label is bound within what code may be
-pub record Near (labels : List (Option ℕ)) (p : PendingPatch) : Type 0 where
-  pub is : boundLabel labels (p .label) ≤ maxCode
+-- a patch's label is bound within code of this size
+pub record Near (size : ℕ) (labels : List (Option ℕ)) (p : PendingPatch) : Type 0 where
+  pub is : boundLabel labels (p .label) ≤ size
 
 -- its two bytes lie in code of this size, once it is moved
 pub record Inside (m : OffsetMap) (size : ℕ) (p : PendingPatch) : Type 0 where
@@ -45,7 +44,7 @@ passed s rules d = optimize s rules (d .bytecode) (jumpTargets d)
 
 -- emitted code whose branches can be patched: whatever a program's emission gives is such (crate runs)
 pub record Patchable (s : Sheet) (rules : List Rule) (d : def.Emitter) : Type 0 where
-  pub near : Each (Near (d .labels)) (d .patches)
+  pub near : Each (Near (length (d .bytecode)) (d .labels)) (d .patches)
   pub inside : Each (Inside (passed s rules d .map) (length (passed s rules d .bytecode))) (d .patches)
 
 -- ---- what the functions give

@@ -36,7 +36,7 @@ fn jump_targets(e: Emitter, book: &[u16], targets: &mut [u16])
     requires { ⌜ Fine e ⌝ }
     requires { ⌜ length (now book) ≡ bookSize ⌝ }
     requires { ⌜ length (now targets) ≡ e .patches ⌝ }
-    requires { ⌜ Each (Near (labelsIn (now book) (e .labels))) (patchesIn (now book) (e .patches)) ⌝ }
+    requires { ⌜ Each (Near (e .size) (labelsIn (now book) (e .labels))) (patchesIn (now book) (e .patches)) ⌝ }
     ensures { λ r. ⌜ now (targets .exit) ≡ targetsIn e (now (book .entry)) ⌝ }
 {
     let mut i = 0;
@@ -62,10 +62,10 @@ fn optimize_emitted(
     requires { ⌜ Tables (now sheet) (now rules) count ⌝ }
     requires { ⌜ Fine e ⌝ }
     requires { ⌜ length (now book) ≡ bookSize ⌝ }
-    requires { ⌜ length (now code) ≤ maxCode ⌝ }
+    requires { ⌜ length (now code) ≡ e .size ⌝ }
     requires { ⌜ length (now targets) ≡ e .patches ⌝ }
-    requires { ⌜ Clear (now total) ⌝ }
-    requires { ⌜ Each (Near (labelsIn (now book) (e .labels))) (patchesIn (now book) (e .patches)) ⌝ }
+    requires { ⌜ Clear (e .size) (now total) ⌝ }
+    requires { ⌜ Each (Near (e .size) (labelsIn (now book) (e .labels))) (patchesIn (now book) (e .patches)) ⌝ }
     ensures { λ r. ⌜ Moved (optimize (sheetIn (now (sheet .entry))) (rulesIn (now (rules .entry)) count) (now (code .entry)) (targetsIn e (now (book .entry)))) (now (code .entry)) (now (code .exit)) (now (total .exit)) r ⌝ }
 {
     jump_targets(e, book, targets);
@@ -78,7 +78,7 @@ fn patch_jump(e: Emitter, book: &[u16], moves: &[u16], patch: PendingPatch, code
     requires { ⌜ Fine e ⌝ }
     requires { ⌜ length (now book) ≡ bookSize ⌝ }
     requires { ⌜ length (now code) ≤ maxCode ⌝ }
-    requires { ⌜ Near (labelsIn (now book) (e .labels)) (patchView patch) ⌝ }
+    requires { ⌜ Near (e .size) (labelsIn (now book) (e .labels)) (patchView patch) ⌝ }
     requires { ⌜ Inside (mapIn (now moves)) (length (now code)) (patchView patch) ⌝ }
     ensures { λ r. ⌜ now (code .exit) ≡ patchJump (labelsIn (now (book .entry)) (e .labels)) (mapIn (now (moves .entry))) (patchView patch) (now (code .entry)) ⌝ }
     ensures { λ r. ⌜ length (now (code .exit)) ≡ length (now (code .entry)) ⌝ }
@@ -97,7 +97,7 @@ fn patch_jumps(e: Emitter, book: &[u16], moves: &[u16], code: &mut [u8])
     requires { ⌜ Fine e ⌝ }
     requires { ⌜ length (now book) ≡ bookSize ⌝ }
     requires { ⌜ length (now code) ≤ maxCode ⌝ }
-    requires { ⌜ Each (Near (labelsIn (now book) (e .labels))) (patchesIn (now book) (e .patches)) ⌝ }
+    requires { ⌜ Each (Near (e .size) (labelsIn (now book) (e .labels))) (patchesIn (now book) (e .patches)) ⌝ }
     requires { ⌜ Each (Inside (mapIn (now moves)) (length (now code))) (patchesIn (now book) (e .patches)) ⌝ }
     ensures { λ r. ⌜ now (code .exit) ≡ patchJumps (labelsIn (now (book .entry)) (e .labels)) (mapIn (now (moves .entry))) (patchesIn (now (book .entry)) (e .patches)) (now (code .entry)) ⌝ }
     ensures { λ r. ⌜ length (now (code .exit)) ≡ length (now (code .entry)) ⌝ }
@@ -110,7 +110,51 @@ fn patch_jumps(e: Emitter, book: &[u16], moves: &[u16], code: &mut [u8])
     }
 }
 
-// `finalize_function`: three passes, then patching, then line mapping. Both outputs are 0 behind what they hold.
+// Three passes, then patching, then line mapping, with targets and map lent: an element for each branch, and for each offset of the code.
+fn finalize_in(
+    sheet: &[u8],
+    rules: &[u16],
+    count: usize,
+    e: Emitter,
+    code: &mut [u8],
+    book: &[u16],
+    lines: &mut [u16],
+    targets: &mut [u16],
+    total: &mut [u16],
+) -> FinalizedFunction
+    requires { ⌜ Tables (now sheet) (now rules) count ⌝ }
+    requires { ⌜ Fine e ⌝ }
+    requires { ⌜ maxCode ≤ length (now code) ⌝ }
+    requires { ⌜ length (now book) ≡ bookSize ⌝ }
+    requires { ⌜ maxLines * entrySize ≤ length (now lines) ⌝ }
+    requires { ⌜ Patchable (sheetIn (now sheet)) (rulesIn (now rules) count) (state (world e (now code) (now book) [])) ⌝ }
+    requires { ⌜ length (now targets) ≡ e .patches ⌝ }
+    requires { ⌜ Clear (e .size) (now total) ⌝ }
+    ensures { λ r. ⌜ Finalizes (sheetIn (now (sheet .entry))) (rulesIn (now (rules .entry)) count) e (now (code .entry)) (now (book .entry)) (now (lines .entry)) (now (code .exit)) (now (lines .exit)) r ⌝ }
+{
+    let emitted = e.size;
+    let n = optimize_emitted(
+        sheet,
+        rules,
+        count,
+        e,
+        book,
+        &mut code[..emitted],
+        targets,
+        total,
+    );
+    patch_jumps(e, book, total, &mut code[..n]);
+    store::zero_bytes(code, n);
+    let entries = book::emitted_lines(book, e.lines);
+    let kept = optimize::remap_line_map(total, n, entries, lines);
+    FinalizedFunction {
+        size: n,
+        max_stack_depth: e.deepest,
+        entries: kept,
+    }
+}
+
+// `finalize_function`. Both outputs are 0 behind what they hold; the tables are cleared once, and used as far as the code goes.
 pub fn finalize_function(
     sheet: &[u8],
     rules: &[u16],
@@ -128,27 +172,19 @@ pub fn finalize_function(
     requires { ⌜ Patchable (sheetIn (now sheet)) (rulesIn (now rules) count) (state (world e (now code) (now book) [])) ⌝ }
     ensures { λ r. ⌜ Finalizes (sheetIn (now (sheet .entry))) (rulesIn (now (rules .entry)) count) e (now (code .entry)) (now (book .entry)) (now (lines .entry)) (now (code .exit)) (now (lines .exit)) r ⌝ }
 {
-    let emitted = e.size;
     let branches = e.patches;
+    let end = e.size + 1;
     let mut targets = [0u16; MAX_BRANCHES];
     let mut total = [0u16; rewrite::SLOTS];
-    let n = optimize_emitted(
+    finalize_in(
         sheet,
         rules,
         count,
         e,
+        code,
         book,
-        &mut code[..emitted],
+        lines,
         &mut targets[..branches],
-        &mut total,
-    );
-    patch_jumps(e, book, &total, &mut code[..n]);
-    store::zero_bytes(code, n);
-    let entries = book::emitted_lines(book, e.lines);
-    let kept = optimize::remap_line_map(&total, n, entries, lines);
-    FinalizedFunction {
-        size: n,
-        max_stack_depth: e.deepest,
-        entries: kept,
-    }
+        &mut total[..end],
+    )
 }

@@ -178,14 +178,13 @@ module _ (s : Sheet) (back : Reads s) (rules : List Rule) (fine : (pass : ℕ) �
       }
 
   -- a branch's label is bound within the code, and its two bytes lie in rewritten code
-  pub program-near : Each (λ (x : PendingPatch). boundLabel (e .labels) (x .label) ≤ maxCode) (e .patches)
+  pub program-near : Each (λ (x : PendingPatch). boundLabel (e .labels) (x .label) ≤ length (e .bytecode)) (e .patches)
   unfolding rows₀
   program-near = each-so (λ x u.
       let r = label-row (x .label) u in
       let at = r .place in
       let a = place-within s rows₀ (r .index) in
       let b = ap length (acted .inv .bytes) in
-      let c = acted .inv .short in
       omega arith) each-used
 
   pub program-inside : Each (λ (x : PendingPatch). movedTo moves (x .instructionOffset) + x .operandDelta + 2 ≤ length (optimize s rules code₀ protected .bytecode)) (e .patches)

@@ -1,14 +1,11 @@
 -- Made by `answers` from crates/compile/answers/finalize_function.txt: edit that file, not this one.
 use Prim.Native.Nat.{ℕ}
-use mathlib.Core.Path.{refl, sym}
-use Rattle.definition.specs.Limits.{maxBranches}
-use lib.ListN.{length-replicate}
+use mathlib.Core.Path.{sym}
 use native.Mathlib.Omega.{arith}
+use lib.ListN.{length-replicate}
 use lib.Seq.{length-take-le}
-use Rattle.opcode.specs.Table.{sheetIn}
-use Rattle.rules.specs.View.{rulesIn}
-use Rattle.optimize.proofs.Tables.{clear-table}
-use Rattle.compile.proofs.Whole.{emitted-few, end-within, patched-few, insides, finalized}
+use Rattle.definition.specs.Limits.{maxBranches}
+use Rattle.optimize.proofs.Tables.{slots-clear, slots-long}
 use borrow.Author.Needs.{needs}
 use Rattle.compile.proofs.finalize_function.Statement.{statement}
 use Rattle.compile.proofs.finalize_function.Tie as tie
@@ -17,20 +14,12 @@ pub finalize-function-spec : {M : Type 1} → statement M
 finalize-function-spec =
     tie.close
     (tie.spec
-    (λ c. omega (arith, c .before .before .before .before .before .pre .1 .0 .size, c .before .before .before .before .before .pre .1 .1 .0))  -- slice-relend-prefix-optimize-emitted
-    (λ c. sym (length-take-le _ _ (omega (arith, c .before .before .before .before .before .before .pre .1 .0 .size, c .before .before .before .before .before .before .pre .1 .1 .0))))  -- slice-aggregate-optimize-emitted
-    (λ c. omega (arith, length-replicate {A = ℕ} maxBranches 0, c .before .before .before .before .before .before .pre .1 .0 .patches, c .before .before .before .before .before .before .pre .1 .0 .size))  -- array-borrow-prefix-targets
-    (λ c. sym (length-take-le _ _ (omega (arith, length-replicate {A = ℕ} maxBranches 0, c .before .before .before .before .before .before .before .pre .1 .0 .patches, c .before .before .before .before .before .before .before .pre .1 .0 .size))))  -- slice-aggregate-optimize-emitted-2
-    (λ c. search needs)  -- slice-aggregate-optimize-emitted-3
-    (λ c κs. (c .before .before .before .before .before .before .before .before .pre .0, (c .before .before .before .before .before .before .before .before .pre .1 .0, (c .before .before .before .before .before .before .before .before .pre .1 .1 .1 .0, (emitted-few (c .before .before .before .before .before .before .before .before .args .e) (c .before .before .before .before .before .before .before .before .args .code .now) (c .before .before .before .before .before .before .before .before .pre .1 .0) (c .before .before .before .before .before .before .before .before .pre .1 .1 .0), (length-take-le _ _ (omega (arith, length-replicate {A = ℕ} maxBranches 0, c .before .before .before .before .before .before .before .before .pre .1 .0 .patches, c .before .before .before .before .before .before .before .before .pre .1 .0 .size)), (clear-table _ refl, c .before .before .before .before .before .before .before .before .pre .1 .1 .1 .1 .1 .near)))))))  -- optimize-emitted-requires
-    (λ c. search needs)  -- slice-aggregate-patch-jumps
-    (λ c. end-within (sheetIn (c .before .before .before .before .before .before .before .before .before .before .before .before .before .before .args .sheet .now)) (rulesIn (c .before .before .before .before .before .before .before .before .before .before .before .before .before .before .args .rules .now) (c .before .before .before .before .before .before .before .before .before .before .before .before .before .before .args .count)) (c .before .before .before .before .before .before .before .before .before .before .before .before .before .before .args .e) (c .before .before .before .before .before .before .before .before .before .before .before .before .before .before .args .code .now) (c .before .before .before .before .before .before .before .before .before .before .before .before .before .before .args .book .now) (c .before .before .before .before .before .before .before .before .before .before .before .before .before .before .args .lines .now) (omega (arith, c .before .before .before .before .before .before .before .before .before .before .before .before .before .before .pre .1 .0 .size, c .before .before .before .before .before .before .before .before .before .before .before .before .before .before .pre .1 .1 .0)) (c .before .before .before .before .before .optimize-emitted .ensures))  -- slice-relend-prefix-patch-jumps
-    (λ c. sym (length-take-le _ _ (end-within (sheetIn (c .before .before .before .before .before .before .before .before .before .before .before .before .before .before .before .args .sheet .now)) (rulesIn (c .before .before .before .before .before .before .before .before .before .before .before .before .before .before .before .args .rules .now) (c .before .before .before .before .before .before .before .before .before .before .before .before .before .before .before .args .count)) (c .before .before .before .before .before .before .before .before .before .before .before .before .before .before .before .args .e) (c .before .before .before .before .before .before .before .before .before .before .before .before .before .before .before .args .code .now) (c .before .before .before .before .before .before .before .before .before .before .before .before .before .before .before .args .book .now) (c .before .before .before .before .before .before .before .before .before .before .before .before .before .before .before .args .lines .now) (omega (arith, c .before .before .before .before .before .before .before .before .before .before .before .before .before .before .before .pre .1 .0 .size, c .before .before .before .before .before .before .before .before .before .before .before .before .before .before .before .pre .1 .1 .0)) (c .before .before .before .before .before .before .optimize-emitted .ensures))))  -- slice-aggregate-patch-jumps-2
-    (λ c κs. (c .before .before .before .before .before .before .before .before .before .before .before .before .before .before .before .pre .1 .0, (c .before .before .before .before .before .before .before .before .before .before .before .before .before .before .before .pre .1 .1 .1 .0, (patched-few (sheetIn (c .before .before .before .before .before .before .before .before .before .before .before .before .before .before .before .args .sheet .now)) (rulesIn (c .before .before .before .before .before .before .before .before .before .before .before .before .before .before .before .args .rules .now) (c .before .before .before .before .before .before .before .before .before .before .before .before .before .before .before .args .count)) (c .before .before .before .before .before .before .before .before .before .before .before .before .before .before .before .args .e) (c .before .before .before .before .before .before .before .before .before .before .before .before .before .before .before .args .code .now) (c .before .before .before .before .before .before .before .before .before .before .before .before .before .before .before .args .book .now) (c .before .before .before .before .before .before .before .before .before .before .before .before .before .before .before .args .lines .now) (omega (arith, c .before .before .before .before .before .before .before .before .before .before .before .before .before .before .before .pre .1 .0 .size, c .before .before .before .before .before .before .before .before .before .before .before .before .before .before .before .pre .1 .1 .0)) (c .before .before .before .before .before .before .optimize-emitted .ensures) (c .before .before .before .before .before .before .before .before .before .before .before .before .before .before .before .pre .1 .0), (c .before .before .before .before .before .before .before .before .before .before .before .before .before .before .before .pre .1 .1 .1 .1 .1 .near, insides (sheetIn (c .before .before .before .before .before .before .before .before .before .before .before .before .before .before .before .args .sheet .now)) (rulesIn (c .before .before .before .before .before .before .before .before .before .before .before .before .before .before .before .args .rules .now) (c .before .before .before .before .before .before .before .before .before .before .before .before .before .before .before .args .count)) (c .before .before .before .before .before .before .before .before .before .before .before .before .before .before .before .args .e) (c .before .before .before .before .before .before .before .before .before .before .before .before .before .before .before .args .code .now) (c .before .before .before .before .before .before .before .before .before .before .before .before .before .before .before .args .book .now) (c .before .before .before .before .before .before .before .before .before .before .before .before .before .before .before .args .lines .now) (omega (arith, c .before .before .before .before .before .before .before .before .before .before .before .before .before .before .before .pre .1 .0 .size, c .before .before .before .before .before .before .before .before .before .before .before .before .before .before .before .pre .1 .1 .0)) (c .before .before .before .before .before .before .optimize-emitted .ensures) (c .before .before .before .before .before .before .before .before .before .before .before .before .before .before .before .pre .1 .1 .1 .1 .1))))))  -- patch-jumps-requires
-    (λ c κs. search needs)  -- zero-bytes-requires
-    (λ c κs. (c .before .before .before .before .before .before .before .before .before .before .before .before .before .before .before .before .before .before .before .before .before .before .pre .1 .1 .1 .0, c .before .before .before .before .before .before .before .before .before .before .before .before .before .before .before .before .before .before .before .before .before .before .pre .1 .0 .lines))  -- emitted-lines-requires
-    (λ c. search needs)  -- slice-aggregate-remap-line-map
-    (λ c κs. omega (arith, c .before .before .emitted-lines .ensures .1, c .before .before .before .before .before .before .before .before .before .before .before .before .before .before .before .before .before .before .before .before .before .before .before .before .before .pre .1 .0 .lines, c .before .before .before .before .before .before .before .before .before .before .before .before .before .before .before .before .before .before .before .before .before .before .before .before .before .pre .1 .1 .1 .1 .0))  -- remap-line-map-requires
+    (λ c. search needs)  -- add-end
+    (λ c. omega (arith, length-replicate {A = ℕ} maxBranches 0, c .before .before .before .before .before .before .before .before .pre .1 .0 .patches, c .before .before .before .before .before .before .before .before .pre .1 .0 .size))  -- array-borrow-prefix-targets
+    (λ c. sym (length-take-le _ _ (omega (arith, length-replicate {A = ℕ} maxBranches 0, c .before .before .before .before .before .before .before .before .before .pre .1 .0 .patches, c .before .before .before .before .before .before .before .before .before .pre .1 .0 .size))))  -- slice-aggregate-finalize-in
+    (λ c. omega (arith, c .before .before .before .before .before .before .before .before .before .pre .1 .0 .size))  -- array-borrow-prefix-total
+    (λ c. sym (slots-long _ (c .before .before .before .before .before .before .before .before .before .before .pre .1 .0 .size)))  -- slice-aggregate-finalize-in-2
+    (λ c κs. (c .before .before .before .before .before .before .before .before .before .before .pre .0, (c .before .before .before .before .before .before .before .before .before .before .pre .1 .0, (c .before .before .before .before .before .before .before .before .before .before .pre .1 .1 .0, (c .before .before .before .before .before .before .before .before .before .before .pre .1 .1 .1 .0, (c .before .before .before .before .before .before .before .before .before .before .pre .1 .1 .1 .1 .0, (c .before .before .before .before .before .before .before .before .before .before .pre .1 .1 .1 .1 .1, (length-take-le _ _ (omega (arith, length-replicate {A = ℕ} maxBranches 0, c .before .before .before .before .before .before .before .before .before .before .pre .1 .0 .patches, c .before .before .before .before .before .before .before .before .before .before .pre .1 .0 .size)), slots-clear _ (c .before .before .before .before .before .before .before .before .before .before .pre .1 .0 .size)))))))))  -- finalize-in-requires
     (λ c. search needs)  -- same-length
     (λ c. search needs)  -- same-length-2
-    (λ c. finalized (sheetIn (c .before .before .before .before .before .before .before .before .before .before .before .before .before .before .before .before .before .before .before .before .before .before .before .before .before .before .before .before .args .sheet .now)) (rulesIn (c .before .before .before .before .before .before .before .before .before .before .before .before .before .before .before .before .before .before .before .before .before .before .before .before .before .before .before .before .args .rules .now) (c .before .before .before .before .before .before .before .before .before .before .before .before .before .before .before .before .before .before .before .before .before .before .before .before .before .before .before .before .args .count)) (c .before .before .before .before .before .before .before .before .before .before .before .before .before .before .before .before .before .before .before .before .before .before .before .before .before .before .before .before .args .e) (c .before .before .before .before .before .before .before .before .before .before .before .before .before .before .before .before .before .before .before .before .before .before .before .before .before .before .before .before .args .code .now) (c .before .before .before .before .before .before .before .before .before .before .before .before .before .before .before .before .before .before .before .before .before .before .before .before .before .before .before .before .args .book .now) (c .before .before .before .before .before .before .before .before .before .before .before .before .before .before .before .before .before .before .before .before .before .before .before .before .before .before .before .before .args .lines .now) (omega (arith, c .before .before .before .before .before .before .before .before .before .before .before .before .before .before .before .before .before .before .before .before .before .before .before .before .before .before .before .before .pre .1 .0 .size, c .before .before .before .before .before .before .before .before .before .before .before .before .before .before .before .before .before .before .before .before .before .before .before .before .before .before .before .before .pre .1 .1 .0)) (c .before .before .before .before .before .before .before .before .before .before .before .before .before .before .before .before .before .before .before .optimize-emitted .ensures) (c .before .before .before .before .before .before .before .before .before .before .before .before .patch-jumps .ensures .0) (c .before .before .before .before .before .before .before .before .before .before .before .before .patch-jumps .ensures .1) (c .before .before .before .before .before .before .before .before .zero-bytes .ensures) _ (c .before .before .before .before .before .emitted-lines .ensures .0) (c .before .before .remap-line-map .ensures)))  -- returns
+    (λ c. search needs))  -- returns

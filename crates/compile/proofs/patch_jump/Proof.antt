@@ -18,7 +18,7 @@ patch-jump-spec =
     (λ c. search needs)  -- add-narrow
     (λ c κs. omega (arith, operand-at (c .before .before .before .before .before .before .args .patch) (c .before .before .before .before .before .before .args .code .now) (c .before .before .before .before .before .before .pre .1 .1 .1 .1) (c .before .before .moved-to .ensures) (c .before .wide .ensures) (c .wide2 .ensures), c .before .before .before .before .before .before .pre .1 .1 .0))  -- narrow-requires
     (λ c κs. (c .before .before .before .before .before .before .before .pre .0, c .before .before .before .before .before .before .before .pre .1 .0))  -- bound-label-requires
-    (λ c κs. near-small _ (c .before .before .before .before .before .before .before .before .pre .1 .1 .1 .0) (c .bound-label .ensures))  -- narrow-requires-2
+    (λ c κs. near-small _ (c .before .before .before .before .before .before .before .before .pre .0 .size) (c .before .before .before .before .before .before .before .before .pre .1 .1 .1 .0) (c .bound-label .ensures))  -- narrow-requires-2
     (λ c κs. search needs)  -- moved-to-requires-2
     (λ c κs. search needs)  -- wrapping-sub-u16-requires
     (λ c κs. search needs)  -- push-u16-requires
