@@ -3,7 +3,9 @@
  *
  * A list is a pointer and a count of elements. Nothing is required of the contents of any list, nor of its length. What C must see to itself:
  * a pointer is not null and is aligned for its elements, even where the count is 0; so many elements stand there; no output overlaps
- * another list. No heap is used and nothing is kept between calls. */
+ * another list. No heap is used and nothing is kept between calls, so threads may call at once. A call takes
+ * stack, the more the deeper a program nests (docs/DECISIONS.md has what was measured): give a thread MEZHUKAN_STACK. examples/c/dial.c is a
+ * whole program. */
 #ifndef MEZHUKAN_H
 #define MEZHUKAN_H
 
@@ -14,17 +16,25 @@
 extern "C" {
 #endif
 
-/* Limits. An output shorter than its limit is refused (14), a longer one is zeroed behind the result. */
+/* Limits, all of them the definition's (crates/definition/specs/Limits.antt; tests/header holds the two against each other). An output shorter
+ * than its limit is refused (14), a longer one is zeroed behind the result. */
 #define MEZHUKAN_MAX_CODE 16384      /* bytes of code, emitted and finished */
 #define MEZHUKAN_MAX_CONSTANTS 1024  /* constants */
 #define MEZHUKAN_MAX_LINES 4096      /* line entries */
 #define MEZHUKAN_ENTRY_SIZE 3        /* numbers of a line entry: offset, line, column */
 #define MEZHUKAN_MAX_PROTECTED 4096  /* protected offsets of rewriting called alone */
 #define MEZHUKAN_MAX_LABELS 4096     /* labels that emission creates */
+#define MEZHUKAN_MAX_BRANCHES (MEZHUKAN_MAX_CODE / 3) /* branches in the code: the smallest has three bytes */
 #define MEZHUKAN_MAX_PROGRAM 65536   /* bytes of a program */
 #define MEZHUKAN_MAX_NESTING 64      /* nesting levels of a program */
 #define MEZHUKAN_MAX_VARIABLES 1024  /* variables of a program */
+#define MEZHUKAN_MAX_FIELD 65535     /* the largest number of a field that is no value */
 #define MEZHUKAN_MAX_RULES 64        /* lines of a rule file */
+#define MEZHUKAN_PASS_COUNT 3        /* passes of the rewriter */
+#define MEZHUKAN_WIDTH 32            /* bits of a value */
+
+/* Bytes of stack for a thread that calls: with so many tests/library runs every kind of nesting, as deep as it goes. */
+#define MEZHUKAN_STACK 524288
 
 /* Refusals. Each has a place: a line of the program from 1 for 2 to 6, a line of the rules from 1 for 9, an offset for 8, for 7 some field at
  * fault from 1 (0 if the line or the field count is bad), else 0. After a refusal every element of every output is 0. */
@@ -49,20 +59,20 @@ enum {
     MEZHUKAN_PLACE = 1,
     MEZHUKAN_CODE_LENGTH = 2, /* bytes of code given back */
 
-    MEZHUKAN_DEPTH = 3,     /* of the call: no run of the code goes above this height of the stack */
-    MEZHUKAN_CONSTANTS = 4, /* of the call: constants given back */
-    MEZHUKAN_ENTRIES = 5,   /* of the call: line entries given back */
-    MEZHUKAN_COMPILED = 6,  /* of the call: numbers of its answer */
+    MEZHUKAN_DEPTH = 3,          /* of the call: no run of the code goes above this height of the stack */
+    MEZHUKAN_CONSTANT_COUNT = 4, /* of the call: constants given back */
+    MEZHUKAN_ENTRY_COUNT = 5,    /* of the call: line entries given back */
+    MEZHUKAN_COMPILED = 6,       /* of the call: numbers of its answer */
 
-    MEZHUKAN_ALONE_PROTECTED = 3, /* of rewriting alone: protected offsets given back */
-    MEZHUKAN_ALONE_ENTRIES = 4,   /* of rewriting alone: line entries given back */
-    MEZHUKAN_REWRITTEN = 5        /* of rewriting alone: numbers of its answer */
+    MEZHUKAN_ALONE_PROTECTED_COUNT = 3, /* of rewriting alone: protected offsets given back */
+    MEZHUKAN_ALONE_ENTRY_COUNT = 4,     /* of rewriting alone: line entries given back */
+    MEZHUKAN_REWRITTEN = 5              /* of rewriting alone: numbers of its answer */
 };
 
 /* The call. The result is the answer's number: 0, or a refusal's. */
 uint8_t mezhukan_compile(
     const uint8_t *sheet, size_t sheet_length,     /* the opcode sheet, a line of 33 numbers with its LF */
-    const uint8_t *rules, size_t rules_length,     /* the rule file, 0 to 64 lines */
+    const uint8_t *rules, size_t rules_length,     /* the rule file, 0 to MEZHUKAN_MAX_RULES lines */
     const uint8_t *program, size_t program_length, /* the program */
     uint8_t *code, size_t code_length,             /* out: finished code, then 0; at least MEZHUKAN_MAX_CODE */
     uint32_t *constants, size_t constants_length,  /* out: the constants as 32-bit two's complement, then 0; at least MEZHUKAN_MAX_CONSTANTS */

@@ -5,6 +5,8 @@ import shutil
 import subprocess
 import sys
 from functools import cache
+from importlib.machinery import SourceFileLoader
+from importlib.util import module_from_spec, spec_from_loader
 from pathlib import Path
 
 ROOT = Path(__file__).resolve().parent.parent
@@ -24,6 +26,16 @@ def stop(text):
 def needs(tool):
     if not shutil.which(tool):
         stop(f"{tool} is not on the PATH")
+
+
+def functions_of(script):
+    """Another script's functions, as those of tests/compile-cases."""
+    loader = SourceFileLoader(script.replace("-", "_"), str(ROOT / "tests" / script))
+    module = module_from_spec(spec_from_loader(loader.name, loader))
+    kept, sys.dont_write_bytecode = sys.dont_write_bytecode, True
+    loader.exec_module(module)
+    sys.dont_write_bytecode = kept
+    return module
 
 
 @cache

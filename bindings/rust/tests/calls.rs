@@ -1,0 +1,136 @@
+//! The functions of the wrapper on small inputs: every part of an answer, outputs of every length, and what a refusal says.
+
+use std::thread;
+
+use mezhukan::*;
+
+const SHEET: &[u8] = b"1,2,3,4,5,6,7,8,9,10,11,12,13,14,15,16,17,18,19,20,21,22,23,24,25,26,27,1,2,3,4,5,6\n";
+const IF: &[u8] = b"P,2,1,1,1\nI,1,1,1,0\nC,4\nD,0\nK,-3\nA,2,1,1\nK,1\n";
+const MORE: usize = 7;
+
+fn entry(offset: u16, line: u16, column: u16) -> LineEntry {
+    LineEntry { offset, line, column }
+}
+
+fn refusal(number: u8, place: u64) -> Refusal {
+    Refusal { number, place }
+}
+
+#[test]
+fn compiles() {
+    let code = vec![26, 4, 0, 0, 0, 0, 6, 0, 5, 1, 0, 4, 1, 0];
+    let lines = vec![entry(0, 1, 1), entry(8, 2, 1)];
+    assert_eq!(compile(SHEET, b"", IF), Ok(Compiled { code, constants: vec![-3, 1], lines, depth: 1 }));
+}
+
+#[test]
+fn rewrites() {
+    let rule = b"1,2,3,1,0,1,0,1,0\n";
+    let code = [3, 0, 0, 4, 0, 0, 3, 1, 0, 4, 2, 0];
+    let got = rewrite_alone(SHEET, rule, &code, &[12, 6], &[entry(0, 1, 1), entry(9, 2, 1)]);
+    let rewritten =
+        Rewritten { code: code[6..].to_vec(), protected: vec![6, 0], lines: vec![entry(0, 1, 1), entry(3, 2, 1)] };
+    assert_eq!(got, Ok(rewritten));
+    assert_eq!(rewrite_alone(SHEET, rule, &code, &[1], &[]), Err(refusal(8, 1)));
+}
+
+#[test]
+fn empty_inputs() {
+    assert_eq!(compile(b"", b"", b""), Err(refusal(7, 0)));
+    assert_eq!(compile(SHEET, b"", b""), Err(refusal(1, 0)));
+    assert_eq!(rewrite_alone(b"", b"", b"", &[], &[]), Err(refusal(7, 0)));
+    let none = Rewritten { code: vec![], protected: vec![], lines: vec![] };
+    assert_eq!(rewrite_alone(SHEET, b"", b"", &[], &[]), Ok(none));
+}
+
+/// Each output in turn as long as its limit, longer, one too short, empty: an answer and zeros, or 14 and zeros.
+#[test]
+fn lent_outputs() {
+    for (which, limit) in [MAX_CODE, MAX_CONSTANTS, MAX_LINES].into_iter().enumerate() {
+        for length in [limit, limit + MORE, limit - 1, 0] {
+            let room = |at, other| if at == which { length } else { other };
+            let mut code = vec![0xA5; room(0, MAX_CODE)];
+            let mut constants = vec![-1; room(1, MAX_CONSTANTS)];
+            let mut lines = vec![entry(9, 9, 9); room(2, MAX_LINES)];
+            let got = compile_into(SHEET, b"", IF, &mut code, &mut constants, &mut lines)
+                .map(|c| (c.code.len(), c.constants.len(), c.lines.len()));
+            let (bytes, pool, entries) = if length < limit { (0, 0, 0) } else { (14, 2, 2) };
+            assert_eq!(got, if length < limit { Err(refusal(14, 0)) } else { Ok((bytes, pool, entries)) });
+            assert!(code[bytes..].iter().all(|byte| *byte == 0));
+            assert!(constants[pool..].iter().all(|constant| *constant == 0));
+            assert!(lines[entries..].iter().all(|line| *line == entry(0, 0, 0)));
+        }
+    }
+}
+
+#[test]
+fn lent_outputs_of_rewriting() {
+    for (which, limit) in [MAX_CODE, MAX_PROTECTED, MAX_LINES].into_iter().enumerate() {
+        for length in [limit, limit + MORE, limit - 1, 0] {
+            let room = |at, other| if at == which { length } else { other };
+            let mut bytes = vec![0xA5; room(0, MAX_CODE)];
+            let mut offsets = vec![9; room(1, MAX_PROTECTED)];
+            let mut entries = vec![entry(9, 9, 9); room(2, MAX_LINES)];
+            let got = rewrite_alone_into(
+                SHEET,
+                b"",
+                &[27],
+                &[1, 0],
+                &[entry(0, 7, 1)],
+                &mut bytes,
+                &mut offsets,
+                &mut entries,
+            );
+            let kept = usize::from(length >= limit);
+            match got {
+                Ok(r) => {
+                    assert_eq!((kept, r.code, r.protected, r.lines), (1, &[27][..], &[1, 0][..], &[entry(0, 7, 1)][..]))
+                }
+                Err(refused) => assert_eq!((kept, refused), (0, refusal(14, 0))),
+            }
+            assert!(bytes[kept..].iter().all(|byte| *byte == 0));
+            assert!(offsets[kept..].iter().skip(kept).all(|offset| *offset == 0));
+            assert!(entries[kept..].iter().all(|line| *line == entry(0, 0, 0)));
+        }
+    }
+}
+
+#[test]
+fn from_several_threads() {
+    let program = |n: usize| format!("P,{0},1,1,1\nA,1,1,{1}\nK,{1}\n", n + 1, n).into_bytes();
+    let alone: Vec<_> = (0..8).map(|n| compile(SHEET, b"", &program(n))).collect();
+    thread::scope(|scope| {
+        for (n, alone) in alone.iter().enumerate() {
+            let call = move || (0..500).for_each(|_| assert_eq!(&compile(SHEET, b"", &program(n)), alone));
+            thread::Builder::new().stack_size(STACK).spawn_scoped(scope, call).expect("a thread");
+        }
+    });
+}
+
+#[test]
+fn what_a_refusal_says() {
+    let texts = [
+        (1, 0, "1,0: program empty, over 65536 bytes, or not ended by LF"),
+        (2, 5, "2,5: wrong letter, wrong field count, or malformed number, at line 5 of the program"),
+        (3, 2, "3,2: number outside its range, at line 2 of the program"),
+        (4, 2, "4,2: no open loop of that number, at line 2 of the program"),
+        (5, 66, "5,66: nesting over 64, at line 66 of the program"),
+        (6, 1, "6,1: line missing or left over, at line 1 of the program"),
+        (7, 0, "7,0: bad sheet: its line or field count"),
+        (7, 33, "7,33: bad sheet, at field 33"),
+        (8, 1, "8,1: unlisted opcode, cut instruction, or protected or line offset neither start nor end, at offset 1"),
+        (9, 2, "9,2: bad rule, at line 2 of the rules"),
+        (10, 0, "10,0: code over 16384 bytes"),
+        (11, 0, "11,0: over 4096 labels or 4096 protected offsets"),
+        (12, 0, "12,0: over 4096 line entries"),
+        (13, 0, "13,0: over 1024 constants"),
+        (14, 0, "14,0: a lent output shorter than its limit"),
+        (15, 3, "15,3: a refusal that this crate does not know"),
+    ];
+    for (number, place, text) in texts {
+        assert_eq!(refusal(number, place).to_string(), text);
+        assert_eq!(refusal(number, place).reason().map(|reason| reason as u8), (number < 15).then_some(number));
+    }
+    let boxed: Box<dyn std::error::Error + Send + Sync> = compile(SHEET, b"", b"").unwrap_err().into();
+    assert_eq!(boxed.to_string(), texts[0].2);
+}

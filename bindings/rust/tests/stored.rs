@@ -1,0 +1,75 @@
+//! Rewriting called alone on the stored answers of the published Rust: crates/passes_test/stdin (oracle/README.md says how it was made).
+
+use mezhukan::{rewrite_alone, LineEntry, Refusal, Rewritten};
+
+const STORED: &str = concat!(env!("CARGO_MANIFEST_DIR"), "/../../crates/passes_test/stdin");
+const LEAST: usize = 300;
+
+/// What stands in an input. A line that is not read as numbers is empty: the answer is then one that comes before it.
+struct Given {
+    sheet: String,
+    rules: String,
+    code: Vec<u8>,
+    protected: Vec<u16>,
+    lines: Vec<LineEntry>,
+}
+
+fn numbers<T: std::str::FromStr>(line: &str) -> Vec<T> {
+    line.split(',').map(str::parse).collect::<Result<_, _>>().unwrap_or_default()
+}
+
+fn entry(line: &str) -> LineEntry {
+    match numbers(line)[..] {
+        [offset, line, column] => LineEntry { offset, line, column },
+        _ => LineEntry::default(),
+    }
+}
+
+/// None where the count line is no number of lines: that is not the library's to answer.
+fn read(input: &str) -> Option<Given> {
+    let mut lines = input.split_inclusive('\n');
+    let sheet = lines.next()?.to_string();
+    let count: usize = lines.next()?.trim_end().parse().ok()?;
+    let rules = lines.by_ref().take(count).collect();
+    let mut lines = lines.map(str::trim_end);
+    let code = numbers(lines.next().unwrap_or_default());
+    let protected = numbers(lines.next().unwrap_or_default());
+    Some(Given { sheet, rules, code, protected, lines: lines.map(entry).collect() })
+}
+
+/// A stored answer as the library gives it; none for `?`, a malformed line, and for `9,0`, a count line, which are the program's own.
+fn expected(answer: &str) -> Option<Result<Rewritten, Refusal>> {
+    let first: Vec<u64> = answer.lines().next()?.split(',').map(|field| field.parse().ok()).collect::<Option<_>>()?;
+    match first[..] {
+        [9, 0] => None,
+        [number, place] => Some(Err(Refusal { number: number.try_into().ok()?, place })),
+        _ => {
+            let of = |letter| answer.lines().filter_map(move |line| line.strip_prefix(letter));
+            let code = of("b,").flat_map(|line| numbers::<u16>(line).into_iter().skip(1)).map(|byte| byte as u8);
+            let protected = of("p,").flat_map(numbers);
+            Some(Ok(Rewritten {
+                code: code.collect(),
+                protected: protected.collect(),
+                lines: of("l,").map(entry).collect(),
+            }))
+        }
+    }
+}
+
+#[test]
+fn the_stored_answers() {
+    let stored = std::fs::read_to_string(STORED).expect("the stored answers");
+    let parts: Vec<&str> = stored.split("====\n").collect();
+    let mut compared = 0;
+    for case in parts.chunks_exact(2) {
+        let (Some(given), Some(expected)) = (read(case[0]), expected(case[1])) else {
+            continue;
+        };
+        let Given { sheet, rules, code, protected, lines } = &given;
+        let got = rewrite_alone(sheet.as_bytes(), rules.as_bytes(), code, protected, lines);
+        assert_eq!(got, expected, "for {}", case[0]);
+        compared += 1;
+    }
+    println!("{compared} compared");
+    assert!(compared >= LEAST, "{compared} compared");
+}
