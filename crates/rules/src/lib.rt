@@ -78,7 +78,7 @@ const ROW_SIZE: usize = 9;
 // Numbers of a table: a row for each rule that a file may have.
 pub const TABLE_SIZE: usize = MAX_RULES * ROW_SIZE;
 // In an index, the number of no rule.
-pub const NO_RULE: usize = MAX_RULES;
+pub const NO_RULE: u16 = MAX_RULES as u16;
 // Elements of an index: one for each role, and one for each rule that a file may have.
 pub const INDEX_SIZE: usize = ROLE_COUNT + MAX_RULES;
 
@@ -417,7 +417,7 @@ fn fits(table: &[u16], at: usize, pass: u8, a: Instruction, b: Instruction) -> b
 
 // The index of a pass: by role the first of the pass's rules that start with it, and behind those by rule the next that starts as it does.
 // The last rule goes first, so that what stands at a role is the next rule for the one before.
-pub fn make_index(table: &[u16], count: usize, pass: u8) -> [usize; INDEX_SIZE]
+pub fn make_index(table: &[u16], count: usize, pass: u8) -> [u16; INDEX_SIZE]
     requires { ⌜ IsRules (now table) count ⌝ }
     ensures { λ r. ⌜ Indexed (now (table .entry)) count pass r ⌝ }
 {
@@ -430,14 +430,14 @@ pub fn make_index(table: &[u16], count: usize, pass: u8) -> [usize; INDEX_SIZE]
         let next = index[role];
         index[ROLE_COUNT + i] = next;
         if table[start + PASS] == pass as u16 {
-            index[role] = i;
+            index[role] = numbers::narrow(i);
         }
     }
     index
 }
 
 // The first rule that an index has for a role; NO_RULE for a number that no role has.
-pub fn head(index: &[usize], role: u8) -> usize
+pub fn head(index: &[u16], role: u8) -> u16
     requires { ⌜ length (now index) ≡ indexSize ⌝ }
     ensures { λ r. ⌜ r ≡ headIn (now (index .entry)) role ⌝ }
 {
@@ -449,7 +449,7 @@ pub fn head(index: &[usize], role: u8) -> usize
 pub fn find(
     table: &[u16],
     count: usize,
-    index: &[usize],
+    index: &[u16],
     pass: u8,
     a: Instruction,
     b: Instruction,
@@ -458,12 +458,12 @@ pub fn find(
     requires { ⌜ Indexed (now table) count pass (now index) ⌝ }
     ensures { λ r. ⌜ r ≡ foundIn (now (table .entry)) count pass a b ⌝ }
 {
-    let mut i = head(index, a.role);
+    let mut i = numbers::wide(head(index, a.role));
     while i < count {
         if fits(table, i, pass, a, b) {
             return Found::At(i);
         }
-        i = index[ROLE_COUNT + i];
+        i = numbers::wide(index[ROLE_COUNT + i]);
     }
     Found::Nothing
 }

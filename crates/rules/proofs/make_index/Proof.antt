@@ -34,10 +34,11 @@ make-index-spec =
     (λ c. search needs)  -- add-if1
     (λ c. search needs)  -- mul-if1
     (λ c. omega (arith, c .before .before .before .before .loop .inv .near, c .before .before .before .before .before .before .pre .few, rules-long (c .before .before .before .before .before .before .pre)))  -- shared-slice-read-if1
-    (λ c. omega (arith, c .before .before .wide .ensures, first-small (c .before .before .before .before .before .before .before .pre) (c .before .before .before .before .before .loop .inv) (c .before .before .before .before .before .loop .i - 1) (search needs)))  -- mul-index-2
-    (λ c. omega (arith, c .before .before .wide .ensures, first-small (c .before .before .before .before .before .before .before .pre) (c .before .before .before .before .before .loop .inv) (c .before .before .before .before .before .loop .i - 1) (search needs)))  -- array-write-index-2
+    (λ c κs. omega (arith, c .before .before .before .before .before .loop .inv .near, c .before .before .before .before .before .before .before .pre .few))  -- narrow-requires
+    (λ c. omega (arith, c .before .before .before .wide .ensures, first-small (c .before .before .before .before .before .before .before .before .pre) (c .before .before .before .before .before .before .loop .inv) (c .before .before .before .before .before .before .loop .i - 1) (search needs)))  -- mul-index-2
+    (λ c. omega (arith, c .before .before .before .wide .ensures, first-small (c .before .before .before .before .before .before .before .before .pre) (c .before .before .before .before .before .before .loop .inv) (c .before .before .before .before .before .before .loop .i - 1) (search needs)))  -- array-write-index-2
     (λ c. search needs)  -- loop-less
-    (λ c. rw (c .before .before .wide .ensures) (links-next (c .before .before .before .before .before .before .before .pre) (c .before .before .before .before .before .loop .inv) (c .before .before .before .before .before .loop .i - 1) (search needs) (c .if1 .taken)))  -- loop-again
+    (λ c. rw (c .narrow .ensures, c .before .before .before .wide .ensures) (links-next (c .before .before .before .before .before .before .before .before .pre) (c .before .before .before .before .before .before .loop .inv) (c .before .before .before .before .before .before .loop .i - 1) (search needs) (c .before .if1 .taken)))  -- loop-again
     (λ c. search needs)  -- loop-less-2
     (λ c. rw (c .before .before .wide .ensures) (links-past (c .before .before .before .before .before .before .before .pre) (c .before .before .before .before .before .loop .inv) (c .before .before .before .before .before .loop .i - 1) (search needs) (c .if1 .left)))  -- loop-again-2
     (λ c. links-end (c .before .loop .inv) (search needs)))  -- returns
