@@ -95,6 +95,16 @@ module _ (s : Sheet) (matches : Matcher) (protected : List ℕ) where
       → actions s matches protected at (a ∷ b ∷ is) ≡ paired at a b is q
   acts-asked at a b is q h m = rw (acts-pair at a b is, h, m)
 
+  -- so that a pair that no rule fits is skipped by one, protected or not
+  pub acts-unstarted : (at : ℕ) (a b : Bytes) (is : List Bytes) → matches (instruction s a) (instruction s b) ≡ none
+      → actions s matches protected at (a ∷ b ∷ is) ≡ keep ∷ actions s matches protected (at + length a) (b ∷ is)
+  unfolding paired
+  acts-unstarted at a b is m = go (has protected at || has protected (at + length a)) refl
+    where
+      go : (t : Bool) → (has protected at || has protected (at + length a)) ≡ t → actions s matches protected at (a ∷ b ∷ is) ≡ keep ∷ actions s matches protected (at + length a) (b ∷ is)
+      go true q = acts-protected at a b is q
+      go false q = acts-asked at a b is none q m
+
 -- ---- what is decided for an instruction, by the tests that led there
 
 module _ (s : Sheet) (matches : Matcher) (protected code : List ℕ) (at : ℕ) (a : Bytes) (here : a ≡ firstOf (decode s (drop at code))) where
@@ -111,6 +121,14 @@ module _ (s : Sheet) (matches : Matcher) (protected code : List ℕ) (at : ℕ) 
       → Planned s matches protected code at none (length a) keep none
   unfolding Fitting FittingNext actionsAfter
   plan-keep h is e acts = record { long = ap length here; acts = λ _. rw (first-is s code at a here h, e) acts; fits = tt; later = tt }
+
+  -- no rule fits whatever follows
+  pub plan-unstarted : 1 ≤ length a → ((b : Bytes) → matches (instruction s a) (instruction s b) ≡ none) → Planned s matches protected code at none (length a) keep none
+  plan-unstarted full m = go (decode s (drop (at + length a) code)) refl
+    where
+      go : (is : List Bytes) → decode s (drop (at + length a) code) ≡ is → Planned s matches protected code at none (length a) keep none
+      go [] e = plan-keep full [] e (acts-last s matches protected at a)
+      go (b ∷ is) e = plan-keep full (b ∷ is) e (acts-unstarted s matches protected at a b is (m b))
 
   module _ (b : Bytes) (next : b ≡ firstOf (decode s (drop (at + length a) code))) (full : 1 ≤ length a) where
     pub plan-last : length b ≡ 0 → Planned s matches protected code at none (length a) keep none

@@ -27,7 +27,7 @@ use Rattle.rewrite.specs.View.{isMark, firstOf, marked, matcher, nextVie
 use Rattle.rewrite.proofs.Decoding.{First, first, first-within, listed}
 use Rattle.rewrite.proofs.Fits.{found-fits}
 use Rattle.rewrite.proofs.Marked.{has-marked}
-use Rattle.rewrite.proofs.Pass.{plan-none, plan-known, plan-last, plan-protected, plan-unmatched, plan-matched, Going, goes-on, ends}
+use Rattle.rewrite.proofs.Pass.{plan-none, plan-known, plan-unstarted, plan-last, plan-protected, plan-unmatched, plan-matched, Going, goes-on, ends}
 
 -- ---- a plan to keep
 
@@ -65,6 +65,10 @@ module _ (s : Sheet) (table : List ℕ) (count pass : ℕ) (marks code : List �
 
   pub decided-within : (length a ≡ 0 → ⊥) → at + length a ≤ length code
   decided-within full = first-within s code at a here (omega arith)
+
+  pub decided-unstarted : {r : Plan} → next ≡ Ask → (length a ≡ 0 → ⊥) → ((b : Bytes) → matcher table count pass (instruction s a) (instruction s b) ≡ none) → Kept (length a) r
+      → Planned s (matcher table count pass) (marked marks) code at (nextView next) (r .size) (actionView (r .action)) (nextView (r .next))
+  decided-unstarted asked full m k = rw asked (kept k (plan-unstarted s _ _ code at a here (omega arith) m))
 
   module _ (b : Bytes) (after : b ≡ firstOf (decode s (drop (at + length a) code))) (asked : next ≡ Ask) (full : length a ≡ 0 → ⊥) where
     pub decided-last : {r : Plan} → length b ≡ 0 → Kept (length a) r

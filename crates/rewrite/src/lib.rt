@@ -4,7 +4,7 @@ ghost use Prim.Native.Nat.{_+_, _≤_};
 ghost use lib.ListN.{length, take, drop};
 ghost use Rattle.definition.specs.Rewrite.{decode, operandOf, instruction, applied, applyPeephole};
 ghost use Rattle.opcode.specs.Table.{IsTable, sheetIn};
-ghost use Rattle.rules.specs.View.{actionView, instructionView, IsRules};
+ghost use Rattle.rules.specs.View.{actionView, instructionView, IsRules, Indexed};
 ghost use Rattle.rewrite.specs.View.{firstOf, marked, matcher, Looked, Kept, nextView, Fitting, FittingNext, Ready, Planned, Puts, Clear, Peephole};
 use definition::MAX_CODE;
 use opcode::sheet;
@@ -128,15 +128,23 @@ fn keep(size: usize) -> Plan
     }
 }
 
-// Which rule of a pass fits two instructions.
-fn look_up(sheet: &[u8], rules: &[u16], count: usize, pass: u8, a: &[u8], b: &[u8]) -> Found
+// Which rule of a pass fits an instruction and the next one.
+fn look_up(
+    sheet: &[u8],
+    rules: &[u16],
+    count: usize,
+    index: &[u16],
+    pass: u8,
+    first: Instruction,
+    b: &[u8],
+) -> Found
     requires { ⌜ IsTable (now sheet) ⌝ }
     requires { ⌜ IsRules (now rules) count ⌝ }
-    ensures { λ r. ⌜ Looked (now (rules .entry)) count (matcher (now (rules .entry)) count pass (instruction (sheetIn (now (sheet .entry))) (now (a .entry))) (instruction (sheetIn (now (sheet .entry))) (now (b .entry)))) r ⌝ }
+    requires { ⌜ Indexed (now rules) count pass (now index) ⌝ }
+    ensures { λ r. ⌜ Looked (now (rules .entry)) count (matcher (now (rules .entry)) count pass (instructionView first) (instruction (sheetIn (now (sheet .entry))) (now (b .entry)))) r ⌝ }
 {
-    let first = seen(sheet, a);
     let second = seen(sheet, b);
-    rules::find(rules, count, pass, first, second)
+    rules::find(rules, count, index, pass, first, second)
 }
 
 // What is done with the instruction at a place, and with the next one if the two match.
@@ -144,6 +152,7 @@ fn decide(
     sheet: &[u8],
     rules: &[u16],
     count: usize,
+    index: &[u16],
     pass: u8,
     marks: &[u8],
     code: &[u8],
@@ -151,6 +160,7 @@ fn decide(
     next: Next,
 ) -> Plan
     requires { ⌜ Ready (now sheet) (now rules) count (now marks) (now code) ⌝ }
+    requires { ⌜ Indexed (now rules) count pass (now index) ⌝ }
     requires { ⌜ FittingNext (nextView next) (firstOf (decode (sheetIn (now sheet)) (drop at (now code)))) ⌝ }
     ensures { λ r. ⌜ Planned (sheetIn (now (sheet .entry))) (matcher (now (rules .entry)) count pass) (marked (now (marks .entry))) (now (code .entry)) at (nextView next) (r .size) (actionView (r .action)) (nextView (r .next)) ⌝ }
 {
@@ -166,6 +176,10 @@ fn decide(
             next: Next::Ask,
         };
     }
+    let first = seen(sheet, a);
+    if rules::head(index, first.role) == rules::NO_RULE {
+        return keep(size);
+    }
     let then = at + size;
     let b = decode(sheet, code, then);
     if b.len() == 0 {
@@ -177,7 +191,7 @@ fn decide(
     if marks[then] != 0 {
         return keep(size);
     }
-    let Found::At(i) = look_up(sheet, rules, count, pass, a, b) else {
+    let Found::At(i) = look_up(sheet, rules, count, index, pass, first, b) else {
         return keep(size);
     };
     let pair = rules::actions(rules, i);
@@ -204,11 +218,12 @@ pub fn apply_peephole(
     requires { ⌜ Clear (length (now code)) (now moves) ⌝ }
     ensures { λ r. ⌜ Peephole (applyPeephole (sheetIn (now (sheet .entry))) (matcher (now (rules .entry)) count pass) (marked (now (marks .entry))) (now (code .entry))) (now (code .entry)) (now (code .exit)) (now (moves .exit)) r ⌝ }
 {
+    let index = rules::make_index(rules, count, pass);
     let mut at = 0;
     let mut to = 0;
     let mut next = Next::Ask;
     loop {
-        let plan = decide(sheet, rules, count, pass, marks, code, at, next);
+        let plan = decide(sheet, rules, count, &index, pass, marks, code, at, next);
         let size = plan.size;
         moves[at] = numbers::narrow(to);
         if size == 0 {

@@ -4,4 +4,5 @@ pub mod Rows
 pub mod Table
 pub mod File
 pub mod Lookup
+pub mod Chain
 pub mod Pairs

@@ -3,13 +3,13 @@ use mathlib.Core.Path.{_≡_}
 use mathlib.Core.Bool.{Bool, true, false, _&&_}
 use mathlib.Core.Option.{Option, some, none}
 use mathlib.Core.List.{List, [], _∷_, _++_}
-use Prim.Native.Nat.{ℕ, zero, suc, _+_, _*_, _/_, _≤_, _<_, min}
+use Prim.Native.Nat.{ℕ, zero, suc, _+_, _-_, _*_, _/_, _≤_, _<_, min}
 use lib.Dec.{eqb, leb, ltb}
 use lib.ListN.{length, getD, take, drop, getElem?}
 use Rattle.definition.specs.Limits.{maxRules, outputShort}
 use Rattle.definition.specs.Res.{Res, ok, refuse, _>>_, demand}
 use Rattle.definition.specs.Field.{Numbers, wrong, are, numbers}
-use Rattle.definition.specs.Opcode.{number, roles}
+use Rattle.definition.specs.Opcode.{number, roles, roleCount}
 use Rattle.definition.specs.Lent.{zeros, filled}
 use Rattle.definition.specs.Rules as def
 use Rattle.definition.specs.Rules.{Rule, Test, always, operandsEqual, firstIs, secondIs, keep, remove, rewriteOperand, nameable, lastTest, lastAction, goodRule, readRules, ruleFields, ruleOf, ruleFrom, testNumbered}
@@ -214,10 +214,14 @@ pub record RowAt (table : List ℕ) (at : ℕ) : Type 0 where
 unfoldable pub rowCount : List ℕ → ℕ
 rowCount table = length table / rowSize
 
+-- is a row a rule of a pass for pairs that start with a role?
+unfoldable pub rowStarts : ℕ → ℕ → List ℕ → Bool
+rowStarts pass role row = eqb (getD row passAt 0) pass && eqb (getD row firstAt 0) role
+
 -- does a row, by its numbers, fit two instructions of a pass?
 unfoldable pub rowFits : ℕ → List ℕ → Instruction → Instruction → Bool
-rowFits pass row a b = eqb (getD row passAt 0) pass && (eqb (getD row firstAt 0) (a .role) && (eqb (getD row secondAt 0) (b .role)
-    && def.testHolds (testNumbered (getD row testAt 0) (getD row numberAt 0)) (a .operand) (b .operand)))
+rowFits pass row a b = rowStarts pass (a .role) row && (eqb (getD row secondAt 0) (b .role)
+    && def.testHolds (testNumbered (getD row testAt 0) (getD row numberAt 0)) (a .operand) (b .operand))
 
 -- the first of n rows that fits, where the first of them has number i
 unfoldable pub foundFrom : ℕ → Instruction → Instruction → ℕ → ℕ → List ℕ → Found
@@ -243,3 +247,32 @@ pairAt table (At i) = some (ruleAt table i .one, ruleAt table i .two)
 pub record Finds (table : List ℕ) (count pass : ℕ) (a b : Instruction) (r : Found) : Type 0 where
   pub inside : Inside count r
   pub is : pairAt table r ≡ def.matches pass (rulesIn table count) (instructionView a) (instructionView b)
+
+-- ---- the index of a pass
+
+-- stands for no rule
+abbrev pub noRule : ℕ
+noRule = maxRules
+
+-- elements of an index: one for each role, and behind them one for each rule
+abbrev pub indexSize : ℕ
+indexSize = roleCount + maxRules
+
+-- the first of n rows that starts with a role, where the first of them has number i
+unfoldable pub startFrom : ℕ → ℕ → ℕ → ℕ → List ℕ → ℕ
+startFrom pass role i zero table = noRule
+startFrom pass role i (suc n) table = elim (rowStarts pass role (take rowSize table)) [ true ↦ i | false ↦ startFrom pass role (suc i) n (drop rowSize table) ]
+
+-- the first from rule i on
+unfoldable pub nextIn : List ℕ → ℕ → ℕ → ℕ → ℕ → ℕ
+nextIn table count pass role i = startFrom pass role i (count - i) (drop (i * rowSize) table)
+
+-- by role the first rule that starts with it, by rule the next that starts as it does
+pub record Indexed (table : List ℕ) (count pass : ℕ) (index : List ℕ) : Type 0 where
+  pub long : length index ≡ indexSize
+  pub heads : (role : ℕ) → role < roleCount → getD index role 0 ≡ nextIn table count pass role 0
+  pub nexts : (i : ℕ) → i < maxRules → getD index (roleCount + i) 0 ≡ nextIn table count pass (getD table (i * rowSize + firstAt) 0) (i + 1)
+
+-- what an index has for a role; noRule for a number that no role has
+unfoldable pub headIn : List ℕ → ℕ → ℕ
+headIn index role = elim (ltb role roleCount) [ true ↦ getD index role 0 | false ↦ noRule ]

@@ -8,7 +8,7 @@ ghost use lib.Seq.{paste};
 ghost use Rattle.definition.specs.Res.{refuse};
 ghost use Rattle.definition.specs.Rules.{readRules, ruleOf, testNumbered, actionNumbered, testable, allowed, removed, cancel, hasOperand, isVariable, goodRule, testHolds};
 ghost use Rattle.opcode.specs.View.{roleView, effectView};
-ghost use Rattle.rules.specs.View.{actionView, rowSize, tableSize, readInto, Answered, Numbered, Bounded, used, rowOf, lineOf, lineAt, rowAt, rowFits, foundIn, actionsIn};
+ghost use Rattle.rules.specs.View.{actionView, rowSize, tableSize, readInto, Answered, Numbered, Bounded, used, rowOf, lineOf, lineAt, rowAt, rowFits, foundIn, actionsIn, IsRules, indexSize, headIn, Indexed};
 use definition::BAD_RULE;
 use definition::LAST_ACTION;
 use definition::LAST_TEST;
@@ -18,6 +18,7 @@ use definition::MAX_VARIABLES;
 use definition::NAMEABLE;
 use definition::OUTPUT_SHORT;
 use definition::PASS_COUNT;
+use definition::ROLE_COUNT;
 use field::Read;
 use opcode::Effect;
 use opcode::Role;
@@ -76,6 +77,10 @@ const TWO_OPERAND: usize = 8;
 const ROW_SIZE: usize = 9;
 // Numbers of a table: a row for each rule that a file may have.
 pub const TABLE_SIZE: usize = MAX_RULES * ROW_SIZE;
+// In an index, the number of no rule.
+pub const NO_RULE: u16 = MAX_RULES as u16;
+// Elements of an index: one for each role, and one for each rule that a file may have.
+pub const INDEX_SIZE: usize = ROLE_COUNT + MAX_RULES;
 
 // Tests by number; any other holds always.
 const OPERANDS_EQUAL: u16 = 1;
@@ -410,18 +415,55 @@ fn fits(table: &[u16], at: usize, pass: u8, a: Instruction, b: Instruction) -> b
     )
 }
 
-// The first rule of a pass that fits two instructions, among so many of a table of any length. Of a table that was read it is the
-// definition's (proofs/Lookup.antt, `found-finds`).
-pub fn find(table: &[u16], count: usize, pass: u8, a: Instruction, b: Instruction) -> Found
+// The index of a pass: by role the first of the pass's rules that start with it, and behind those by rule the next that starts as it does.
+// The last rule goes first, so that what stands at a role is the next rule for the one before.
+pub fn make_index(table: &[u16], count: usize, pass: u8) -> [u16; INDEX_SIZE]
+    requires { ⌜ IsRules (now table) count ⌝ }
+    ensures { λ r. ⌜ Indexed (now (table .entry)) count pass r ⌝ }
+{
+    let mut index = [NO_RULE; INDEX_SIZE];
+    let mut i = count;
+    while 0 < i {
+        i -= 1;
+        let start = i * ROW_SIZE;
+        let role = numbers::wide(table[start + FIRST]);
+        let next = index[role];
+        index[ROLE_COUNT + i] = next;
+        if table[start + PASS] == pass as u16 {
+            index[role] = numbers::narrow(i);
+        }
+    }
+    index
+}
+
+// The first rule that an index has for a role; NO_RULE for a number that no role has.
+pub fn head(index: &[u16], role: u8) -> u16
+    requires { ⌜ length (now index) ≡ indexSize ⌝ }
+    ensures { λ r. ⌜ r ≡ headIn (now (index .entry)) role ⌝ }
+{
+    let n = role as usize;
+    if n < ROLE_COUNT { index[n] } else { NO_RULE }
+}
+
+// The first rule of a pass that fits two instructions, along the pass's index. It is the definition's (proofs/Lookup.antt, `found-finds`).
+pub fn find(
+    table: &[u16],
+    count: usize,
+    index: &[u16],
+    pass: u8,
+    a: Instruction,
+    b: Instruction,
+) -> Found
+    requires { ⌜ IsRules (now table) count ⌝ }
+    requires { ⌜ Indexed (now table) count pass (now index) ⌝ }
     ensures { λ r. ⌜ r ≡ foundIn (now (table .entry)) count pass a b ⌝ }
 {
-    let rows = numbers::least(count, table.len() / ROW_SIZE);
-    let mut i = 0;
-    while i < rows {
+    let mut i = numbers::wide(head(index, a.role));
+    while i < count {
         if fits(table, i, pass, a, b) {
             return Found::At(i);
         }
-        i += 1;
+        i = numbers::wide(index[ROLE_COUNT + i]);
     }
     Found::Nothing
 }

@@ -9,6 +9,5 @@ look-up-spec =
     tie.close
     (tie.spec
     (λ c κs. search needs)  -- seen-requires
-    (λ c κs. search needs)  -- seen-requires-2
-    (λ c κs. search needs)  -- find-requires
-    (λ c. looked _ _ _ _ _ _ (c .before .before .before .before .before .before .before .pre .1) (c .find .ensures) (c .before .before .seen .ensures) (c .before .seen2 .ensures)))  -- returns
+    (λ c κs. (c .before .before .before .before .before .pre .1 .0, c .before .before .before .before .before .pre .1 .1))  -- find-requires
+    (λ c. looked _ _ _ _ _ (c .before .before .before .before .before .before .pre .1 .0) (c .find .ensures) (c .before .seen .ensures)))  -- returns
