@@ -61,7 +61,7 @@ module _ (ls : List ℕ) (at a b c d e : ℕ) (fits : at + 5 ≤ length ls) wher
   put5-other j h = getD-set-other s4 (at + 4) j e 0 (λ q. h (omega arith) (omega arith)) ∙ getD-set-other s3 (at + 3) j d 0 (λ q. h (omega arith) (omega arith)) ∙ getD-set-other s2 (at + 2) j c 0 (λ q. h (omega arith) (omega arith)) ∙ getD-set-other s1 (at + 1) j b 0 (λ q. h (omega arith) (omega arith)) ∙ getD-set-other ls at j a 0 (λ q. h (omega arith) (omega arith))
 
 -- a level whose numbers are the same
-body-same : (ls ls′ : List ℕ) (k : ℕ) → ((j : ℕ) → endSize * k ≤ j → j < endSize * k + 5 → getD ls′ j 0 ≡ getD ls j 0) → bodyAt ls′ k ≡ bodyAt ls k
+pub body-same : (ls ls′ : List ℕ) (k : ℕ) → ((j : ℕ) → endSize * k ≤ j → j < endSize * k + 5 → getD ls′ j 0 ≡ getD ls j 0) → bodyAt ls′ k ≡ bodyAt ls k
 unfolding bodyAt
 body-same ls ls′ k h = rw (h (endSize * k) (omega arith) (omega arith), h (endSize * k + 1) (omega arith) (omega arith), h (endSize * k + 2) (omega arith) (omega arith), h (endSize * k + 3) (omega arith) (omega arith), h (endSize * k + 4) (omega arith) (omega arith))
 
