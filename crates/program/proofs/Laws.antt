@@ -394,3 +394,18 @@ next-is e near h = record {
 
 pub passes : {text : List ℕ} {w : Walk} {c : Cursor} → Skipped text (nextLine text (cursorIn w)) c → Passed text w (record { at = c .at; row = c .row; refused = w .refused })
 passes s = record { near = s .near; is = s .is; same = refl }
+
+-- ---- a walk that heeds no fault goes to the place that is read
+
+stands-at : (n : ℕ) (c d : def.Cursor) → standBy n c ≡ ok d → c ≡ d
+unfolding standBy
+stands-at zero c d e = cc
+stands-at (suc n) c d e = never (cc)
+
+pub skipped : {f : def.Cursor → Res def.Cursor} {text : List ℕ} {w v : Walk} (d : def.Cursor) → w .refused ≡ 0 → Walked f text w v → f (cursorIn w) ≡ ok d → Skipped text d (record { at = v .at; row = v .row })
+unfolding standBy _>>=_
+skipped {v = v} d on w e = record { is = stands-at (v .refused) (cursorIn v) d (w .did ∙ rw on e); near = w .near }
+
+pub skipped-block : (left v n : ℕ) {text : List ℕ} {b c : Walk} → b .refused ≡ 0 → Walked (many n (overStmt false left v text)) text b c → Skipped text (blockOf (λ d. stmtAt left v text d) n (cursorIn b) .1) (record { at = c .at; row = c .row })
+unfolding outcome
+skipped-block left v n {b = b} on w = skipped _ on w (sym (block-many false (λ d. stmtAt left v _ d) n (cursorIn b)))

@@ -2,11 +2,13 @@
 ghost use mathlib.Core.Path.{_≡_};
 ghost use Prim.Native.Nat.{_<_};
 ghost use lib.ListN.{length};
+ghost use Rattle.definition.specs.Limits.{maxNesting};
 ghost use Rattle.definition.specs.Program.{nextLine};
 ghost use Rattle.line_map.specs.View.{posView};
 ghost use Rattle.program_line.specs.View.{stmtLine, exprLine};
 ghost use Rattle.program.specs.Walk.{cursorOf, Near, Skipped, Walked, many, overExpr, overStmt, overLabel, overArm, partsOf, operandsOf, blocks, failed, Passed};
 ghost use Rattle.program.specs.Check.{checkedView, checked, Headed};
+ghost use Rattle.program.specs.Ends.{endsSize, placesBelow, Sound, Holds, HeldIf, Worth, bodyPut, Noting};
 use definition::BAD_TEXT;
 use definition::MAX_NESTING;
 use definition::MAX_PROGRAM;
@@ -17,6 +19,15 @@ use program_line::ExprLine;
 use program_line::HeaderLine;
 use program_line::LabelLine;
 use program_line::StmtLine;
+
+// Numbers of a loop's body that was noted: where it starts (byte, line), how many statements it has, and where it ends.
+pub const END_SIZE: usize = 5;
+
+// A body for each nesting level, and behind them the byte from which the present walk skips.
+pub const ENDS_SIZE: usize = END_SIZE * MAX_NESTING + 1;
+
+// Places and counts below this one are noted: those of 16 bits.
+pub const PLACES_BELOW: usize = 65536;
 
 // A place in the text: the byte where a line starts, and its number.
 pub struct Cursor {
@@ -244,10 +255,116 @@ fn walk_labels(text: &[u8], heed: bool, left: usize, n: usize, w: Walk) -> Walk
     on
 }
 
+// ---- where bodies of loops end. A REPEAT is seen behind its body, so these are looked up when it is emitted; what is noted only saves time
+
+// Does a body from b to c fit into 16-bit numbers, at a nesting level that there is?
+fn fits(left: usize, n: usize, b: Walk, c: Walk) -> bool
+    ensures { λ r. ⌜ HeldIf left n b c r ⌝ }
+{
+    if left >= MAX_NESTING {
+        return false;
+    }
+    if n >= PLACES_BELOW {
+        return false;
+    }
+    if b.at >= PLACES_BELOW {
+        return false;
+    }
+    if b.row >= PLACES_BELOW {
+        return false;
+    }
+    if c.at >= PLACES_BELOW {
+        return false;
+    }
+    if c.row >= PLACES_BELOW {
+        return false;
+    }
+    true
+}
+
+// Only a walk that heeds no fault notes, and only the body of a loop whose `continuing` is one statement.
+fn noteworthy(heed: bool, left: usize, p: Parts, b: Walk, c: Walk) -> bool
+    ensures { λ r. ⌜ Worth heed left (p .first) b c r ⌝ }
+{
+    if heed {
+        return false;
+    }
+    if b.refused != 0 {
+        return false;
+    }
+    if p.exprs != 0 {
+        return false;
+    }
+    if p.second != 1 {
+        return false;
+    }
+    fits(left, p.first, b, c)
+}
+
+// Of the bodies of a level in the part that is skipped now the longest is kept: the others together are walked again but a few times.
+fn replaces(ends: &[u16], left: usize, start: usize, end: usize) -> bool
+    requires { ⌜ length (now ends) ≡ endsSize ⌝ }
+    requires { ⌜ left < maxNesting ⌝ }
+    requires { ⌜ start < placesBelow ⌝ }
+    requires { ⌜ end < placesBelow ⌝ }
+{
+    let at = END_SIZE * left;
+    let from = numbers::wide(ends[ENDS_SIZE - 1]);
+    let old = numbers::wide(ends[at]);
+    let last = numbers::wide(ends[at + 3]);
+    if old < from {
+        return true;
+    }
+    if old >= start {
+        return true;
+    }
+    end + old > last + start
+}
+
+// A body of n statements, from b to c, is written to its level.
+fn put_body(ends: &mut [u16], left: usize, n: usize, b: Walk, c: Walk)
+    requires { ⌜ length (now ends) ≡ endsSize ⌝ }
+    requires { ⌜ Holds left n b c ⌝ }
+    ensures { λ r. ⌜ now (ends .exit) ≡ bodyPut (now (ends .entry)) left n b c ⌝ }
+{
+    let at = END_SIZE * left;
+    ends[at] = b.at as u16;
+    ends[at + 1] = b.row as u16;
+    ends[at + 2] = n as u16;
+    ends[at + 3] = c.at as u16;
+    ends[at + 4] = c.row as u16;
+}
+
+// The first statements of a loop, from b to c, are noted for their level if that is of use.
+fn note(ends: &mut [u16], heed: bool, left: usize, p: Parts, b: Walk, c: Walk)
+    requires { ⌜ length (now ends) ≡ endsSize ⌝ }
+    ensures { λ r. ⌜ Noting heed left (p .first) b c (now (ends .entry)) (now (ends .exit)) ⌝ }
+{
+    let worth = noteworthy(heed, left, p, b, c);
+    if worth {
+        let longer = replaces(ends, left, b.at, c.at);
+        if longer {
+            put_body(ends, left, p.first, b, c);
+            return;
+        }
+        return;
+    }
+}
+
 // So many arms.
-fn walk_arms(text: &[u8], variables: u16, heed: bool, left: usize, n: usize, w: Walk) -> Walk
+fn walk_arms(
+    text: &[u8],
+    ends: &mut [u16],
+    variables: u16,
+    heed: bool,
+    left: usize,
+    n: usize,
+    w: Walk,
+) -> Walk
     requires { ⌜ Near (now text) (w .at) (w .row) ⌝ }
+    requires { ⌜ Sound (now text) variables (now ends) ⌝ }
     ensures { λ r. ⌜ Walked (many n (overArm heed left variables (now (text .entry)))) (now (text .entry)) w r ⌝ }
+    ensures { λ r. ⌜ Sound (now (text .entry)) variables (now (ends .exit)) ⌝ }
 {
     let mut more = n;
     let mut on = w;
@@ -255,16 +372,18 @@ fn walk_arms(text: &[u8], variables: u16, heed: bool, left: usize, n: usize, w: 
         if on.refused != 0 {
             return on;
         }
-        on = walk_arm(text, variables, heed, left, on);
+        on = walk_arm(text, ends, variables, heed, left, on);
         more = more - 1;
     }
     on
 }
 
 // An arm: its line, its labels and its body.
-fn walk_arm(text: &[u8], variables: u16, heed: bool, left: usize, w: Walk) -> Walk
+fn walk_arm(text: &[u8], ends: &mut [u16], variables: u16, heed: bool, left: usize, w: Walk) -> Walk
     requires { ⌜ Near (now text) (w .at) (w .row) ⌝ }
+    requires { ⌜ Sound (now text) variables (now ends) ⌝ }
     ensures { λ r. ⌜ Walked (overArm heed left variables (now (text .entry))) (now (text .entry)) w r ⌝ }
+    ensures { λ r. ⌜ Sound (now (text .entry)) variables (now (ends .exit)) ⌝ }
 {
     if w.refused != 0 {
         return w;
@@ -276,15 +395,25 @@ fn walk_arm(text: &[u8], variables: u16, heed: bool, left: usize, w: Walk) -> Wa
         ArmLine::Arm { labels, statements } => {
             let next = pass_line(text, w);
             let a = walk_labels(text, heed, left, labels as usize, next);
-            walk_stmts(text, variables, heed, left, statements as usize, a)
+            walk_stmts(text, ends, variables, heed, left, statements as usize, a)
         }
     }
 }
 
 // So many statements.
-pub fn walk_stmts(text: &[u8], variables: u16, heed: bool, left: usize, n: usize, w: Walk) -> Walk
+pub fn walk_stmts(
+    text: &[u8],
+    ends: &mut [u16],
+    variables: u16,
+    heed: bool,
+    left: usize,
+    n: usize,
+    w: Walk,
+) -> Walk
     requires { ⌜ Near (now text) (w .at) (w .row) ⌝ }
+    requires { ⌜ Sound (now text) variables (now ends) ⌝ }
     ensures { λ r. ⌜ Walked (many n (overStmt heed left variables (now (text .entry)))) (now (text .entry)) w r ⌝ }
+    ensures { λ r. ⌜ Sound (now (text .entry)) variables (now (ends .exit)) ⌝ }
 {
     let mut more = n;
     let mut on = w;
@@ -292,16 +421,25 @@ pub fn walk_stmts(text: &[u8], variables: u16, heed: bool, left: usize, n: usize
         if on.refused != 0 {
             return on;
         }
-        on = walk_stmt(text, variables, heed, left, on);
+        on = walk_stmt(text, ends, variables, heed, left, on);
         more = more - 1;
     }
     on
 }
 
 // A statement, with so many nesting levels left: its line, then its parts.
-fn walk_stmt(text: &[u8], variables: u16, heed: bool, left: usize, w: Walk) -> Walk
+fn walk_stmt(
+    text: &[u8],
+    ends: &mut [u16],
+    variables: u16,
+    heed: bool,
+    left: usize,
+    w: Walk,
+) -> Walk
     requires { ⌜ Near (now text) (w .at) (w .row) ⌝ }
+    requires { ⌜ Sound (now text) variables (now ends) ⌝ }
     ensures { λ r. ⌜ Walked (overStmt heed left variables (now (text .entry))) (now (text .entry)) w r ⌝ }
+    ensures { λ r. ⌜ Sound (now (text .entry)) variables (now (ends .exit)) ⌝ }
 {
     if w.refused != 0 {
         return w;
@@ -314,9 +452,10 @@ fn walk_stmt(text: &[u8], variables: u16, heed: bool, left: usize, w: Walk) -> W
     let next = pass_line(text, w);
     let l = left - 1;
     let a = walk_exprs(text, variables, heed, l, p.exprs, next);
-    let b = walk_arms(text, variables, heed, l, p.arms, a);
-    let c = walk_stmts(text, variables, heed, l, p.first, b);
-    walk_stmts(text, variables, heed, l, p.second, c)
+    let b = walk_arms(text, ends, variables, heed, l, p.arms, a);
+    let c = walk_stmts(text, ends, variables, heed, l, p.first, b);
+    note(ends, heed, l, p, b, c);
+    walk_stmts(text, ends, variables, heed, l, p.second, c)
 }
 
 // The lines behind an accepted header, the top statements at nesting level 1.
@@ -331,7 +470,9 @@ fn check_body(text: &[u8], variables: u16, statements: u16, pos: Pos) -> Checked
     };
     let top = pass_line(text, first);
     let next = top.at;
-    let w = walk_stmts(text, variables, true, MAX_NESTING, statements as usize, top);
+    let mut ends = [0u16; ENDS_SIZE];
+    let n = statements as usize;
+    let w = walk_stmts(text, &mut ends, variables, true, MAX_NESTING, n, top);
     if w.refused != 0 {
         return Checked::Refused {
             number: w.refused,

@@ -3,12 +3,13 @@ use mathlib.Core.Path.{_≡_, refl, ap, sym, _∙_}
 use mathlib.Core.Bool.{Bool, true, false, _&&_}
 use mathlib.Core.Option.{Option, some, none}
 use mathlib.Core.List.{List, []}
-use Prim.Native.Nat.{ℕ, zero, suc, _-_, _<_}
+use Prim.Native.Nat.{ℕ, zero, suc, _+_, _-_, _*_, _<_}
 use native.Mathlib.Omega.{arith}
 use lib.Dec.{eqb, eqb·suc-zero, eqb·suc-suc}
 use borrow.Author.Tests.{eqb-true}
-use lib.ListN.{length}
-use Rattle.definition.specs.Res.{Res, ok, _>>=_}
+use lib.ListN.{length, getD, set, length-set}
+use lib.Seq.{getD-set-other}
+use Rattle.definition.specs.Limits.{maxNesting}
 use Rattle.definition.specs.Opcode.{CompareOp}
 use Rattle.definition.specs.Tree.{Pos, Source, Expr, Stmt, if, Arms}
 use Rattle.definition.specs.Program as def
@@ -20,35 +21,50 @@ use Rattle.field.proofs.Results.{never}
 use Rattle.field.proofs.Tests.{and-left, and-right}
 use Rattle.program.specs.declared.Cursor.{Cursor}
 use Rattle.program.specs.declared.Walk.{Walk}
-use Rattle.program.specs.Walk.{cursorOf, cursorIn, standBy, Near, Skipped, Walked, outcome, many, overExpr, overStmt}
-use Rattle.program.proofs.Laws.{block-many, line-there, expr-bad, expr-is, stmt-bad, stmt-is}
+use Rattle.program.specs.Walk.{cursorOf, Near, Skipped, Walked, outcome, many, overExpr, overStmt}
+use Rattle.program.specs.Ends.{endSize, bodyAt, Sound}
+use Rattle.program.proofs.Noted.{body-same}
+use Rattle.program.proofs.Laws.{skipped, skipped-block, line-there, expr-bad, expr-is, stmt-bad, stmt-is}
 use Rattle.program_shape.specs.declared.Operand.{Operand}
 use Rattle.program_shape.specs.declared.Condition.{Condition}
+use Rattle.program_shape.specs.declared.BodyEnd.{BodyEnd}
+use Rattle.program_shape.specs.declared.BodyEnd.the-variants as body-end
 use Rattle.program_shape.specs.declared.ExitIf.{ExitIf}
 use Rattle.program_shape.specs.declared.ExitIf.the-variants as exit-if
 use Rattle.program_shape.specs.declared.Shape.the-variants as loop-shape
-use Rattle.program_shape.specs.Shape.{walkFrom, operandOf, variableIn, constantIn, Sided, comparisonIn, classified, fused, exitIf, sizesFit, ifFits, exitLine, exitBy, exitCondition, exitPlaces, Exiting, whileBy, repeatBy, shapeBy, blockAt, Shaped}
+use Rattle.program_shape.specs.Shape.{walkFrom, Knows, SameBodies, operandOf, variableIn, constantIn, Sided, comparisonIn, classified, fused, exitIf, sizesFit, ifFits, exitLine, exitBy, exitCondition, exitPlaces, Exiting, whileBy, repeatBy, shapeBy, blockAt, Shaped}
 
 -- ---- skipping: a walk that heeds no fault
 
-stands-at : (n : ℕ) (c d : def.Cursor) → standBy n c ≡ ok d → c ≡ d
-unfolding standBy
-stands-at zero c d e = cc
-stands-at (suc n) c d e = never (cc)
-
-skipped : {f : def.Cursor → Res def.Cursor} {text : List ℕ} {c : Cursor} {v : Walk} (d : def.Cursor) → Walked f text (walkFrom c) v → f (cursorOf c) ≡ ok d
-    → Skipped text d (record { at = v .at; row = v .row })
-unfolding standBy _>>=_ walkFrom
-skipped {v = v} d w e = record { is = stands-at (v .refused) (cursorIn v) d (w .did ∙ e); near = w .near }
-
 module _ (left v : ℕ) {text : List ℕ} (c : Cursor) {r : Walk} where
   pub skipped-expr : Walked (overExpr false left v text) text (walkFrom c) r → Skipped text (exprAt left v text (cursorOf c) .1) (record { at = r .at; row = r .row })
-  unfolding outcome
-  skipped-expr w = skipped _ w refl
+  unfolding outcome walkFrom
+  skipped-expr w = skipped _ refl w refl
 
-  pub skipped-block : (n : ℕ) → Walked (many n (overStmt false left v text)) text (walkFrom c) r → Skipped text (blockOf (λ d. stmtAt left v text d) n (cursorOf c) .1) (record { at = r .at; row = r .row })
-  unfolding outcome
-  skipped-block n w = skipped _ w (sym (block-many false (λ d. stmtAt left v text d) n (cursorOf c)))
+  pub skipped-from : (n : ℕ) → Walked (many n (overStmt false left v text)) text (walkFrom c) r → Skipped text (blockOf (λ d. stmtAt left v text d) n (cursorOf c) .1) (record { at = r .at; row = r .row })
+  unfolding walkFrom
+  skipped-from n w = skipped-block left v n refl w
+
+-- ---- ends of bodies that were noted
+
+module _ (ends : List ℕ) (left n : ℕ) (c : def.Cursor) where
+  pub known : {at row end last : ℕ} → left < maxNesting → at ≡ getD ends (endSize * left) 0 → row ≡ getD ends (endSize * left + 1) 0 → at ≡ c .at → row ≡ c .row → getD ends (endSize * left + 2) 0 ≡ n
+      → end ≡ getD ends (endSize * left + 3) 0 → last ≡ getD ends (endSize * left + 4) 0 → Knows ends left n c (body-end.Known (record { at = end; row = last }))
+  unfolding bodyAt
+  known low a r is-at is-row is-n e l = (low, rw (← a, ← r, is-at, is-row, is-n, ← e, ← l))
+
+  pub known-end : {text : List ℕ} {v : ℕ} {r : BodyEnd} {e : Cursor} → Sound text v ends → Knows ends left n c r → r ≡ body-end.Known e → Skipped text (blockOf (λ d. stmtAt left v text d) n c .1) e
+  known-end s k e = let q = rw e at k in rw (q .1) at (s .told left (q .0))
+
+pub bodies-stay : (ends : List ℕ) → SameBodies ends ends
+bodies-stay ends = record { size = refl; told = λ k h. refl }
+
+-- the number behind the bodies is none of theirs
+pub starts : (ends : List ℕ) (at : ℕ) → SameBodies ends (set ends (endSize * maxNesting) at)
+starts ends at = record { size = length-set ends (endSize * maxNesting) at; told = λ k h. body-same ends (set ends (endSize * maxNesting) at) k (λ j x y. getD-set-other ends (endSize * maxNesting) j at 0 (λ q. omega arith)) }
+
+pub stays-sound : {text : List ℕ} {v : ℕ} {ends ends′ : List ℕ} → Sound text v ends → SameBodies ends ends′ → Sound text v ends′
+stays-sound s d = record { size = d .size ∙ s .size; told = λ k h. rw (d .told k h) (s .told k h) }
 
 -- ---- conditions
 

@@ -1,10 +1,12 @@
 -- What is seen of a part of the text before it is emitted: where it ends, and which shape it has. The total reading decides.
-use Prim.Native.Nat.{ℕ, _-_}
+use Prim.Native.Nat.{ℕ, _-_, _<_}
 use mathlib.Core.Path.{_≡_}
 use mathlib.Core.List.{List}
 use mathlib.Core.Bool.{Bool, true, false, _&&_}
 use mathlib.Core.Option.{Option, some, none}
 use lib.Dec.{eqb}
+use lib.ListN.{length}
+use Rattle.definition.specs.Limits.{maxNesting}
 use Rattle.definition.specs.Tree.{Expr, Stmt, Block}
 use Rattle.definition.specs.Program as def
 use Rattle.definition.specs.Program.{Line, is, not, A, I, S, F, L, X, N, R, K, B, D, O, U, C, H, nextLine, exprAt, stmtAt, blockOf}
@@ -16,6 +18,7 @@ use Rattle.opcode.specs.View.{compareView}
 use Rattle.program.specs.declared.Cursor.{Cursor}
 use Rattle.program.specs.declared.Walk.{Walk}
 use Rattle.program.specs.Walk.{cursorOf, placeOf, Skipped}
+use Rattle.program.specs.Ends.{Body, bodyAt}
 use Rattle.program_shape.specs.declared.Operand.{Operand}
 use Rattle.program_shape.specs.declared.Operand.the-variants as operand
 use Rattle.program_shape.specs.declared.Compared.{Compared}
@@ -25,12 +28,26 @@ use Rattle.program_shape.specs.declared.Condition.{Condition}
 use Rattle.program_shape.specs.declared.Condition.the-variants as condition
 use Rattle.program_shape.specs.declared.ExitIf.{ExitIf}
 use Rattle.program_shape.specs.declared.ExitIf.the-variants as exit-if
+use Rattle.program_shape.specs.declared.BodyEnd.{BodyEnd}
+use Rattle.program_shape.specs.declared.BodyEnd.the-variants as body-end
 use Rattle.program_shape.specs.declared.Shape.{Shape}
 use Rattle.program_shape.specs.declared.Shape.the-variants as loop-shape
 
 -- where a walk that skips starts
 unfoldable pub walkFrom : Cursor → Walk
 walkFrom c = record { at = c .at; row = c .row; refused = 0 }
+
+-- ---- ends of bodies that were noted
+
+-- an end is known only if the body of n statements from c on is noted for this level, with that end
+abbrev pub Knows : List ℕ → ℕ → ℕ → def.Cursor → BodyEnd → Type 0
+Knows ends left n c (body-end.Known e) = (left < maxNesting) × (bodyAt ends left ≡ record { start = c; count = n; end = e })
+Knows ends left n c body-end.Unknown = Unit {0}
+
+-- every level has what it had
+pub record SameBodies (ends ends′ : List ℕ) : Type 0 where
+  pub size : length ends′ ≡ length ends
+  pub told : (k : ℕ) → k < maxNesting → bodyAt ends′ k ≡ bodyAt ends k
 
 -- ---- conditions
 

@@ -5,10 +5,16 @@ ghost use Rattle.definition.specs.Program.{exprAt, stmtAt, blockOf};
 ghost use Rattle.definition.specs.CompileExpr.{classify};
 ghost use Rattle.opcode.specs.View.{compareView};
 ghost use Rattle.program_line.specs.View.{stmtLine, exprLine};
+ghost use lib.ListN.{length};
 ghost use Rattle.program.specs.Walk.{cursorOf, Near, Skipped};
-ghost use Rattle.program_shape.specs.Shape.{walkFrom, operandOf, variableIn, constantIn, Sided, comparisonIn, compared, classified, fused, sizesFit, ifFits, exitLine, Exiting, whileBy, repeatBy, Shaped};
+ghost use Rattle.program.specs.Ends.{endsSize, Sound};
+ghost use Rattle.program_shape.specs.Shape.{walkFrom, operandOf, variableIn, constantIn, Sided, comparisonIn, compared, classified, fused, sizesFit, ifFits, exitLine, Exiting, whileBy, repeatBy, Shaped, Knows, SameBodies};
+use definition::MAX_NESTING;
 use opcode::CompareOp;
 use program::Cursor;
+use program::END_SIZE;
+use program::ENDS_SIZE;
+use program::PLACES_BELOW;
 use program::Walk;
 use program_line::ExprLine;
 use program_line::StmtLine;
@@ -52,6 +58,12 @@ pub enum Shape {
     Plain,
 }
 
+// Where a body ends, if that was noted.
+pub enum BodyEnd {
+    Known(Cursor),
+    Unknown,
+}
+
 fn walk_from(c: Cursor) -> Walk
     ensures { λ r. ⌜ r ≡ walkFrom c ⌝ }
 {
@@ -74,15 +86,86 @@ pub fn skip_expr(text: &[u8], variables: u16, left: usize, c: Cursor) -> Cursor
     }
 }
 
+// Where a block of n statements ends; the bodies in it are noted.
+fn skip_noting(
+    text: &[u8],
+    ends: &mut [u16],
+    variables: u16,
+    left: usize,
+    n: usize,
+    c: Cursor,
+) -> Cursor
+    requires { ⌜ Near (now text) (c .at) (c .row) ⌝ }
+    requires { ⌜ Sound (now text) variables (now ends) ⌝ }
+    ensures { λ r. ⌜ Skipped (now (text .entry)) (blockOf (λ d. stmtAt left variables (now (text .entry)) d) n (cursorOf c) .1) r ⌝ }
+    ensures { λ r. ⌜ Sound (now (text .entry)) variables (now (ends .exit)) ⌝ }
+{
+    let w = program::walk_stmts(text, ends, variables, false, left, n, walk_from(c));
+    Cursor {
+        at: w.at,
+        row: w.row,
+    }
+}
+
 // Where a block of n statements ends.
 pub fn skip_block(text: &[u8], variables: u16, left: usize, n: usize, c: Cursor) -> Cursor
     requires { ⌜ Near (now text) (c .at) (c .row) ⌝ }
     ensures { λ r. ⌜ Skipped (now (text .entry)) (blockOf (λ d. stmtAt left variables (now (text .entry)) d) n (cursorOf c) .1) r ⌝ }
 {
-    let w = program::walk_stmts(text, variables, false, left, n, walk_from(c));
-    Cursor {
-        at: w.at,
-        row: w.row,
+    let mut ends = [0u16; ENDS_SIZE];
+    skip_noting(text, &mut ends, variables, left, n, c)
+}
+
+// The end that is noted of the body of n statements at a place.
+fn known_end(ends: &[u16], left: usize, n: u16, c: Cursor) -> BodyEnd
+    requires { ⌜ length (now ends) ≡ endsSize ⌝ }
+    ensures { λ r. ⌜ Knows (now (ends .entry)) left n (cursorOf c) r ⌝ }
+{
+    if left >= MAX_NESTING {
+        return BodyEnd::Unknown;
+    }
+    let s = END_SIZE * left;
+    let at = numbers::wide(ends[s]);
+    let row = numbers::wide(ends[s + 1]);
+    if at != c.at {
+        return BodyEnd::Unknown;
+    }
+    if row != c.row {
+        return BodyEnd::Unknown;
+    }
+    if ends[s + 2] != n {
+        return BodyEnd::Unknown;
+    }
+    let end = numbers::wide(ends[s + 3]);
+    let last = numbers::wide(ends[s + 4]);
+    BodyEnd::Known(Cursor { at: end, row: last })
+}
+
+// A body is skipped from here on: what was noted before it is of no more use.
+fn start_skip(ends: &mut [u16], at: usize)
+    requires { ⌜ length (now ends) ≡ endsSize ⌝ }
+    ensures { λ r. ⌜ SameBodies (now (ends .entry)) (now (ends .exit)) ⌝ }
+{
+    if at >= PLACES_BELOW {
+        return;
+    }
+    ends[ENDS_SIZE - 1] = at as u16;
+}
+
+// Where a loop's body of n statements ends. In loops within loops an outer one's walk has mostly noted it.
+fn body_end(text: &[u8], ends: &mut [u16], variables: u16, left: usize, n: u16, c: Cursor) -> Cursor
+    requires { ⌜ Near (now text) (c .at) (c .row) ⌝ }
+    requires { ⌜ Sound (now text) variables (now ends) ⌝ }
+    ensures { λ r. ⌜ Skipped (now (text .entry)) (blockOf (λ d. stmtAt left variables (now (text .entry)) d) n (cursorOf c) .1) r ⌝ }
+    ensures { λ r. ⌜ Sound (now (text .entry)) variables (now (ends .exit)) ⌝ }
+{
+    let known = known_end(ends, left, n, c);
+    match known {
+        BodyEnd::Known(end) => end,
+        BodyEnd::Unknown => {
+            start_skip(ends, c.at);
+            skip_noting(text, ends, variables, left, n as usize, c)
+        }
     }
 }
 
@@ -283,9 +366,10 @@ fn repeat_by(e: ExitIf) -> Shape
 }
 
 // The shape of loop i, whose body of n and whose `continuing` of m statements stand from `c` on. A REPEAT is seen behind its body, which is
-// skipped for that.
+// skipped for that unless its end is noted in `ends`; what is skipped is noted there.
 pub fn loop_shape(
     text: &[u8],
+    ends: &mut [u16],
     variables: u16,
     left: usize,
     c: Cursor,
@@ -294,13 +378,15 @@ pub fn loop_shape(
     m: u16,
 ) -> Shape
     requires { ⌜ Near (now text) (c .at) (c .row) ⌝ }
+    requires { ⌜ Sound (now text) variables (now ends) ⌝ }
     ensures { λ r. ⌜ Shaped i n m left variables (now (text .entry)) (cursorOf c) r ⌝ }
+    ensures { λ r. ⌜ Sound (now (text .entry)) variables (now (ends .exit)) ⌝ }
 {
     if m > 1 {
         return Shape::Plain;
     }
     if m == 1 {
-        let p = skip_block(text, variables, left, n as usize, c);
+        let p = body_end(text, ends, variables, left, n, c);
         return repeat_by(exit_at(text, variables, left, p, i, true));
     }
     if n == 0 {

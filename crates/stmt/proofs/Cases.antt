@@ -5,7 +5,6 @@ use mathlib.Core.List.{List, [], _∷_}
 use Prim.Native.Nat.{ℕ, zero, suc, _+_, _-_, _≤_, _<_}
 use native.Mathlib.Numerals.{sub-one}
 use native.Mathlib.Omega.{arith}
-use lib.ListN.{length}
 use Rattle.definition.specs.Opcode.{Sheet, CompareOp, Eq, Ge, Le, dup, pop}
 use Rattle.definition.specs.Opcode as role
 use Rattle.definition.specs.Tree.{CaseLabel, value, range, badLabel, Block, Arms, noArms, arm, badArm, Pos}
@@ -28,9 +27,10 @@ use Rattle.expr.proofs.Laws.{went, place, filled}
 use Rattle.stmt_parts.specs.declared.Context.{Context}
 use Rattle.stmt_parts.specs.declared.labels.ArmParts.{ArmParts}
 use Rattle.stmt_parts.specs.Context.{exprIn, blockIn, innerOf}
-use Rattle.stmt_parts.specs.Loops.{loopsSize, opensIn, loopsOf, marked}
+use Rattle.stmt_parts.specs.Loops.{opensIn, loopsOf, marked}
 use Rattle.stmt_parts.specs.Parts.{Leads, armParts, labelHere, testJump, testAll, armTests, armEnd}
 use Rattle.stmt.specs.Blocks.{armContinues, armsHere, emitCase}
+use Rattle.stmt.specs.Lent.{Lent}
 use Rattle.stmt.specs.Ran.{Ran, RanStmt, RanBlock, RanArm, RanArms, RanCase}
 use Rattle.stmt_parts.proofs.Marks.{marked-same, marked-off, marked-then, loops-marked}
 use Rattle.stmt_parts.proofs.Walks.{bare-on, booked-on, created-on, coded-on}
@@ -50,7 +50,7 @@ module _ (ctx : Context) (text : List ℕ) (c : def.Cursor) (end : ℕ) where
   arm-continues (suc n) i b z = refl
 
 module _ (s : Sheet) (ctx : Context) (text : List ℕ) (n m end : ℕ) (c : Cursor) where
-  pub arm-none : {w : World} {ls : List ℕ} {there : Cursor} → length ls ≡ loopsSize → n ≡ 0 → Ready w → Skipped text (blockIn ctx text m (cursorOf c) .1) there → RanArm s ctx text n m end (cursorOf c) w w ls ls there
+  pub arm-none : {w : World} {ls : List ℕ} {there : Cursor} → Lent text (ctx .variables) ls → n ≡ 0 → Ready w → Skipped text (blockIn ctx text m (cursorOf c) .1) there → RanArm s ctx text n m end (cursorOf c) w w ls ls there
   unfolding labelsAt emitArm armContinues
   arm-none {w} slots e ready on = rw e (record { place = on; filled = none-filled s w ready; slots = slots; marks = sym (marked-off (λ i. false) _ (λ i. refl)) })
 
@@ -113,12 +113,12 @@ module _ (s : Sheet) (ctx : Context) (text : List ℕ) (end : ℕ) where
     pub did : (u : World) → Filled (run s (emitArms (armsHere ctx text more (cursorOf here) .0) end (loopsOf (opensIn ls₀ (ctx .inside))))) w u → Filled (run s (emitArms (armsHere ctx text n c .0) end (loopsOf (opensIn ls₀ (ctx .inside))))) w₀ u
     pub marks : marked (λ i. continuesArms i (armsHere ctx text more (cursorOf here) .0)) (opensIn ls (ctx .inside)) ≡ marked (λ i. continuesArms i (armsHere ctx text n c .0)) (opensIn ls₀ (ctx .inside))
     pub loops : loopsOf (opensIn ls (ctx .inside)) ≡ loopsOf (opensIn ls₀ (ctx .inside))
-    pub slots : length ls ≡ loopsSize
+    pub slots : Lent text (ctx .variables) ls
     pub end-is : armsHere ctx text more (cursorOf here) .1 ≡ armsHere ctx text n c .1
     pub near : Near text (here .at) (here .row)
     pub ready : Ready w
 
-  pub arms-begin : (n : ℕ) (c : Cursor) (w : World) (ls : List ℕ) → length ls ≡ loopsSize → Near text (c .at) (c .row) → Ready w → Arming n (cursorOf c) w ls w ls n c
+  pub arms-begin : (n : ℕ) (c : Cursor) (w : World) (ls : List ℕ) → Lent text (ctx .variables) ls → Near text (c .at) (c .row) → Ready w → Arming n (cursorOf c) w ls w ls n c
   arms-begin n c w ls slots near ready = record { did = λ u d. d; marks = refl; loops = refl; slots = slots; end-is = refl; near = near; ready = ready }
 
 module _ {s : Sheet} {ctx : Context} {text : List ℕ} {end n : ℕ} {c : def.Cursor} {w₀ w : World} {ls₀ ls : List ℕ} {more : ℕ} {here : Cursor} (a : Arming s ctx text end n c w₀ ls₀ w ls more here) where

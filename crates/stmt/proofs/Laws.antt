@@ -6,7 +6,6 @@ use mathlib.Core.List.{List, [], _∷_}
 use Prim.Native.Nat.{ℕ, zero, suc, _+_, _-_, _≤_, _<_}
 use native.Mathlib.Numerals.{sub-one}
 use native.Mathlib.Omega.{arith}
-use lib.ListN.{length}
 use Rattle.definition.specs.Opcode.{Sheet, CompareOp, Add}
 use Rattle.definition.specs.Opcode as role
 use Rattle.definition.specs.Tree.{Expr, Block, done, _then_, Pos}
@@ -27,9 +26,10 @@ use Rattle.expr.specs.Went.{Went, WentExpr}
 use Rattle.expr.proofs.Laws.{went, place, filled}
 use Rattle.stmt_parts.specs.declared.Context.{Context}
 use Rattle.stmt_parts.specs.Context.{exprIn, stmtIn, blockIn, innerOf}
-use Rattle.stmt_parts.specs.Loops.{loopsSize, opensIn, loopsOf, marked}
+use Rattle.stmt_parts.specs.Loops.{opensIn, loopsOf, marked}
 use Rattle.stmt.specs.Blocks.{Placed, emitSequence, emitIf, loopCalls}
 use Rattle.stmt_parts.specs.Parts.{forEnd}
+use Rattle.stmt.specs.Lent.{Lent}
 use Rattle.stmt.specs.Ran.{Ran, RanSequence, RanBlock, RanStmt, RanIf, RanElse, RanFor, RanLoop, RanBody}
 use Rattle.stmt_parts.proofs.Marks.{marked-off, marked-then, loops-marked}
 use Rattle.stmt_parts.proofs.Walks.{booked-on, created-on, coded-on}
@@ -43,12 +43,12 @@ module _ (s : Sheet) (ctx : Context) (text : List ℕ) (b : Bool) where
     pub did : (u : World) → Filled (run s (emitSequence b (blockIn ctx text more (cursorOf here) .0) (loopsOf (opensIn ls₀ (ctx .inside))))) w u → Filled (run s (emitSequence b (blockIn ctx text n c .0) (loopsOf (opensIn ls₀ (ctx .inside))))) w₀ u
     pub marks : marked (λ i. continues i (blockIn ctx text more (cursorOf here) .0)) (opensIn ls (ctx .inside)) ≡ marked (λ i. continues i (blockIn ctx text n c .0)) (opensIn ls₀ (ctx .inside))
     pub loops : loopsOf (opensIn ls (ctx .inside)) ≡ loopsOf (opensIn ls₀ (ctx .inside))
-    pub slots : length ls ≡ loopsSize
+    pub slots : Lent text (ctx .variables) ls
     pub end : blockIn ctx text more (cursorOf here) .1 ≡ blockIn ctx text n c .1
     pub near : Near text (here .at) (here .row)
     pub ready : Ready w
 
-  pub begins : (n : ℕ) (c : Cursor) (w : World) (ls : List ℕ) → length ls ≡ loopsSize → Near text (c .at) (c .row) → Ready w → Doing n (cursorOf c) w ls w ls n c
+  pub begins : (n : ℕ) (c : Cursor) (w : World) (ls : List ℕ) → Lent text (ctx .variables) ls → Near text (c .at) (c .row) → Ready w → Doing n (cursorOf c) w ls w ls n c
   begins n c w ls slots near ready = record { did = λ u d. d; marks = refl; loops = refl; slots = slots; end = refl; near = near; ready = ready }
 
 block-more : (ctx : Context) (text : List ℕ) (more : ℕ) (c : def.Cursor) → 0 < more
@@ -115,7 +115,7 @@ done-not ctx text zero c h = absurd (h refl)
 done-not ctx text (suc n) c h = refl
 
 module _ (s : Sheet) (ctx : Context) (text : List ℕ) (m : ℕ) (c : Cursor) (l : ℕ) where
-  pub else-none : {e r : Emitter} {code book pool book′ ls : List ℕ} → length ls ≡ loopsSize → Near text (c .at) (c .row) → Ready (world e code book pool) → m ≡ 0 → Booked (bindLabel l) e book r book′
+  pub else-none : {e r : Emitter} {code book pool book′ ls : List ℕ} → Lent text (ctx .variables) ls → Near text (c .at) (c .row) → Ready (world e code book pool) → m ≡ 0 → Booked (bindLabel l) e book r book′
       → RanElse s ctx text m l (cursorOf c) (world e code book pool) (world r code book′ pool) ls ls c
   unfolding isDone elsePart continues
   else-none {ls = ls} slots near ready z d = rw (done-none ctx text m (cursorOf c) z) (quiet (λ i. false) (ctx .inside) ls slots (λ i. refl) (record { is = refl; near = near }) (said-filled s _ (booked-on ready s d)))

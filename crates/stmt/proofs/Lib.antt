@@ -4,3 +4,4 @@ pub mod Looping
 pub mod Shapes
 pub mod Simple
 pub mod Walks
+pub mod Behind

@@ -7,7 +7,6 @@ use mathlib.Core.List.{List, [], _∷_}
 use Prim.Native.Nat.{ℕ, zero, suc, _+_, _-_, _≤_, _<_}
 use native.Mathlib.Numerals.{add-one}
 use native.Mathlib.Omega.{arith}
-use lib.ListN.{length}
 use lib.Dec.{eqb}
 use Rattle.definition.specs.Limits.{maxConstants}
 use Rattle.definition.specs.Opcode.{Sheet}
@@ -33,9 +32,10 @@ use Rattle.expr.specs.Went.{Went}
 use Rattle.expr.proofs.Laws.{filled}
 use Rattle.stmt_parts.specs.declared.Context.{Context}
 use Rattle.stmt_parts.specs.Context.{exprIn, stmtIn, blockIn, innerOf, inLoop}
-use Rattle.stmt_parts.specs.Loops.{Open, openAt, opensIn, loopsOf, marked, Opened}
+use Rattle.stmt_parts.specs.Loops.{Open, openAt, opensIn, loopsOf, marked}
 use Rattle.stmt.specs.Blocks.{loopCalls}
 use Rattle.stmt_parts.specs.Parts.{Enters, PoolsFirst, BindsNext, whileFrom, whileEnd, poolFirst}
+use Rattle.stmt.specs.Lent.{Opens}
 use Rattle.stmt.specs.Ran.{Ran, RanBlock, RanBody, RanPlain, RanWhile, RanRepeat, RanLoop}
 use Rattle.stmt_parts.proofs.Marks.{or-false, marked-same, marked-then, loops-marked}
 use Rattle.stmt.proofs.Shapes.{while-shape, while-exits, unless-quiet, repeat-quiet}
@@ -65,7 +65,7 @@ module _ (i end next : ℕ) (used : ℕ → Bool) (ls ls₁ ls₂ : List ℕ) (i
   outer-marks = tail-of after-body
 
 module _ (s : Sheet) (ctx : Context) (text : List ℕ) (i end n : ℕ) (c : Cursor) {k : Context} (deep : k ≡ inLoop ctx) where
-  pub body-done : {e e₁ r : Emitter} {code book pool b₁ ls ls₁ ls₂ book′ : List ℕ} {next : ℕ} {used : Bool} {w₂ : World} {c₁ : Cursor} → Ready (world e code book pool) → Created e book e₁ b₁ next → Opened (ctx .inside) i end next ls ls₁
+  pub body-done : {e e₁ r : Emitter} {code book pool b₁ ls ls₁ ls₂ book′ : List ℕ} {next : ℕ} {used : Bool} {w₂ : World} {c₁ : Cursor} → Ready (world e code book pool) → Created e book e₁ b₁ next → Opens (ctx .inside) i end next ls ls₁
       → RanBlock s k text n (cursorOf c) (world e₁ code b₁ pool) w₂ ls₁ ls₂ c₁
       → used ≡ openAt ls₂ (ctx .inside) .used
       → BindsNext used next (w₂ .e) (w₂ .book) r book′
@@ -178,9 +178,9 @@ module _ (s : Sheet) (ctx : Context) (text : List ℕ) (i n : ℕ) (q : Cursor) 
 
 -- ---- a loop by its shape
 
-while-calls : {s : Sheet} (i : ℕ) (first : Stmt) (rest : Block) (x : Expr) {inside : ℕ} {text : List ℕ} {d : def.Cursor} {w u : World} {ls ls′ : List ℕ} {p : Cursor} → while x ≡ shape i (first then rest) done
-    → Ran s (emitWhile i x (continues i rest) (λ o. emitBlock rest o)) (λ j. bool.not (eqb j i) && continues j rest) inside text d w u ls ls′ p
-    → Ran s (loopCalls i (first then rest) done) (λ j. (bool.not (eqb j i) && continues j (first then rest)) || continues j done) inside text d w u ls ls′ p
+while-calls : {s : Sheet} (i : ℕ) (first : Stmt) (rest : Block) (x : Expr) {inside vars : ℕ} {text : List ℕ} {d : def.Cursor} {w u : World} {ls ls′ : List ℕ} {p : Cursor} → while x ≡ shape i (first then rest) done
+    → Ran s (emitWhile i x (continues i rest) (λ o. emitBlock rest o)) (λ j. bool.not (eqb j i) && continues j rest) inside vars text d w u ls ls′ p
+    → Ran s (loopCalls i (first then rest) done) (λ j. (bool.not (eqb j i) && continues j (first then rest)) || continues j done) inside vars text d w u ls ls′ p
 unfolding loopCalls emitLoop emitRest continues
 while-calls i first rest x e r = record {
   place = r .place;
@@ -200,11 +200,11 @@ module _ (s : Sheet) (ctx : Context) (text : List ℕ) (i : ℕ) (c q : Cursor) 
   loop-while n (suc m) is-k e on r = absurd (let h = while-shape i _ _ _ e .none in let q : _≡_ {A = ℕ} 0 1 = cc in omega arith)
   loop-while (suc n) zero {k} is-k e on r = while-calls i _ _ _ e (let z : k ≡ n = omega arith in rw (z, on .is) at r)
 
-loop-repeat : (s : Sheet) (inside : ℕ) (text : List ℕ) (i : ℕ) (b d : Block) {x : Expr} {end : def.Cursor} {last p : Cursor} {w u : World} {ls ls′ : List ℕ} → repeat x ≡ shape i b d → Skipped text end last
-    → Ran s (emitRepeat i x (continues i b) (λ o. emitBlock b o)) (λ j. bool.not (eqb j i) && continues j b) inside text (cursorOf last) w u ls ls′ p
-    → Ran s (loopCalls i b d) (λ j. (bool.not (eqb j i) && continues j b) || continues j d) inside text end w u ls ls′ p
+loop-repeat : (s : Sheet) (inside vars : ℕ) (text : List ℕ) (i : ℕ) (b d : Block) {x : Expr} {end : def.Cursor} {last p : Cursor} {w u : World} {ls ls′ : List ℕ} → repeat x ≡ shape i b d → Skipped text end last
+    → Ran s (emitRepeat i x (continues i b) (λ o. emitBlock b o)) (λ j. bool.not (eqb j i) && continues j b) inside vars text (cursorOf last) w u ls ls′ p
+    → Ran s (loopCalls i b d) (λ j. (bool.not (eqb j i) && continues j b) || continues j d) inside vars text end w u ls ls′ p
 unfolding loopCalls emitLoop
-loop-repeat s inside text i b d {x} e on r = record {
+loop-repeat s inside vars text i b d {x} e on r = record {
   place = record { is = r .place .is ∙ on .is; near = r .place .near };
   slots = r .slots;
   marks = r .marks ∙ marked-same _ _ _ (λ j. rw (repeat-quiet i j b d x e) (sym (or-false _)));
@@ -225,7 +225,7 @@ module _ (s : Sheet) (ctx : Context) (text : List ℕ) (i n m : ℕ) {d : def.Cu
   is-while {q} e is-k f = rw (← on .is) (loop-while s ctx text i c q n m is-k (rw e at (seen .condition)) (while-places seen e .1) f)
 
   pub is-repeat : {q last : Cursor} → r ≡ loop-shape.Repeat q last → RanRepeat s ctx text i n (cursorOf q) (cursorOf c) (cursorOf last) w u ls ls′ p → RanLoop s ctx text i n m d w u ls ls′ p
-  is-repeat e f = rw (← on .is) (loop-repeat s (ctx .inside) text i _ _ (rw e at (seen .condition)) (repeat-places seen e .1) f)
+  is-repeat e f = rw (← on .is) (loop-repeat s (ctx .inside) (ctx .variables) text i _ _ (rw e at (seen .condition)) (repeat-places seen e .1) f)
 
   pub is-plain : r ≡ loop-shape.Plain → RanPlain s ctx text i n m (cursorOf c) w u ls ls′ p → RanLoop s ctx text i n m d w u ls ls′ p
   unfolding loopCalls emitLoop

@@ -4,7 +4,6 @@ use mathlib.Core.Bool.{Bool, true, false}
 use mathlib.Core.Option.{Option, some, none}
 use mathlib.Core.List.{List}
 use Prim.Native.Nat.{ℕ}
-use lib.ListN.{length}
 use Rattle.definition.specs.Opcode.{Sheet, ret}
 use Rattle.definition.specs.Tree.{Source, Expr, Pos}
 use Rattle.definition.specs.Program as def
@@ -25,13 +24,15 @@ use Rattle.expr.specs.Went.{Went}
 use Rattle.expr.proofs.Laws.{went, place, filled}
 use Rattle.stmt_parts.specs.declared.Context.{Context}
 use Rattle.stmt_parts.specs.Context.{exprIn, stmtIn, innerOf}
-use Rattle.stmt_parts.specs.Loops.{loopsSize, opensIn, loopsOf}
-use Rattle.stmt_parts.specs.Parts.{jumpRow, Stepped, Continued}
+use Rattle.stmt_parts.specs.Loops.{opensIn, loopsOf}
+use Rattle.stmt_parts.specs.Parts.{jumpRow, Stepped}
 use Rattle.stmt_parts.proofs.Marks.{marked-off}
 use Rattle.stmt_parts.proofs.Walks.{bare-on, coded-on}
 use Rattle.stmt_parts.proofs.Jumps.{coded-run}
 use Rattle.stmt.specs.Blocks.{recordedBy, lineSource, Placed, emitAssign}
+use Rattle.stmt.specs.Lent.{Lent, Continues}
 use Rattle.stmt.specs.Ran.{Ran, RanStmt}
+use Rattle.stmt.proofs.Behind.{lent-behind}
 
 -- ---- positions
 
@@ -63,7 +64,7 @@ source-here (not n) ctx text c e = rw (stmt-bad (ctx .left) (ctx .variables) tex
 -- ---- statements without blocks
 
 -- what leaves the open loops alone
-pub quiet : {s : Sheet} {m : Calls} {text : List ℕ} {d : def.Cursor} {w v : World} {c : Cursor} (used : ℕ → Bool) (inside : ℕ) (ls : List ℕ) → length ls ≡ loopsSize → ((i : ℕ) → used i ≡ false) → Skipped text d c → Filled (run s m) w v → Ran s (λ loops. m) used inside text d w v ls ls c
+pub quiet : {s : Sheet} {m : Calls} {text : List ℕ} {d : def.Cursor} {w v : World} {c : Cursor} (used : ℕ → Bool) (inside : ℕ) {vars : ℕ} (ls : List ℕ) → Lent text vars ls → ((i : ℕ) → used i ≡ false) → Skipped text d c → Filled (run s m) w v → Ran s (λ loops. m) used inside vars text d w v ls ls c
 quiet used inside ls slots off a f = record { place = a; filled = f; slots = slots; marks = sym (marked-off used _ off) }
 
 pub assigned : (s : Sheet) (v : ℕ) (x : Expr) (text : List ℕ) {d : def.Cursor} {c : Cursor} {w u : World} {r : Emitter} {code′ book′ : List ℕ} → Went s (emitExpr x 0) text d w u c → Coded (act s (storeVariable v)) (u .e) (u .code) (u .book) r code′ book′
@@ -84,28 +85,28 @@ module _ (s : Sheet) (ctx : Context) (text : List ℕ) (c : Cursor) where
   abbrev pub Reads : StmtLine → Type 0
   Reads l = lineAt (stmtForms (ctx .variables)) (ctx .left) text (c .at) ≡ is l
 
-  pub ran-bad : (n : ℕ) {e r : Emitter} {code book pool ls : List ℕ} → length ls ≡ loopsSize → Near text (c .at) (c .row) → Ready (world e code book pool) → lineAt (stmtForms (ctx .variables)) (ctx .left) text (c .at) ≡ not n
+  pub ran-bad : (n : ℕ) {e r : Emitter} {code book pool ls : List ℕ} → Lent text (ctx .variables) ls → Near text (c .at) (c .row) → Ready (world e code book pool) → lineAt (stmtForms (ctx .variables)) (ctx .left) text (c .at) ≡ not n
       → Bare (refused (record { number = n; place = c .row })) e r → RanStmt s ctx text (cursorOf c) (world e code book pool) (world r code book pool) ls ls c
   unfolding emitStmt continuesStmt faultAt
   ran-bad n {ls = ls} slots near ready line d = rw (stmt-bad (ctx .left) (ctx .variables) text (cursorOf c) n line) (quiet (λ i. false) (ctx .inside) ls slots (λ i. refl) (record { is = refl; near = near }) (said-filled s _ (bare-on ready s d)))
 
-  pub ran-assign : {k : Context} → k ≡ innerOf ctx → (p : Pos) (i : ℕ) {w u : World} {ls : List ℕ} {d : Cursor} → length ls ≡ loopsSize → Reads (A p i)
+  pub ran-assign : {k : Context} → k ≡ innerOf ctx → (p : Pos) (i : ℕ) {w u : World} {ls : List ℕ} {d : Cursor} → Lent text (ctx .variables) ls → Reads (A p i)
       → Went s (emitAssign i (exprIn k text (nextLine text (cursorOf c)) .0)) text (exprIn k text (nextLine text (cursorOf c)) .1) w u d → RanStmt s ctx text (cursorOf c) w u ls ls d
   unfolding stmtOf emitStmt continuesStmt emitAssign
   ran-assign {k} deep p i {ls = ls} slots line a′ = let a = rw deep at a′ in rw (stmt-is (ctx .left) (ctx .variables) text (cursorOf c) (A p i) line) (quiet (λ i. false) (ctx .inside) ls slots (λ i. refl) (place a) (filled a))
 
   module _ {e : Emitter} {code book pool : List ℕ} (ready : Ready (world e code book pool)) {r : Walked} {code′ book′ ls : List ℕ} where
-    pub ran-return : (p : Pos) → length ls ≡ loopsSize → Reads (R p) → Stepped s (say (emitOpcode ret)) text (nextLine text (cursorOf c)) e code book r code′ book′
+    pub ran-return : (p : Pos) → Lent text (ctx .variables) ls → Reads (R p) → Stepped s (say (emitOpcode ret)) text (nextLine text (cursorOf c)) e code book r code′ book′
         → RanStmt s ctx text (cursorOf c) (world e code book pool) (world (r .emitter) code′ book′ pool) ls ls (r .cursor)
     unfolding stmtOf emitStmt continuesStmt
     ran-return p slots line k = rw (stmt-is (ctx .left) (ctx .variables) text (cursorOf c) (R p) line) (quiet (λ i. false) (ctx .inside) ls slots (λ i. refl) (k .place) (coded-on ready (k .coded)))
 
-    pub ran-exit : {k : Context} → k ≡ innerOf ctx → (p : Pos) (i : ℕ) → length ls ≡ loopsSize → Reads (X p i) → Stepped s (jumpRow (c .row) (exitOf (labels i (loopsOf (opensIn ls (k .inside)))))) text (nextLine text (cursorOf c)) e code book r code′ book′
+    pub ran-exit : {k : Context} → k ≡ innerOf ctx → (p : Pos) (i : ℕ) → Lent text (ctx .variables) ls → Reads (X p i) → Stepped s (jumpRow (c .row) (exitOf (labels i (loopsOf (opensIn ls (k .inside)))))) text (nextLine text (cursorOf c)) e code book r code′ book′
         → RanStmt s ctx text (cursorOf c) (world e code book pool) (world (r .emitter) code′ book′ pool) ls ls (r .cursor)
     unfolding stmtOf emitStmt continuesStmt
     ran-exit deep p i slots line k′ = let k = rw deep at k′ in rw (stmt-is (ctx .left) (ctx .variables) text (cursorOf c) (X p i) line) (record { place = k .place; filled = rw jump-row (coded-on ready (k .coded)); slots = slots; marks = sym (marked-off (λ i. false) _ (λ i. refl)) })
 
-    pub ran-continue : {ls′ : List ℕ} {k : Context} → k ≡ innerOf ctx → (p : Pos) (i : ℕ) → Reads (N p i) → Continued s (k .inside) i text (cursorOf c) e code book ls r code′ book′ ls′
+    pub ran-continue : {ls′ : List ℕ} {k : Context} → k ≡ innerOf ctx → (p : Pos) (i : ℕ) → Lent text (ctx .variables) ls → Reads (N p i) → Continues s (k .inside) i text (cursorOf c) e code book ls r code′ book′ ls′
         → RanStmt s ctx text (cursorOf c) (world e code book pool) (world (r .emitter) code′ book′ pool) ls ls′ (r .cursor)
     unfolding stmtOf emitStmt continuesStmt
-    ran-continue deep p i line k′ = let k = rw deep at k′ in rw (stmt-is (ctx .left) (ctx .variables) text (cursorOf c) (N p i) line) (record { place = k .stepped .place; filled = rw jump-row (coded-on ready (k .stepped .coded)); slots = k .slots; marks = k .marks })
+    ran-continue deep p i slots line k′ = let k = rw deep at k′ in rw (stmt-is (ctx .left) (ctx .variables) text (cursorOf c) (N p i) line) (record { place = k .stepped .place; filled = rw jump-row (coded-on ready (k .stepped .coded)); slots = lent-behind slots (k .behind); marks = k .marks })

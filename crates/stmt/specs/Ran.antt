@@ -4,7 +4,6 @@ use mathlib.Core.Path.{_≡_}
 use mathlib.Core.Bool.{Bool, not, _&&_, _||_}
 use mathlib.Core.List.{List}
 use Prim.Native.Nat.{ℕ, _-_}
-use lib.ListN.{length}
 use lib.Dec.{eqb}
 use Rattle.definition.specs.Opcode.{Sheet}
 use Rattle.definition.specs.Tree.{Expr, Block, Arms, CaseLabel}
@@ -18,14 +17,15 @@ use Rattle.emit.specs.View.{World}
 use Rattle.emit.specs.Steps.{run, Filled}
 use Rattle.stmt_parts.specs.declared.Context.{Context}
 use Rattle.stmt_parts.specs.Context.{exprIn, stmtIn, blockIn, innerOf}
-use Rattle.stmt_parts.specs.Loops.{loopsSize, opensIn, loopsOf, marked}
+use Rattle.stmt_parts.specs.Loops.{opensIn, loopsOf, marked}
+use Rattle.stmt.specs.Lent.{Lent}
 use Rattle.stmt.specs.Blocks.{emitSequence, emitIf, loopCalls, emitCase, armsHere, armContinues}
 
--- m was emitted inside so many open loops, and the walk stands at d; the CONTINUEs that `used` says have led to their loops
-pub record Ran (s : Sheet) (m : Loops → Calls) (used : ℕ → Bool) (inside : ℕ) (text : List ℕ) (d : def.Cursor) (w v : World) (ls ls′ : List ℕ) (c : Cursor) : Type 0 where
+-- m was emitted inside so many open loops of a program of `vars` variables, and the walk stands at d; the CONTINUEs that `used` says have led to their loops
+pub record Ran (s : Sheet) (m : Loops → Calls) (used : ℕ → Bool) (inside vars : ℕ) (text : List ℕ) (d : def.Cursor) (w v : World) (ls ls′ : List ℕ) (c : Cursor) : Type 0 where
   pub place : Skipped text d c
   pub filled : Filled (run s (m (loopsOf (opensIn ls inside)))) w v
-  pub slots : length ls′ ≡ loopsSize
+  pub slots : Lent text vars ls′
   pub marks : opensIn ls′ inside ≡ marked used (opensIn ls inside)
 
 -- what a part is said to have done: from and to an emitter with what is lent to it, the open loops before and after, and the place behind it
@@ -34,7 +34,7 @@ Done = World → World → List ℕ → List ℕ → Cursor → Type 0
 
 -- a part that CONTINUE goes out of by `used`
 abbrev pub Part : Sheet → Context → List ℕ → def.Cursor → (Loops → Calls) → (ℕ → Bool) → Done
-Part s ctx text d m used w v ls ls′ c = Ran s m used (ctx .inside) text d w v ls ls′ c
+Part s ctx text d m used w v ls ls′ c = Ran s m used (ctx .inside) (ctx .variables) text d w v ls ls′ c
 
 module _ (s : Sheet) (ctx : Context) (text : List ℕ) where
   -- n statements from c on

@@ -17,9 +17,9 @@ ghost use Rattle.emit.specs.View.{world};
 ghost use Rattle.emit.specs.Steps.{Ready, Fine};
 ghost use Rattle.expr.specs.Went.{Went};
 ghost use Rattle.stmt_parts.specs.Context.{exprIn};
-ghost use Rattle.stmt_parts.specs.Loops.{loopsSize};
 ghost use Rattle.stmt_parts.specs.Parts.{Stepped};
 ghost use Rattle.stmt.specs.Blocks.{Placed, emitAssign};
+ghost use Rattle.stmt.specs.Lent.{Lent};
 ghost use Rattle.stmt.specs.Ran.{RanSequence, RanStmt, RanIf, RanElse, RanCase, RanArms, RanArm, RanFor, RanLoop, RanPlain, RanWhile, RanRepeat, RanBody};
 use definition::MAX_NESTING;
 use emit::Constant;
@@ -35,6 +35,8 @@ use stmt_parts::conditions;
 use stmt_parts::labels;
 use stmt_parts::labels::ArmParts;
 use stmt_parts::loops;
+
+mod lent; // lent.rt: the open loops, and the ends of bodies that are noted
 
 // The position of a statement's line, unless the line is at fault or positions are not recorded.
 fn record_position(e: Emitter, line: StmtLine, recording: bool) -> Emitter
@@ -71,7 +73,7 @@ fn sequence(
     e: Emitter,
     c: Cursor,
 ) -> Walked
-    requires { ⌜ length (now loops) ≡ loopsSize ⌝ }
+    requires { ⌜ Lent (now text) (ctx .variables) (now loops) ⌝ }
     requires { ⌜ Near (now text) (c .at) (c .row) ⌝ }
     requires { ⌜ Ready (world e (now code) (now book) (now pool)) ⌝ }
     requires { ⌜ ctx .inside + ctx .left ≤ maxNesting ⌝ }
@@ -110,7 +112,7 @@ fn stmt(
     e: Emitter,
     c: Cursor,
 ) -> Walked
-    requires { ⌜ length (now loops) ≡ loopsSize ⌝ }
+    requires { ⌜ Lent (now text) (ctx .variables) (now loops) ⌝ }
     requires { ⌜ Near (now text) (c .at) (c .row) ⌝ }
     requires { ⌜ Ready (world e (now code) (now book) (now pool)) ⌝ }
     requires { ⌜ ctx .inside + ctx .left ≤ maxNesting ⌝ }
@@ -146,10 +148,10 @@ fn stmt(
             ..
         } => loop_(text, sheet, code, book, pool, loops, ctx, i, n, m, e, c),
         StmtLine::Exit { loop_number: i, .. } => {
-            loops::exit(text, sheet, code, book, loops, ctx.inside, i, e, c)
+            lent::exit(text, sheet, code, book, loops, ctx.inside, i, e, c)
         }
         StmtLine::Continue { loop_number: i, .. } => {
-            loops::continue_(text, sheet, code, book, loops, ctx.inside, i, e, c)
+            lent::continue_(text, sheet, code, book, loops, ctx.inside, i, e, c)
         }
         StmtLine::Return { .. } => return_(text, sheet, code, book, e, c),
         StmtLine::Bad(n) => Walked {
@@ -222,7 +224,7 @@ fn if_(
     e: Emitter,
     c: Cursor,
 ) -> Walked
-    requires { ⌜ length (now loops) ≡ loopsSize ⌝ }
+    requires { ⌜ Lent (now text) (ctx .variables) (now loops) ⌝ }
     requires { ⌜ Near (now text) (c .at) (c .row) ⌝ }
     requires { ⌜ Ready (world e (now code) (now book) (now pool)) ⌝ }
     requires { ⌜ ctx .inside + 1 + ctx .left ≤ maxNesting ⌝ }
@@ -258,7 +260,7 @@ fn else_(
     c: Cursor,
     next: Label,
 ) -> Walked
-    requires { ⌜ length (now loops) ≡ loopsSize ⌝ }
+    requires { ⌜ Lent (now text) (ctx .variables) (now loops) ⌝ }
     requires { ⌜ Near (now text) (c .at) (c .row) ⌝ }
     requires { ⌜ Ready (world e (now code) (now book) (now pool)) ⌝ }
     requires { ⌜ ctx .inside + 1 + ctx .left ≤ maxNesting ⌝ }
@@ -294,7 +296,7 @@ fn case(
     e: Emitter,
     c: Cursor,
 ) -> Walked
-    requires { ⌜ length (now loops) ≡ loopsSize ⌝ }
+    requires { ⌜ Lent (now text) (ctx .variables) (now loops) ⌝ }
     requires { ⌜ Near (now text) (c .at) (c .row) ⌝ }
     requires { ⌜ Ready (world e (now code) (now book) (now pool)) ⌝ }
     requires { ⌜ ctx .inside + 1 + ctx .left ≤ maxNesting ⌝ }
@@ -337,7 +339,7 @@ fn arms(
     c: Cursor,
     end: Label,
 ) -> Walked
-    requires { ⌜ length (now loops) ≡ loopsSize ⌝ }
+    requires { ⌜ Lent (now text) (ctx .variables) (now loops) ⌝ }
     requires { ⌜ Near (now text) (c .at) (c .row) ⌝ }
     requires { ⌜ Ready (world e (now code) (now book) (now pool)) ⌝ }
     requires { ⌜ ctx .inside + 1 + ctx .left ≤ maxNesting ⌝ }
@@ -384,7 +386,7 @@ fn arm(
     c: Cursor,
     end: Label,
 ) -> Walked
-    requires { ⌜ length (now loops) ≡ loopsSize ⌝ }
+    requires { ⌜ Lent (now text) (ctx .variables) (now loops) ⌝ }
     requires { ⌜ Near (now text) (c .at) (c .row) ⌝ }
     requires { ⌜ Ready (world e (now code) (now book) (now pool)) ⌝ }
     requires { ⌜ ctx .inside + 1 + ctx .left ≤ maxNesting ⌝ }
@@ -427,7 +429,7 @@ fn for_(
     e: Emitter,
     c: Cursor,
 ) -> Walked
-    requires { ⌜ length (now loops) ≡ loopsSize ⌝ }
+    requires { ⌜ Lent (now text) (ctx .variables) (now loops) ⌝ }
     requires { ⌜ Near (now text) (c .at) (c .row) ⌝ }
     requires { ⌜ Ready (world e (now code) (now book) (now pool)) ⌝ }
     requires { ⌜ ctx .inside + 1 + ctx .left ≤ maxNesting ⌝ }
@@ -488,7 +490,7 @@ fn loop_(
     e: Emitter,
     c: Cursor,
 ) -> Walked
-    requires { ⌜ length (now loops) ≡ loopsSize ⌝ }
+    requires { ⌜ Lent (now text) (ctx .variables) (now loops) ⌝ }
     requires { ⌜ Near (now text) (c .at) (c .row) ⌝ }
     requires { ⌜ Ready (world e (now code) (now book) (now pool)) ⌝ }
     requires { ⌜ ctx .inside + 1 + ctx .left ≤ maxNesting ⌝ }
@@ -496,7 +498,7 @@ fn loop_(
     ensures { λ r. ⌜ RanLoop (sheetIn (now (sheet .entry))) ctx (now (text .entry)) i n m (nextLine (now (text .entry)) (cursorOf c)) (world e (now (code .entry)) (now (book .entry)) (now (pool .entry))) (world (r .emitter) (now (code .exit)) (now (book .exit)) (now (pool .exit))) (now (loops .entry)) (now (loops .exit)) (r .cursor) ⌝ }
 {
     let on = program::next_line(text, c);
-    let shape = program_shape::loop_shape(text, ctx.variables, ctx.left, on, i, n, m);
+    let shape = lent::loop_shape(text, loops, ctx, on, i, n, m);
     match shape {
         Shape::While { condition, rest } => {
             let k = stmt_parts::below(n as usize);
@@ -552,7 +554,7 @@ fn plain(
     e: Emitter,
     c: Cursor,
 ) -> Walked
-    requires { ⌜ length (now loops) ≡ loopsSize ⌝ }
+    requires { ⌜ Lent (now text) (ctx .variables) (now loops) ⌝ }
     requires { ⌜ Near (now text) (c .at) (c .row) ⌝ }
     requires { ⌜ Ready (world e (now code) (now book) (now pool)) ⌝ }
     requires { ⌜ ctx .inside + 1 + ctx .left ≤ maxNesting ⌝ }
@@ -593,7 +595,7 @@ fn while_(
     condition: Cursor,
     c: Cursor,
 ) -> Walked
-    requires { ⌜ length (now loops) ≡ loopsSize ⌝ }
+    requires { ⌜ Lent (now text) (ctx .variables) (now loops) ⌝ }
     requires { ⌜ Near (now text) (condition .at) (condition .row) ⌝ }
     requires { ⌜ Near (now text) (c .at) (c .row) ⌝ }
     requires { ⌜ Ready (world e (now code) (now book) (now pool)) ⌝ }
@@ -631,7 +633,7 @@ fn repeat(
     condition: Cursor,
     last: Cursor,
 ) -> Walked
-    requires { ⌜ length (now loops) ≡ loopsSize ⌝ }
+    requires { ⌜ Lent (now text) (ctx .variables) (now loops) ⌝ }
     requires { ⌜ Near (now text) (c .at) (c .row) ⌝ }
     requires { ⌜ Near (now text) (condition .at) (condition .row) ⌝ }
     requires { ⌜ Near (now text) (last .at) (last .row) ⌝ }
@@ -674,7 +676,7 @@ fn loop_body(
     e: Emitter,
     c: Cursor,
 ) -> Walked
-    requires { ⌜ length (now loops) ≡ loopsSize ⌝ }
+    requires { ⌜ Lent (now text) (ctx .variables) (now loops) ⌝ }
     requires { ⌜ Near (now text) (c .at) (c .row) ⌝ }
     requires { ⌜ Ready (world e (now code) (now book) (now pool)) ⌝ }
     requires { ⌜ ctx .inside + 1 + ctx .left ≤ maxNesting ⌝ }
@@ -685,11 +687,11 @@ fn loop_body(
     let made = e.create_label(book);
     let next = made.label;
     let e1 = made.emitter;
-    loops::open_loop(loops, inside, i, end, next);
+    lent::open_loop(loops, inside, i, end, next);
     let b = sequence(text, sheet, code, book, pool, loops, within, true, n, e1, c);
     let cursor = b.cursor;
     let e2 = b.emitter;
-    let used = loops::next_used(loops, inside);
+    let used = lent::next_used(loops, inside);
     let emitter = loops::bind_next(e2, book, next, used);
     Walked { cursor, emitter }
 }
@@ -710,7 +712,7 @@ pub fn emit_stmts(
     requires { ⌜ Ready (world e (now code) (now book) (now pool)) ⌝ }
     ensures { λ r. ⌜ Went (sheetIn (now (sheet .entry))) (emitStmts (blockAt maxNesting variables (now (text .entry)) n (cursorOf c) .0)) (now (text .entry)) (blockAt maxNesting variables (now (text .entry)) n (cursorOf c) .1) (world e (now (code .entry)) (now (book .entry)) (now (pool .entry))) (world (r .emitter) (now (code .exit)) (now (book .exit)) (now (pool .exit))) (r .cursor) ⌝ }
 {
-    let mut loops = [0u16; loops::LOOPS_SIZE];
+    let mut loops = [0u16; lent::LENT_SIZE];
     let ctx = Context {
         variables: variables,
         left: MAX_NESTING,

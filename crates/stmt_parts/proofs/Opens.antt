@@ -39,7 +39,7 @@ module _ (ls : List ℕ) (at a b c : ℕ) (fits : at + 4 ≤ length ls) where
   put4-other : (j : ℕ) → j < at → getD (put4 ls at a b c) j 0 ≡ getD ls j 0
   put4-other j h = rw (getD-set-other (set (set (set ls at a) (at + 1) b) (at + 2) c) (at + 3) j 0 0 (λ e. omega arith), getD-set-other (set (set ls at a) (at + 1) b) (at + 2) j c 0 (λ e. omega arith), getD-set-other (set ls at a) (at + 1) j b 0 (λ e. omega arith), getD-set-other ls at j a 0 (λ e. omega arith))
 
-opens-below : (ls ls′ : List ℕ) (n : ℕ) → ((j : ℕ) → j < loopSize * n → getD ls′ j 0 ≡ getD ls j 0) → opensIn ls′ n ≡ opensIn ls n
+pub opens-below : (ls ls′ : List ℕ) (n : ℕ) → ((j : ℕ) → j < loopSize * n → getD ls′ j 0 ≡ getD ls j 0) → opensIn ls′ n ≡ opensIn ls n
 unfolding opensIn openAt
 opens-below ls ls′ zero h = refl
 opens-below ls ls′ (suc n) h = rw (h (loopSize * n) (omega arith), h (loopSize * n + 1) (omega arith), h (loopSize * n + 2) (omega arith), h (loopSize * n + 3) (omega arith), opens-below ls ls′ n (λ j k. h j (omega arith)))

@@ -7,7 +7,8 @@ use Rattle.program.proofs.Laws.{line-there}
 use Rattle.program.specs.Walk.{cursorOf}
 use Rattle.program_line.specs.View.{stmtLine}
 use Rattle.emit.specs.View.{world}
-use Rattle.stmt.proofs.Walks.{nested}
+use Rattle.stmt.proofs.Walks.{nested, from-loops}
+use Rattle.stmt.proofs.Behind.{lent-behind, inner-lent, loop-lent}
 use Rattle.stmt_parts.proofs.Walks.{inner-left, inner-inside, loop-left, loop-inside}
 use Rattle.stmt_parts.proofs.Jumps.{bad-line}
 use Rattle.stmt.proofs.Simple.{ran-bad, ran-assign, ran-return, ran-exit, ran-continue}
@@ -65,11 +66,15 @@ use Rattle.expr.proofs.emit_expr.Reads as emit-expr-reads
 use Rattle.program.proofs.next_line.Reads as next-line-reads
 use Rattle.program_line.proofs.read_arm.Reads as read-arm-reads
 use Rattle.program_line.proofs.read_stmt.Reads as read-stmt-reads
-use Rattle.program_shape.proofs.loop_shape.Reads as loop-shape-reads
 use Rattle.program_shape.proofs.operand_at.Reads as operand-at-reads
 use Rattle.program_shape.proofs.skip_block.Reads as skip-block-reads
 use Rattle.program_shape.proofs.skip_expr.Reads as skip-expr-reads
 use Rattle.stmt.proofs.assign.Reads as assign-reads
+use Rattle.stmt.proofs.lent.continue_.Reads as continue--reads
+use Rattle.stmt.proofs.lent.exit.Reads as exit-reads
+use Rattle.stmt.proofs.lent.loop_shape.Reads as loop-shape-reads
+use Rattle.stmt.proofs.lent.next_used.Reads as next-used-reads
+use Rattle.stmt.proofs.lent.open_loop.Reads as open-loop-reads
 use Rattle.stmt.proofs.record_position.Reads as record-position-reads
 use Rattle.stmt.proofs.return_.Reads as return--reads
 use Rattle.stmt_parts.proofs.Context.in_loop.Reads as in-loop-reads
@@ -85,10 +90,6 @@ use Rattle.stmt_parts.proofs.labels.arm_parts.Reads as arm-parts-reads
 use Rattle.stmt_parts.proofs.labels.close_arm.Reads as close-arm-reads
 use Rattle.stmt_parts.proofs.labels.open_arm.Reads as open-arm-reads
 use Rattle.stmt_parts.proofs.loops.bind_next.Reads as bind-next-reads
-use Rattle.stmt_parts.proofs.loops.continue_.Reads as continue--reads
-use Rattle.stmt_parts.proofs.loops.exit.Reads as exit-reads
-use Rattle.stmt_parts.proofs.loops.next_used.Reads as next-used-reads
-use Rattle.stmt_parts.proofs.loops.open_loop.Reads as open-loop-reads
 use Rattle.stmt.proofs.+arm+arms+case+else_+for_+if_+loop_+loop_body+plain+repeat+sequence+stmt+while_.{statement}
 use Rattle.stmt.proofs.+arm+arms+case+else_+for_+if_+loop_+loop_body+plain+repeat+sequence+stmt+while_.Tie.{close}
 use borrow.Author.Needs.{needs}
@@ -265,7 +266,7 @@ pub +arm+arms+case+else-+for-+if-+loop-+loop-body+plain+repeat+sequence+stmt+whi
     (λ c. c .before .before .before .before .close-arm .ensures .room ∙ sym (c .before .before .before .before .before .before .before .before .before .before .before .before .before .before .before .before .before .before .before .before .before .before .before .before .before .before .before .before .before .before .before .before .before .before .before .before .before .before .before .before .before .before .before .before .before .before .before .before .before .before .before .before .before .before .pre .1 .1 .1 .0 .room))  -- arm-same-length
     (λ c. c .before .before .before .before .close-arm .ensures .slots ∙ sym (c .before .before .before .before .before .before .before .before .before .before .before .before .before .before .before .before .before .before .before .before .before .before .before .before .before .before .before .before .before .before .before .before .before .before .before .before .before .before .before .before .before .before .before .before .before .before .before .before .before .before .before .before .before .before .pre .1 .1 .1 .0 .slots))  -- arm-same-length-2
     (λ c. c .before .before .before .before .before .before .before .before .before .before .before .before .before .before .before .before .before .sequence .ensures .filled .ready .long ∙ sym (c .before .before .before .before .before .before .before .before .before .before .before .before .before .before .before .before .before .before .before .before .before .before .before .before .before .before .before .before .before .before .before .before .before .before .before .before .before .before .before .before .before .before .before .before .before .before .before .before .before .before .before .before .before .before .pre .1 .1 .1 .0 .long))  -- arm-same-length-3
-    (λ c. c .before .before .before .before .before .before .before .before .before .before .before .before .before .before .before .before .before .sequence .ensures .slots ∙ sym (c .before .before .before .before .before .before .before .before .before .before .before .before .before .before .before .before .before .before .before .before .before .before .before .before .before .before .before .before .before .before .before .before .before .before .before .before .before .before .before .before .before .before .before .before .before .before .before .before .before .before .before .before .before .before .pre .1 .0))  -- arm-same-length-4
+    (λ c. c .before .before .before .before .before .before .before .before .before .before .before .before .before .before .before .before .before .sequence .ensures .slots .size ∙ sym (c .before .before .before .before .before .before .before .before .before .before .before .before .before .before .before .before .before .before .before .before .before .before .before .before .before .before .before .before .before .before .before .before .before .before .before .before .before .before .before .before .before .before .before .before .before .before .before .before .before .before .before .before .before .before .pre .1 .0 .size))  -- arm-same-length-4
     (λ c. arm-some _ _ _ _ _ _ _ (c .before .before .before .before .before .before .before .before .before .before .before .before .before .before .before .before .before .before .before .before .before .before .before .before .before .before .before .before .before .before .before .before .before .before .before .before .before .before .before .before .before .before .before .before .before .before .before .before .before .before .before .before .before .before .pre .1 .1 .1 .0) (c .before .before .before .before .before .before .before .before .before .before .before .before .before .before .before .before .before .before .before .before .before .before .before .before .before .before .before .before .before .before .before .before .before .before .before .before .before .before .before .before .before .before .before .before .before .before .before .if1 .left) (c .before .before .before .before .before .before .before .before .before .before .before .before .before .before .before .before .before .before .before .before .before .before .before .before .before .before .before .before .before .before .before .before .before .before .before .before .before .before .before .before .before .before .before .before .before .create-label .ensures) (c .before .before .before .before .before .before .before .before .before .before .before .before .before .before .before .before .before .before .before .before .before .before .before .before .before .before .before .before .before .before .before .before .before .before .before .before .before .open-arm .ensures) (c .before .before .before .before .before .before .before .before .before .before .before .before .before .before .before .before .before .before .before .before .before .before .before .before .before .before .emit-opcode .ensures) (nested _ (c .before .before .before .before .before .before .before .before .before .before .before .before .before .before .before .before .before .sequence .ensures)) (c .before .before .before .before .close-arm .ensures)))  -- arm-returns-2
     (λ t. arms-lts.spec (
       read-arm-reads.Asked,
@@ -290,17 +291,17 @@ pub +arm+arms+case+else-+for-+if-+loop-+loop-body+plain+repeat+sequence+stmt+whi
     (λ c. c .before .before .before .before .before .before .loop .inv .ready .room ∙ sym (c .before .before .before .before .before .before .before .before .before .before .before .before .before .pre .1 .1 .1 .0 .room))  -- arms-same-length
     (λ c. c .before .before .before .before .before .before .loop .inv .ready .slots ∙ sym (c .before .before .before .before .before .before .before .before .before .before .before .before .before .pre .1 .1 .1 .0 .slots))  -- arms-same-length-2
     (λ c. c .before .before .before .before .before .before .loop .inv .ready .long ∙ sym (c .before .before .before .before .before .before .before .before .before .before .before .before .before .pre .1 .1 .1 .0 .long))  -- arms-same-length-3
-    (λ c. c .before .before .before .before .before .before .loop .inv .slots ∙ sym (c .before .before .before .before .before .before .before .before .before .before .before .before .before .pre .1 .0))  -- arms-same-length-4
+    (λ c. c .before .before .before .before .before .before .loop .inv .slots .size ∙ sym (c .before .before .before .before .before .before .before .before .before .before .before .before .before .pre .1 .0 .size))  -- arms-same-length-4
     (λ c. arms-bad (c .before .before .before .before .before .before .loop .inv) _ (parts-not _ _ _ _ _ (c .before .before .before .arm-parts .ensures) (c .before .before .before .before .read-arm .ensures) (c .before .if1 .taken)) (c .before .before .before .before .before .loop-test .taken) (c .refuse .ensures))  -- arms-returns
     (λ c κs. (c .before .before .before .before .before .loop .inv .near, line-there _ _ _ _ _ (parts-is _ _ _ _ _ (c .before .before .arm-parts .ensures) (c .before .before .before .read-arm .ensures) (c .if1 .left)) .0))  -- arms-next-line-requires
     (λ c κs. (omega (arith, c .before .before .before .before .before .before .before .before .before .before .before .before .before .before .before .before .before .pre .0), (c .before .before .before .before .before .before .before .before .before .before .loop .inv .slots, (c .before .before .before .before .next-line .ensures .near, (c .before .before .before .before .before .before .before .before .before .before .loop .inv .ready, c .before .before .before .before .before .before .before .before .before .before .before .before .before .before .before .before .before .pre .1 .1 .1 .1)))))  -- arms-arm-requires
-    (λ c. search needs)  -- arms-sub-more
-    (λ c. search needs)  -- arms-loop-less
+    (λ c. omega (arith, c .before .before .before .before .before .before .before .before .before .before .before .before .before .before .before .before .before .before .before .before .loop-test .taken))  -- arms-sub-more
+    (λ c. omega (arith, c .before .before .before .before .before .before .before .before .before .before .before .before .before .before .before .before .before .before .before .before .loop-test .taken))  -- arms-loop-less
     (λ c. arms-on (c .before .before .before .before .before .before .before .before .before .before .before .before .before .before .before .before .before .before .before .before .before .loop .inv) _ _ (parts-is _ _ _ _ _ (c .before .before .before .before .before .before .before .before .before .before .before .before .before .before .before .before .before .before .arm-parts .ensures) (c .before .before .before .before .before .before .before .before .before .before .before .before .before .before .before .before .before .before .before .read-arm .ensures) (c .before .before .before .before .before .before .before .before .before .before .before .before .before .before .before .before .if1 .left)) (c .before .before .before .before .before .before .before .before .before .before .before .before .before .before .before .next-line .ensures) (c .before .before .before .before .before .before .before .before .before .before .arm .ensures) (c .before .before .before .before .before .before .before .before .before .before .before .before .before .before .before .before .before .before .before .before .loop-test .taken))  -- arms-loop-again
     (λ c. c .before .loop .inv .ready .room ∙ sym (c .before .before .before .before .before .before .before .before .pre .1 .1 .1 .0 .room))  -- arms-same-length-5
     (λ c. c .before .loop .inv .ready .slots ∙ sym (c .before .before .before .before .before .before .before .before .pre .1 .1 .1 .0 .slots))  -- arms-same-length-6
     (λ c. c .before .loop .inv .ready .long ∙ sym (c .before .before .before .before .before .before .before .before .pre .1 .1 .1 .0 .long))  -- arms-same-length-7
-    (λ c. c .before .loop .inv .slots ∙ sym (c .before .before .before .before .before .before .before .before .pre .1 .0))  -- arms-same-length-8
+    (λ c. c .before .loop .inv .slots .size ∙ sym (c .before .before .before .before .before .before .before .before .pre .1 .0 .size))  -- arms-same-length-8
     (λ c. arms-end (c .before .loop .inv) (c .loop-test .left)))  -- arms-returns-2
     (λ t. case-lts.spec (
       next-line-reads.Asked,
@@ -330,7 +331,7 @@ pub +arm+arms+case+else-+for-+if-+loop-+loop-body+plain+repeat+sequence+stmt+whi
     (λ c. c .before .before .before .before .before .before .before .before .before .before .before .before .before .before .sequence .ensures .filled .ready .room ∙ sym (c .before .before .before .before .before .before .before .before .before .before .before .before .before .before .before .before .before .before .before .before .before .before .before .before .before .before .before .before .before .before .before .before .before .before .before .before .before .before .before .before .before .before .before .before .before .before .before .before .before .before .before .before .before .before .before .before .before .before .before .before .before .before .before .before .before .before .pre .1 .1 .1 .0 .room))  -- case-same-length
     (λ c. c .before .before .bind-label .ensures .slots ∙ sym (c .before .before .before .before .before .before .before .before .before .before .before .before .before .before .before .before .before .before .before .before .before .before .before .before .before .before .before .before .before .before .before .before .before .before .before .before .before .before .before .before .before .before .before .before .before .before .before .before .before .before .before .before .before .before .before .before .before .before .before .before .before .before .before .before .before .before .pre .1 .1 .1 .0 .slots))  -- case-same-length-2
     (λ c. c .before .before .before .before .before .before .before .before .before .before .before .before .before .before .sequence .ensures .filled .ready .long ∙ sym (c .before .before .before .before .before .before .before .before .before .before .before .before .before .before .before .before .before .before .before .before .before .before .before .before .before .before .before .before .before .before .before .before .before .before .before .before .before .before .before .before .before .before .before .before .before .before .before .before .before .before .before .before .before .before .before .before .before .before .before .before .before .before .before .before .before .before .pre .1 .1 .1 .0 .long))  -- case-same-length-3
-    (λ c. c .before .before .before .before .before .before .before .before .before .before .before .before .before .before .sequence .ensures .slots ∙ sym (c .before .before .before .before .before .before .before .before .before .before .before .before .before .before .before .before .before .before .before .before .before .before .before .before .before .before .before .before .before .before .before .before .before .before .before .before .before .before .before .before .before .before .before .before .before .before .before .before .before .before .before .before .before .before .before .before .before .before .before .before .before .before .before .before .before .before .pre .1 .0))  -- case-same-length-4
+    (λ c. c .before .before .before .before .before .before .before .before .before .before .before .before .before .before .sequence .ensures .slots .size ∙ sym (c .before .before .before .before .before .before .before .before .before .before .before .before .before .before .before .before .before .before .before .before .before .before .before .before .before .before .before .before .before .before .before .before .before .before .before .before .before .before .before .before .before .before .before .before .before .before .before .before .before .before .before .before .before .before .before .before .before .before .before .before .before .before .before .before .before .before .pre .1 .0 .size))  -- case-same-length-4
     (λ c. case-done _ _ _ _ _ (c .before .before .before .before .before .before .before .before .before .before .before .before .before .before .before .before .before .before .before .before .before .before .before .before .before .before .before .before .before .before .before .before .before .before .before .before .before .before .before .before .before .before .before .before .before .before .before .before .before .before .before .before .before .before .before .before .before .before .before .next-line .ensures) (c .before .before .before .before .before .before .before .before .before .before .before .before .before .before .before .before .before .before .before .before .before .before .before .before .before .before .before .before .before .before .before .before .before .before .before .before .before .before .before .before .before .before .before .before .before .before .before .before .before .before .before .before .before .before .before .emit-expr .ensures) (c .before .before .before .before .before .before .before .before .before .before .before .before .before .before .before .before .before .before .before .before .before .before .before .before .before .before .before .before .before .before .before .before .before .before .before .before .before .before .before .before .before .before .before .before .before .create-label .ensures) (c .before .before .before .before .before .before .before .before .before .before .before .before .before .before .before .before .before .before .before .before .before .before .before .before .before .before .before .before .before .before .before .before .before .before .before .before .arms .ensures) (c .before .before .before .before .before .before .before .before .before .before .before .before .before .before .before .before .before .before .before .before .before .before .before .emit-opcode .ensures) (nested _ (c .before .before .before .before .before .before .before .before .before .before .before .before .before .before .sequence .ensures)) (c .before .before .bind-label .ensures)))  -- case-returns
     (λ t. else--lts.spec (
       bind-label-reads.Asked,
@@ -355,7 +356,7 @@ pub +arm+arms+case+else-+for-+if-+loop-+loop-body+plain+repeat+sequence+stmt+whi
     (λ c. c .before .before .before .before .before .before .before .before .before .before .before .before .before .before .sequence .ensures .filled .ready .room ∙ sym (c .before .before .before .before .before .before .before .before .before .before .before .before .before .before .before .before .before .before .before .before .before .before .before .before .before .before .before .before .before .before .before .before .before .before .before .before .before .before .before .before .before .before .before .pre .1 .1 .1 .0 .room))  -- else--same-length-2
     (λ c. c .before .before .bind-label3 .ensures .slots ∙ sym (c .before .before .before .before .before .before .before .before .before .before .before .before .before .before .before .before .before .before .before .before .before .before .before .before .before .before .before .before .before .before .before .before .before .before .before .before .before .before .before .before .before .before .before .pre .1 .1 .1 .0 .slots))  -- else--same-length-3
     (λ c. c .before .before .before .before .before .before .before .before .before .before .before .before .before .before .sequence .ensures .filled .ready .long ∙ sym (c .before .before .before .before .before .before .before .before .before .before .before .before .before .before .before .before .before .before .before .before .before .before .before .before .before .before .before .before .before .before .before .before .before .before .before .before .before .before .before .before .before .before .before .pre .1 .1 .1 .0 .long))  -- else--same-length-4
-    (λ c. c .before .before .before .before .before .before .before .before .before .before .before .before .before .before .sequence .ensures .slots ∙ sym (c .before .before .before .before .before .before .before .before .before .before .before .before .before .before .before .before .before .before .before .before .before .before .before .before .before .before .before .before .before .before .before .before .before .before .before .before .before .before .before .before .before .before .before .pre .1 .0))  -- else--same-length-5
+    (λ c. c .before .before .before .before .before .before .before .before .before .before .before .before .before .before .sequence .ensures .slots .size ∙ sym (c .before .before .before .before .before .before .before .before .before .before .before .before .before .before .before .before .before .before .before .before .before .before .before .before .before .before .before .before .before .before .before .before .before .before .before .before .before .before .before .before .before .before .before .pre .1 .0 .size))  -- else--same-length-5
     (λ c. else-some _ _ _ _ _ _ (c .before .before .before .before .before .before .before .before .before .before .before .before .before .before .before .before .before .before .before .before .before .before .before .before .before .before .before .before .before .before .before .before .before .before .before .before .before .before .before .before .before .before .before .pre .1 .1 .1 .0) (c .before .before .before .before .before .before .before .before .before .before .before .before .before .before .before .before .before .before .before .before .before .before .before .before .before .before .before .before .before .before .before .before .before .before .before .before .if1 .left) (c .before .before .before .before .before .before .before .before .before .before .before .before .before .before .before .before .before .before .before .before .before .before .before .before .before .before .before .before .before .before .before .before .before .before .create-label .ensures) (c .before .before .before .before .before .before .before .before .before .before .before .before .before .before .before .before .before .before .before .before .before .before .before .before .before .before .before .emit-jmp .ensures) (c .before .before .before .before .before .before .before .before .before .before .before .before .before .before .before .before .before .before .before .before .before .bind-label2 .ensures) (nested _ (c .before .before .before .before .before .before .before .before .before .before .before .before .before .before .sequence .ensures)) (c .before .before .bind-label3 .ensures)))  -- else--returns-2
     (λ t. for--lts.spec (
       next-line-reads.Asked,
@@ -395,7 +396,7 @@ pub +arm+arms+case+else-+for-+if-+loop-+loop-body+plain+repeat+sequence+stmt+whi
     (λ c. c .before .before .before .before .before .before .for-end .ensures .ready .room ∙ sym (c .before .before .before .before .before .before .before .before .before .before .before .before .before .before .before .before .before .before .before .before .before .before .before .before .before .before .before .before .before .before .before .before .before .before .before .before .before .before .before .before .before .before .before .before .before .before .before .before .before .before .before .before .before .before .before .before .before .before .before .before .before .before .before .before .before .before .before .before .before .before .before .before .before .before .before .before .before .before .before .before .pre .1 .1 .1 .0 .room))  -- for--same-length
     (λ c. c .before .before .before .before .before .before .for-end .ensures .ready .slots ∙ sym (c .before .before .before .before .before .before .before .before .before .before .before .before .before .before .before .before .before .before .before .before .before .before .before .before .before .before .before .before .before .before .before .before .before .before .before .before .before .before .before .before .before .before .before .before .before .before .before .before .before .before .before .before .before .before .before .before .before .before .before .before .before .before .before .before .before .before .before .before .before .before .before .before .before .before .before .before .before .before .before .before .pre .1 .1 .1 .0 .slots))  -- for--same-length-2
     (λ c. c .before .before .before .before .before .before .for-end .ensures .ready .long ∙ sym (c .before .before .before .before .before .before .before .before .before .before .before .before .before .before .before .before .before .before .before .before .before .before .before .before .before .before .before .before .before .before .before .before .before .before .before .before .before .before .before .before .before .before .before .before .before .before .before .before .before .before .before .before .before .before .before .before .before .before .before .before .before .before .before .before .before .before .before .before .before .before .before .before .before .before .before .before .before .before .before .before .pre .1 .1 .1 .0 .long))  -- for--same-length-3
-    (λ c. c .before .before .before .before .before .before .before .before .before .before .before .before .before .before .before .before .before .before .before .before .loop-body .ensures .slots ∙ sym (c .before .before .before .before .before .before .before .before .before .before .before .before .before .before .before .before .before .before .before .before .before .before .before .before .before .before .before .before .before .before .before .before .before .before .before .before .before .before .before .before .before .before .before .before .before .before .before .before .before .before .before .before .before .before .before .before .before .before .before .before .before .before .before .before .before .before .before .before .before .before .before .before .before .before .before .before .before .before .before .before .pre .1 .0))  -- for--same-length-4
+    (λ c. c .before .before .before .before .before .before .before .before .before .before .before .before .before .before .before .before .before .before .before .before .loop-body .ensures .slots .size ∙ sym (c .before .before .before .before .before .before .before .before .before .before .before .before .before .before .before .before .before .before .before .before .before .before .before .before .before .before .before .before .before .before .before .before .before .before .before .before .before .before .before .before .before .before .before .before .before .before .before .before .before .before .before .before .before .before .before .before .before .before .before .before .before .before .before .before .before .before .before .before .before .before .before .before .before .before .before .before .before .before .before .before .pre .1 .0 .size))  -- for--same-length-4
     (λ c. for-done _ _ _ _ _ _ _ (c .before .before .before .before .before .before .before .before .before .before .before .before .before .before .before .before .before .before .before .before .before .before .before .before .before .before .before .before .before .before .before .before .before .before .before .before .before .before .before .before .before .before .before .before .before .before .before .before .before .before .before .before .before .before .before .before .before .before .before .before .before .before .before .before .before .before .before .before .before .before .before .before .before .next-line .ensures) (c .before .before .before .before .before .before .before .before .before .before .before .before .before .before .before .before .before .before .before .before .before .before .before .before .before .before .before .before .before .before .before .before .before .before .before .before .before .before .before .before .before .before .before .before .before .before .before .before .before .before .before .before .before .before .before .before .before .before .before .before .before .before .before .before .before .before .before .before .before .before .before .before .skip-expr .ensures) (c .before .before .before .before .before .before .before .before .before .before .before .before .before .before .before .before .before .before .before .before .before .before .before .before .before .before .before .before .before .before .before .before .before .before .before .before .before .before .before .before .before .before .before .before .before .before .before .before .before .before .before .before .before .before .before .before .before .before .before .before .before .before .before .before .before .before .before .emit-expr .ensures) (c .before .before .before .before .before .before .before .before .before .before .before .before .before .before .before .before .before .before .before .before .before .before .before .before .before .before .before .before .before .before .before .before .before .before .before .before .before .before .before .before .before .before .before .before .before .before .before .before .before .before .before .before .before .before .before .before .before .emit-store-var .ensures) (c .before .before .before .before .before .before .before .before .before .before .before .before .before .before .before .before .before .before .before .before .before .before .before .before .before .before .before .before .before .before .before .before .before .before .before .before .before .before .before .before .before .before .before .before .before .before .before .before .before .before .before .create-label .ensures) (c .before .before .before .before .before .before .before .before .before .before .before .before .before .before .before .before .before .before .before .before .before .before .before .before .before .before .before .before .before .before .before .before .before .before .before .before .before .before .before .before .before .before .before .before .before .create-label2 .ensures) (c .before .before .before .before .before .before .before .before .before .before .before .before .before .before .before .before .before .before .before .before .before .before .before .before .before .before .before .before .before .before .before .before .before .before .before .before .before .before .before .bind-label .ensures) (c .before .before .before .before .before .before .before .before .before .before .before .before .before .before .before .before .before .before .before .before .before .before .before .before .before .before .before .before .before .before .before .before .before .end-test .ensures) (c .before .before .before .before .before .before .before .before .before .before .before .before .before .before .before .before .before .before .before .before .loop-body .ensures) (c .before .before .before .before .before .before .for-end .ensures)))  -- for--returns
     (λ t. if--lts.spec (
       next-line-reads.Asked,
@@ -419,7 +420,7 @@ pub +arm+arms+case+else-+for-+if-+loop-+loop-body+plain+repeat+sequence+stmt+whi
     (λ c. c .before .before .before .before .before .before .before .before .else- .ensures .filled .ready .room ∙ sym (c .before .before .before .before .before .before .before .before .before .before .before .before .before .before .before .before .before .before .before .before .before .before .before .before .before .before .before .before .before .before .before .before .before .before .before .before .before .before .before .before .before .before .before .before .before .before .before .before .before .before .before .before .before .pre .1 .1 .1 .0 .room))  -- if--same-length
     (λ c. c .before .before .before .before .before .before .before .before .else- .ensures .filled .ready .slots ∙ sym (c .before .before .before .before .before .before .before .before .before .before .before .before .before .before .before .before .before .before .before .before .before .before .before .before .before .before .before .before .before .before .before .before .before .before .before .before .before .before .before .before .before .before .before .before .before .before .before .before .before .before .before .before .before .pre .1 .1 .1 .0 .slots))  -- if--same-length-2
     (λ c. c .before .before .before .before .before .before .before .before .else- .ensures .filled .ready .long ∙ sym (c .before .before .before .before .before .before .before .before .before .before .before .before .before .before .before .before .before .before .before .before .before .before .before .before .before .before .before .before .before .before .before .before .before .before .before .before .before .before .before .before .before .before .before .before .before .before .before .before .before .before .before .before .before .pre .1 .1 .1 .0 .long))  -- if--same-length-3
-    (λ c. c .before .before .before .before .before .before .before .before .else- .ensures .slots ∙ sym (c .before .before .before .before .before .before .before .before .before .before .before .before .before .before .before .before .before .before .before .before .before .before .before .before .before .before .before .before .before .before .before .before .before .before .before .before .before .before .before .before .before .before .before .before .before .before .before .before .before .before .before .before .before .pre .1 .0))  -- if--same-length-4
+    (λ c. c .before .before .before .before .before .before .before .before .else- .ensures .slots .size ∙ sym (c .before .before .before .before .before .before .before .before .before .before .before .before .before .before .before .before .before .before .before .before .before .before .before .before .before .before .before .before .before .before .before .before .before .before .before .before .before .before .before .before .before .before .before .before .before .before .before .before .before .before .before .before .before .pre .1 .0 .size))  -- if--same-length-4
     (λ c. if-done _ _ _ _ _ (c .before .before .before .before .before .before .before .before .before .before .before .before .before .before .before .before .before .before .before .before .before .before .before .before .before .before .before .before .before .before .before .before .before .before .before .before .before .before .before .before .before .before .before .before .before .before .next-line .ensures) (c .before .before .before .before .before .before .before .before .before .before .before .before .before .before .before .before .before .before .before .before .before .before .before .before .before .before .before .before .before .before .before .before .before .before .before .before .before .before .before .before .before .before .before .before .before .before .before .before .before .before .before .before .before .pre .1 .1 .1 .0) (c .before .before .before .before .before .before .before .before .before .before .before .before .before .before .before .before .before .before .before .before .before .before .before .before .before .before .before .before .before .before .before .before .before .before .before .before .before .before .before .before .before .before .before .before .create-label .ensures) (c .before .before .before .before .before .before .before .before .before .before .before .before .before .before .before .before .before .before .before .before .before .before .before .before .before .before .before .before .before .before .before .before .before .before .before .before .branch-unless .ensures) (nested _ (c .before .before .before .before .before .before .before .before .before .before .before .before .before .before .before .before .before .before .before .before .before .before .before .sequence .ensures)) (c .before .before .before .before .before .before .before .before .else- .ensures)))  -- if--returns
     (λ t. loop--lts.spec (
       next-line-reads.Asked,
@@ -438,29 +439,29 @@ pub +arm+arms+case+else-+for-+if-+loop-+loop-body+plain+repeat+sequence+stmt+whi
     (loop--at t)
     loop-.Post
     (λ c κs. (c .before .before .before .before .before .before .pre .1 .1 .0, c .before .before .before .before .before .before .pre .1 .1 .1 .1 .1))  -- loop--next-line-requires
-    (λ c κs. c .next-line .ensures .near)  -- loop--loop-shape-requires
+    (λ c κs. (c .before .next-line .ensures .near, c .before .before .before .before .before .before .before .before .pre .1 .0))  -- loop--loop-shape-requires
     (λ c. search needs)  -- loop--enum-known-shape
     (λ c κs. search needs)  -- loop--below-requires
-    (λ c κs. (omega (arith, c .before .before .before .before .before .before .before .before .before .before .before .before .before .before .before .before .pre .0), (c .before .before .before .before .before .before .before .before .before .before .before .before .before .before .before .before .pre .1 .0, (while-places (c .before .before .before .before .before .before .before .before .loop-shape .ensures) (c .before .before .before .before .before .before .shape .given .1) .0 .near, (while-places (c .before .before .before .before .before .before .before .before .loop-shape .ensures) (c .before .before .before .before .before .before .shape .given .1) .1 .near, (c .before .before .before .before .before .before .before .before .before .before .before .before .before .before .before .before .pre .1 .1 .1 .0, c .before .before .before .before .before .before .before .before .before .before .before .before .before .before .before .before .pre .1 .1 .1 .1 .0))))))  -- loop--while--requires
+    (λ c κs. (omega (arith, c .before .before .before .before .before .before .before .before .before .before .before .before .before .before .before .before .before .before .before .pre .0), (c .before .before .before .before .before .before .before .before .before .before .loop-shape .ensures .1 .lent, (while-places (c .before .before .before .before .before .before .before .before .before .before .loop-shape .ensures .0) (c .before .before .before .before .before .before .shape .given .1) .0 .near, (while-places (c .before .before .before .before .before .before .before .before .before .before .loop-shape .ensures .0) (c .before .before .before .before .before .before .shape .given .1) .1 .near, (c .before .before .before .before .before .before .before .before .before .before .before .before .before .before .before .before .before .before .before .pre .1 .1 .1 .0, c .before .before .before .before .before .before .before .before .before .before .before .before .before .before .before .before .before .before .before .pre .1 .1 .1 .1 .0))))))  -- loop--while--requires
     (λ c. search needs)  -- loop--enum-known-shape-2
-    (λ c κs. (omega (arith, c .before .before .before .before .before .before .before .before .before .before .before .before .before .before .before .pre .0), (c .before .before .before .before .before .before .before .before .before .before .before .before .before .before .before .pre .1 .0, (c .before .before .before .before .before .before .before .before .next-line .ensures .near, (repeat-places (c .before .before .before .before .before .before .before .loop-shape .ensures) (c .before .before .before .before .before .shape2 .given .1) .0 .near, (repeat-places (c .before .before .before .before .before .before .before .loop-shape .ensures) (c .before .before .before .before .before .shape2 .given .1) .1 .near, (c .before .before .before .before .before .before .before .before .before .before .before .before .before .before .before .pre .1 .1 .1 .0, c .before .before .before .before .before .before .before .before .before .before .before .before .before .before .before .pre .1 .1 .1 .1 .0)))))))  -- loop--repeat-requires
+    (λ c κs. (omega (arith, c .before .before .before .before .before .before .before .before .before .before .before .before .before .before .before .before .before .before .pre .0), (c .before .before .before .before .before .before .before .before .before .loop-shape .ensures .1 .lent, (c .before .before .before .before .before .before .before .before .before .before .before .next-line .ensures .near, (repeat-places (c .before .before .before .before .before .before .before .before .before .loop-shape .ensures .0) (c .before .before .before .before .before .shape2 .given .1) .0 .near, (repeat-places (c .before .before .before .before .before .before .before .before .before .loop-shape .ensures .0) (c .before .before .before .before .before .shape2 .given .1) .1 .near, (c .before .before .before .before .before .before .before .before .before .before .before .before .before .before .before .before .before .before .pre .1 .1 .1 .0, c .before .before .before .before .before .before .before .before .before .before .before .before .before .before .before .before .before .before .pre .1 .1 .1 .1 .0)))))))  -- loop--repeat-requires
     (λ c. search needs)  -- loop--enum-told
-    (λ c κs. (omega (arith, c .before .before .before .before .before .before .before .before .before .before .before .before .before .before .pre .0), (c .before .before .before .before .before .before .before .before .before .before .before .before .before .before .pre .1 .0, (c .before .before .before .before .before .before .before .next-line .ensures .near, (c .before .before .before .before .before .before .before .before .before .before .before .before .before .before .pre .1 .1 .1 .0, c .before .before .before .before .before .before .before .before .before .before .before .before .before .before .pre .1 .1 .1 .1 .0)))))  -- loop--plain-requires
-    (λ c. c .before .before .before .before .before .before .before .before .while- .ensures .filled .ready .room ∙ sym (c .before .before .before .before .before .before .before .before .before .before .before .before .before .before .before .before .before .before .before .before .before .before .before .before .before .pre .1 .1 .1 .0 .room))  -- loop--same-length
-    (λ c. c .before .before .before .before .before .before .before .before .while- .ensures .filled .ready .slots ∙ sym (c .before .before .before .before .before .before .before .before .before .before .before .before .before .before .before .before .before .before .before .before .before .before .before .before .before .pre .1 .1 .1 .0 .slots))  -- loop--same-length-2
-    (λ c. c .before .before .before .before .before .before .before .before .while- .ensures .filled .ready .long ∙ sym (c .before .before .before .before .before .before .before .before .before .before .before .before .before .before .before .before .before .before .before .before .before .before .before .before .before .pre .1 .1 .1 .0 .long))  -- loop--same-length-3
-    (λ c. c .before .before .before .before .before .before .before .before .while- .ensures .slots ∙ sym (c .before .before .before .before .before .before .before .before .before .before .before .before .before .before .before .before .before .before .before .before .before .before .before .before .before .pre .1 .0))  -- loop--same-length-4
-    (λ c. is-while _ _ _ _ _ _ (c .before .before .before .before .before .before .before .before .before .before .before .before .before .before .before .before .before .before .next-line .ensures) (c .before .before .before .before .before .before .before .before .before .before .before .before .before .before .before .before .before .loop-shape .ensures) (c .before .before .before .before .before .before .before .before .before .before .before .before .before .before .before .shape .given .1) (c .before .before .before .before .before .before .before .before .before .before .before .before .before .below .ensures) (c .before .before .before .before .before .before .before .before .while- .ensures))  -- loop--returns
-    (λ c. c .before .before .before .before .before .before .before .before .repeat .ensures .filled .ready .room ∙ sym (c .before .before .before .before .before .before .before .before .before .before .before .before .before .before .before .before .before .before .before .before .before .before .before .before .pre .1 .1 .1 .0 .room))  -- loop--same-length-5
-    (λ c. c .before .before .before .before .before .before .before .before .repeat .ensures .filled .ready .slots ∙ sym (c .before .before .before .before .before .before .before .before .before .before .before .before .before .before .before .before .before .before .before .before .before .before .before .before .pre .1 .1 .1 .0 .slots))  -- loop--same-length-6
-    (λ c. c .before .before .before .before .before .before .before .before .repeat .ensures .filled .ready .long ∙ sym (c .before .before .before .before .before .before .before .before .before .before .before .before .before .before .before .before .before .before .before .before .before .before .before .before .pre .1 .1 .1 .0 .long))  -- loop--same-length-7
-    (λ c. c .before .before .before .before .before .before .before .before .repeat .ensures .slots ∙ sym (c .before .before .before .before .before .before .before .before .before .before .before .before .before .before .before .before .before .before .before .before .before .before .before .before .pre .1 .0))  -- loop--same-length-8
-    (λ c. is-repeat _ _ _ _ _ _ (c .before .before .before .before .before .before .before .before .before .before .before .before .before .before .before .before .before .next-line .ensures) (c .before .before .before .before .before .before .before .before .before .before .before .before .before .before .before .before .loop-shape .ensures) (c .before .before .before .before .before .before .before .before .before .before .before .before .before .before .shape2 .given .1) (c .before .before .before .before .before .before .before .before .repeat .ensures))  -- loop--returns-2
-    (λ c. c .before .before .before .before .before .before .before .before .plain .ensures .filled .ready .room ∙ sym (c .before .before .before .before .before .before .before .before .before .before .before .before .before .before .before .before .before .before .before .before .before .before .before .pre .1 .1 .1 .0 .room))  -- loop--same-length-9
-    (λ c. c .before .before .before .before .before .before .before .before .plain .ensures .filled .ready .slots ∙ sym (c .before .before .before .before .before .before .before .before .before .before .before .before .before .before .before .before .before .before .before .before .before .before .before .pre .1 .1 .1 .0 .slots))  -- loop--same-length-10
-    (λ c. c .before .before .before .before .before .before .before .before .plain .ensures .filled .ready .long ∙ sym (c .before .before .before .before .before .before .before .before .before .before .before .before .before .before .before .before .before .before .before .before .before .before .before .pre .1 .1 .1 .0 .long))  -- loop--same-length-11
-    (λ c. c .before .before .before .before .before .before .before .before .plain .ensures .slots ∙ sym (c .before .before .before .before .before .before .before .before .before .before .before .before .before .before .before .before .before .before .before .before .before .before .before .pre .1 .0))  -- loop--same-length-12
-    (λ c. is-plain _ _ _ _ _ _ (c .before .before .before .before .before .before .before .before .before .before .before .before .before .before .before .before .next-line .ensures) (c .before .before .before .before .before .before .before .before .before .before .before .before .before .before .before .loop-shape .ensures) (c .before .before .before .before .before .before .before .before .before .before .before .before .before .enum-told .given .1) (c .before .before .before .before .before .before .before .before .plain .ensures)))  -- loop--returns-3
+    (λ c κs. (omega (arith, c .before .before .before .before .before .before .before .before .before .before .before .before .before .before .before .before .before .pre .0), (c .before .before .before .before .before .before .before .before .loop-shape .ensures .1 .lent, (c .before .before .before .before .before .before .before .before .before .before .next-line .ensures .near, (c .before .before .before .before .before .before .before .before .before .before .before .before .before .before .before .before .before .pre .1 .1 .1 .0, c .before .before .before .before .before .before .before .before .before .before .before .before .before .before .before .before .before .pre .1 .1 .1 .1 .0)))))  -- loop--plain-requires
+    (λ c. c .before .before .before .before .before .before .before .before .while- .ensures .filled .ready .room ∙ sym (c .before .before .before .before .before .before .before .before .before .before .before .before .before .before .before .before .before .before .before .before .before .before .before .before .before .before .before .before .pre .1 .1 .1 .0 .room))  -- loop--same-length
+    (λ c. c .before .before .before .before .before .before .before .before .while- .ensures .filled .ready .slots ∙ sym (c .before .before .before .before .before .before .before .before .before .before .before .before .before .before .before .before .before .before .before .before .before .before .before .before .before .before .before .before .pre .1 .1 .1 .0 .slots))  -- loop--same-length-2
+    (λ c. c .before .before .before .before .before .before .before .before .while- .ensures .filled .ready .long ∙ sym (c .before .before .before .before .before .before .before .before .before .before .before .before .before .before .before .before .before .before .before .before .before .before .before .before .before .before .before .before .pre .1 .1 .1 .0 .long))  -- loop--same-length-3
+    (λ c. c .before .before .before .before .before .before .before .before .while- .ensures .slots .size ∙ sym (c .before .before .before .before .before .before .before .before .before .before .before .before .before .before .before .before .before .before .before .before .before .before .before .before .before .before .before .before .pre .1 .0 .size))  -- loop--same-length-4
+    (λ c. is-while _ _ _ _ _ _ (c .before .before .before .before .before .before .before .before .before .before .before .before .before .before .before .before .before .before .before .before .before .next-line .ensures) (c .before .before .before .before .before .before .before .before .before .before .before .before .before .before .before .before .before .before .before .loop-shape .ensures .0) (c .before .before .before .before .before .before .before .before .before .before .before .before .before .before .before .shape .given .1) (c .before .before .before .before .before .before .before .before .before .before .before .before .before .below .ensures) (from-loops (c .before .before .before .before .before .before .before .before .before .before .before .before .before .before .before .before .before .before .before .loop-shape .ensures .1 .opens (c .before .before .before .before .before .before .before .before .before .before .before .before .before .before .before .before .before .before .before .before .before .before .before .before .before .before .before .before .args .ctx .inside) (omega (arith, c .before .before .before .before .before .before .before .before .before .before .before .before .before .before .before .before .before .before .before .before .before .before .before .before .before .before .before .before .pre .1 .1 .1 .1 .0))) (c .before .before .before .before .before .before .before .before .while- .ensures)))  -- loop--returns
+    (λ c. c .before .before .before .before .before .before .before .before .repeat .ensures .filled .ready .room ∙ sym (c .before .before .before .before .before .before .before .before .before .before .before .before .before .before .before .before .before .before .before .before .before .before .before .before .before .before .before .pre .1 .1 .1 .0 .room))  -- loop--same-length-5
+    (λ c. c .before .before .before .before .before .before .before .before .repeat .ensures .filled .ready .slots ∙ sym (c .before .before .before .before .before .before .before .before .before .before .before .before .before .before .before .before .before .before .before .before .before .before .before .before .before .before .before .pre .1 .1 .1 .0 .slots))  -- loop--same-length-6
+    (λ c. c .before .before .before .before .before .before .before .before .repeat .ensures .filled .ready .long ∙ sym (c .before .before .before .before .before .before .before .before .before .before .before .before .before .before .before .before .before .before .before .before .before .before .before .before .before .before .before .pre .1 .1 .1 .0 .long))  -- loop--same-length-7
+    (λ c. c .before .before .before .before .before .before .before .before .repeat .ensures .slots .size ∙ sym (c .before .before .before .before .before .before .before .before .before .before .before .before .before .before .before .before .before .before .before .before .before .before .before .before .before .before .before .pre .1 .0 .size))  -- loop--same-length-8
+    (λ c. is-repeat _ _ _ _ _ _ (c .before .before .before .before .before .before .before .before .before .before .before .before .before .before .before .before .before .before .before .before .next-line .ensures) (c .before .before .before .before .before .before .before .before .before .before .before .before .before .before .before .before .before .before .loop-shape .ensures .0) (c .before .before .before .before .before .before .before .before .before .before .before .before .before .before .shape2 .given .1) (from-loops (c .before .before .before .before .before .before .before .before .before .before .before .before .before .before .before .before .before .before .loop-shape .ensures .1 .opens (c .before .before .before .before .before .before .before .before .before .before .before .before .before .before .before .before .before .before .before .before .before .before .before .before .before .before .before .args .ctx .inside) (omega (arith, c .before .before .before .before .before .before .before .before .before .before .before .before .before .before .before .before .before .before .before .before .before .before .before .before .before .before .before .pre .1 .1 .1 .1 .0))) (c .before .before .before .before .before .before .before .before .repeat .ensures)))  -- loop--returns-2
+    (λ c. c .before .before .before .before .before .before .before .before .plain .ensures .filled .ready .room ∙ sym (c .before .before .before .before .before .before .before .before .before .before .before .before .before .before .before .before .before .before .before .before .before .before .before .before .before .before .pre .1 .1 .1 .0 .room))  -- loop--same-length-9
+    (λ c. c .before .before .before .before .before .before .before .before .plain .ensures .filled .ready .slots ∙ sym (c .before .before .before .before .before .before .before .before .before .before .before .before .before .before .before .before .before .before .before .before .before .before .before .before .before .before .pre .1 .1 .1 .0 .slots))  -- loop--same-length-10
+    (λ c. c .before .before .before .before .before .before .before .before .plain .ensures .filled .ready .long ∙ sym (c .before .before .before .before .before .before .before .before .before .before .before .before .before .before .before .before .before .before .before .before .before .before .before .before .before .before .pre .1 .1 .1 .0 .long))  -- loop--same-length-11
+    (λ c. c .before .before .before .before .before .before .before .before .plain .ensures .slots .size ∙ sym (c .before .before .before .before .before .before .before .before .before .before .before .before .before .before .before .before .before .before .before .before .before .before .before .before .before .before .pre .1 .0 .size))  -- loop--same-length-12
+    (λ c. is-plain _ _ _ _ _ _ (c .before .before .before .before .before .before .before .before .before .before .before .before .before .before .before .before .before .before .before .next-line .ensures) (c .before .before .before .before .before .before .before .before .before .before .before .before .before .before .before .before .before .loop-shape .ensures .0) (c .before .before .before .before .before .before .before .before .before .before .before .before .before .enum-told .given .1) (from-loops (c .before .before .before .before .before .before .before .before .before .before .before .before .before .before .before .before .before .loop-shape .ensures .1 .opens (c .before .before .before .before .before .before .before .before .before .before .before .before .before .before .before .before .before .before .before .before .before .before .before .before .before .before .args .ctx .inside) (omega (arith, c .before .before .before .before .before .before .before .before .before .before .before .before .before .before .before .before .before .before .before .before .before .before .before .before .before .before .pre .1 .1 .1 .1 .0))) (c .before .before .before .before .before .before .before .before .plain .ensures))))  -- loop--returns-3
     (λ t. loop-body-lts.spec (
       in-loop-reads.Asked,
       in-loop-reads.Learnt,
@@ -479,14 +480,14 @@ pub +arm+arms+case+else-+for-+if-+loop-+loop-body+plain+repeat+sequence+stmt+whi
     loop-body.Post
     (λ c κs. omega (arith, c .before .before .before .before .before .before .pre .1 .1 .1 .1))  -- loop-body-in-loop-requires
     (λ c κs. (c .before .before .before .before .before .before .before .before .pre .1 .1 .1 .0 .fine, c .before .before .before .before .before .before .before .before .pre .1 .1 .1 .0 .slots))  -- loop-body-create-label-requires
-    (λ c κs. (c .before .before .before .before .before .before .before .before .before .before .before .before .before .before .pre .1 .0, omega (arith, c .before .before .before .before .before .before .before .before .before .before .before .before .before .before .pre .1 .1 .1 .1)))  -- loop-body-open-loop-requires
-    (λ c κs. (omega (arith, c .before .before .before .before .before .before .before .before .before .before .before .before .before .before .before .before .before .before .before .before .before .pre .0, loop-left _ (c .before .before .before .before .before .before .before .before .before .before .before .before .before .before .in-loop .ensures)), (c .before .before .before .before .before .before .open-loop .ensures .slots, (c .before .before .before .before .before .before .before .before .before .before .before .before .before .before .before .before .before .before .before .before .before .pre .1 .1 .0, (record { fine = c .before .before .before .before .before .before .before .before .before .before .before .before .create-label .ensures .fine; room = c .before .before .before .before .before .before .before .before .before .before .before .before .before .before .before .before .before .before .before .before .before .pre .1 .1 .1 .0 .room; slots = c .before .before .before .before .before .before .before .before .before .before .before .before .create-label .ensures .slots; long = c .before .before .before .before .before .before .before .before .before .before .before .before .before .before .before .before .before .before .before .before .before .pre .1 .1 .1 .0 .long }, omega (arith, c .before .before .before .before .before .before .before .before .before .before .before .before .before .before .before .before .before .before .before .before .before .pre .1 .1 .1 .1, loop-left _ (c .before .before .before .before .before .before .before .before .before .before .before .before .before .before .in-loop .ensures), loop-inside _ (c .before .before .before .before .before .before .before .before .before .before .before .before .before .before .in-loop .ensures)))))))  -- loop-body-sequence-requires
-    (λ c κs. (c .before .before .before .before .before .before .before .before .before .before .before .sequence .ensures .slots, omega (arith, c .before .before .before .before .before .before .before .before .before .before .before .before .before .before .before .before .before .before .before .before .before .before .before .before .before .before .before .before .before .before .before .before .before .pre .1 .1 .1 .1)))  -- loop-body-next-used-requires
+    (λ c κs. (c .before .before .before .before .before .before .before .before .before .before .before .before .before .before .pre .1 .0 .size, omega (arith, c .before .before .before .before .before .before .before .before .before .before .before .before .before .before .pre .1 .1 .1 .1)))  -- loop-body-open-loop-requires
+    (λ c κs. (omega (arith, c .before .before .before .before .before .before .before .before .before .before .before .before .before .before .before .before .before .before .before .before .before .pre .0, loop-left _ (c .before .before .before .before .before .before .before .before .before .before .before .before .before .before .in-loop .ensures)), (loop-lent _ (c .before .before .before .before .before .before .before .before .before .before .before .before .before .before .in-loop .ensures) (lent-behind (c .before .before .before .before .before .before .before .before .before .before .before .before .before .before .before .before .before .before .before .before .before .pre .1 .0) (c .before .before .before .before .before .before .open-loop .ensures .behind)), (c .before .before .before .before .before .before .before .before .before .before .before .before .before .before .before .before .before .before .before .before .before .pre .1 .1 .0, (record { fine = c .before .before .before .before .before .before .before .before .before .before .before .before .create-label .ensures .fine; room = c .before .before .before .before .before .before .before .before .before .before .before .before .before .before .before .before .before .before .before .before .before .pre .1 .1 .1 .0 .room; slots = c .before .before .before .before .before .before .before .before .before .before .before .before .create-label .ensures .slots; long = c .before .before .before .before .before .before .before .before .before .before .before .before .before .before .before .before .before .before .before .before .before .pre .1 .1 .1 .0 .long }, omega (arith, c .before .before .before .before .before .before .before .before .before .before .before .before .before .before .before .before .before .before .before .before .before .pre .1 .1 .1 .1, loop-left _ (c .before .before .before .before .before .before .before .before .before .before .before .before .before .before .in-loop .ensures), loop-inside _ (c .before .before .before .before .before .before .before .before .before .before .before .before .before .before .in-loop .ensures)))))))  -- loop-body-sequence-requires
+    (λ c κs. (c .before .before .before .before .before .before .before .before .before .before .before .sequence .ensures .slots .size, omega (arith, c .before .before .before .before .before .before .before .before .before .before .before .before .before .before .before .before .before .before .before .before .before .before .before .before .before .before .before .before .before .before .before .before .before .pre .1 .1 .1 .1)))  -- loop-body-next-used-requires
     (λ c κs. (c .before .before .before .before .before .before .before .before .before .before .before .before .before .sequence .ensures .filled .ready .fine, c .before .before .before .before .before .before .before .before .before .before .before .before .before .sequence .ensures .filled .ready .slots))  -- loop-body-bind-next-requires
     (λ c. c .before .before .before .before .before .before .before .before .before .before .before .before .before .before .before .before .sequence .ensures .filled .ready .room ∙ sym (c .before .before .before .before .before .before .before .before .before .before .before .before .before .before .before .before .before .before .before .before .before .before .before .before .before .before .before .before .before .before .before .before .before .before .before .before .before .before .pre .1 .1 .1 .0 .room))  -- loop-body-same-length
     (λ c. c .before .before .bind-next .ensures .slots ∙ sym (c .before .before .before .before .before .before .before .before .before .before .before .before .before .before .before .before .before .before .before .before .before .before .before .before .before .before .before .before .before .before .before .before .before .before .before .before .before .before .pre .1 .1 .1 .0 .slots))  -- loop-body-same-length-2
     (λ c. c .before .before .before .before .before .before .before .before .before .before .before .before .before .before .before .before .sequence .ensures .filled .ready .long ∙ sym (c .before .before .before .before .before .before .before .before .before .before .before .before .before .before .before .before .before .before .before .before .before .before .before .before .before .before .before .before .before .before .before .before .before .before .before .before .before .before .pre .1 .1 .1 .0 .long))  -- loop-body-same-length-3
-    (λ c. c .before .before .before .before .before .before .before .before .before .before .before .before .before .before .before .before .sequence .ensures .slots ∙ sym (c .before .before .before .before .before .before .before .before .before .before .before .before .before .before .before .before .before .before .before .before .before .before .before .before .before .before .before .before .before .before .before .before .before .before .before .before .before .before .pre .1 .0))  -- loop-body-same-length-4
+    (λ c. c .before .before .before .before .before .before .before .before .before .before .before .before .before .before .before .before .sequence .ensures .slots .size ∙ sym (c .before .before .before .before .before .before .before .before .before .before .before .before .before .before .before .before .before .before .before .before .before .before .before .before .before .before .before .before .before .before .before .before .before .before .before .before .before .before .pre .1 .0 .size))  -- loop-body-same-length-4
     (λ c. body-done _ _ _ _ _ _ _ (c .before .before .before .before .before .before .before .before .before .before .before .before .before .before .before .before .before .before .before .before .before .before .before .before .before .before .before .before .before .before .before .in-loop .ensures) (c .before .before .before .before .before .before .before .before .before .before .before .before .before .before .before .before .before .before .before .before .before .before .before .before .before .before .before .before .before .before .before .before .before .before .before .before .before .before .pre .1 .1 .1 .0) (c .before .before .before .before .before .before .before .before .before .before .before .before .before .before .before .before .before .before .before .before .before .before .before .before .before .before .before .before .before .create-label .ensures) (c .before .before .before .before .before .before .before .before .before .before .before .before .before .before .before .before .before .before .before .before .before .before .before .open-loop .ensures) (nested _ (c .before .before .before .before .before .before .before .before .before .before .before .before .before .before .before .before .sequence .ensures)) (c .before .before .before .before .next-used .ensures) (c .before .before .bind-next .ensures)))  -- loop-body-returns
     (λ t. plain-lts.spec (
       create-label-reads.Asked,
@@ -512,7 +513,7 @@ pub +arm+arms+case+else-+for-+if-+loop-+loop-body+plain+repeat+sequence+stmt+whi
     (λ c. c .before .before .before .before .before .before .before .before .emit-jmp .ensures .room ∙ sym (c .before .before .before .before .before .before .before .before .before .before .before .before .before .before .before .before .before .before .before .before .before .before .before .before .before .before .before .before .before .before .before .before .before .before .before .before .before .before .before .before .before .before .before .before .before .before .before .before .before .before .before .before .before .before .before .before .before .before .before .before .before .before .before .pre .1 .1 .1 .0 .room))  -- plain-same-length
     (λ c. c .before .before .bind-label2 .ensures .slots ∙ sym (c .before .before .before .before .before .before .before .before .before .before .before .before .before .before .before .before .before .before .before .before .before .before .before .before .before .before .before .before .before .before .before .before .before .before .before .before .before .before .before .before .before .before .before .before .before .before .before .before .before .before .before .before .before .before .before .before .before .before .before .before .before .before .before .pre .1 .1 .1 .0 .slots))  -- plain-same-length-2
     (λ c. c .before .before .before .before .before .before .before .before .before .before .before .before .before .before .before .before .before .before .before .before .before .sequence .ensures .filled .ready .long ∙ sym (c .before .before .before .before .before .before .before .before .before .before .before .before .before .before .before .before .before .before .before .before .before .before .before .before .before .before .before .before .before .before .before .before .before .before .before .before .before .before .before .before .before .before .before .before .before .before .before .before .before .before .before .before .before .before .before .before .before .before .before .before .before .before .before .pre .1 .1 .1 .0 .long))  -- plain-same-length-3
-    (λ c. c .before .before .before .before .before .before .before .before .before .before .before .before .before .before .before .before .before .before .before .before .before .sequence .ensures .slots ∙ sym (c .before .before .before .before .before .before .before .before .before .before .before .before .before .before .before .before .before .before .before .before .before .before .before .before .before .before .before .before .before .before .before .before .before .before .before .before .before .before .before .before .before .before .before .before .before .before .before .before .before .before .before .before .before .before .before .before .before .before .before .before .before .before .before .pre .1 .0))  -- plain-same-length-4
+    (λ c. c .before .before .before .before .before .before .before .before .before .before .before .before .before .before .before .before .before .before .before .before .before .sequence .ensures .slots .size ∙ sym (c .before .before .before .before .before .before .before .before .before .before .before .before .before .before .before .before .before .before .before .before .before .before .before .before .before .before .before .before .before .before .before .before .before .before .before .before .before .before .before .before .before .before .before .before .before .before .before .before .before .before .before .before .before .before .before .before .before .before .before .before .before .before .before .pre .1 .0 .size))  -- plain-same-length-4
     (λ c. plain-done _ _ _ _ _ _ _ (c .before .before .before .before .before .before .before .before .before .before .before .before .before .before .before .before .before .before .before .before .before .before .before .before .before .before .before .before .before .before .before .before .before .before .before .before .before .before .before .before .before .before .before .before .before .before .before .before .before .before .before .before .before .before .before .before .before .before .before .before .before .before .before .pre .1 .1 .1 .0) (c .before .before .before .before .before .before .before .before .before .before .before .before .before .before .before .before .before .before .before .before .before .before .before .before .before .before .before .before .before .before .before .before .before .before .before .before .before .before .before .before .before .before .before .before .before .before .before .before .before .before .before .before .before .before .before .create-label .ensures) (c .before .before .before .before .before .before .before .before .before .before .before .before .before .before .before .before .before .before .before .before .before .before .before .before .before .before .before .before .before .before .before .before .before .before .before .before .before .before .before .before .before .before .before .before .before .before .before .before .before .create-label2 .ensures) (c .before .before .before .before .before .before .before .before .before .before .before .before .before .before .before .before .before .before .before .before .before .before .before .before .before .before .before .before .before .before .before .before .before .before .before .before .before .before .before .before .before .before .before .bind-label .ensures) (c .before .before .before .before .before .before .before .before .before .before .before .before .before .before .before .before .before .before .before .before .before .before .before .before .before .before .before .before .before .before .before .before .before .before .before .before .loop-body .ensures) (nested _ (c .before .before .before .before .before .before .before .before .before .before .before .before .before .before .before .before .before .before .before .before .before .sequence .ensures)) (c .before .before .before .before .before .before .before .before .emit-jmp .ensures) (c .before .before .bind-label2 .ensures)))  -- plain-returns
     (λ t. repeat-lts.spec (
       inner-reads.Asked,
@@ -541,7 +542,7 @@ pub +arm+arms+case+else-+for-+if-+loop-+loop-body+plain+repeat+sequence+stmt+whi
     (λ c. c .before .before .before .before .before .before .before .before .before .before .before .branch-unless .ensures .ready .room ∙ sym (c .before .before .before .before .before .before .before .before .before .before .before .before .before .before .before .before .before .before .before .before .before .before .before .before .before .before .before .before .before .before .before .before .before .before .before .before .before .before .before .before .before .before .before .before .before .before .before .before .before .before .before .before .before .before .before .before .pre .1 .1 .1 .1 .1 .0 .room))  -- repeat-same-length
     (λ c. c .before .before .bind-label2 .ensures .slots ∙ sym (c .before .before .before .before .before .before .before .before .before .before .before .before .before .before .before .before .before .before .before .before .before .before .before .before .before .before .before .before .before .before .before .before .before .before .before .before .before .before .before .before .before .before .before .before .before .before .before .before .before .before .before .before .before .before .before .before .pre .1 .1 .1 .1 .1 .0 .slots))  -- repeat-same-length-2
     (λ c. c .before .before .before .before .before .before .before .before .before .before .before .branch-unless .ensures .ready .long ∙ sym (c .before .before .before .before .before .before .before .before .before .before .before .before .before .before .before .before .before .before .before .before .before .before .before .before .before .before .before .before .before .before .before .before .before .before .before .before .before .before .before .before .before .before .before .before .before .before .before .before .before .before .before .before .before .before .before .before .pre .1 .1 .1 .1 .1 .0 .long))  -- repeat-same-length-3
-    (λ c. c .before .before .before .before .before .before .before .before .before .before .before .before .before .before .before .before .before .before .before .before .before .before .before .before .loop-body .ensures .slots ∙ sym (c .before .before .before .before .before .before .before .before .before .before .before .before .before .before .before .before .before .before .before .before .before .before .before .before .before .before .before .before .before .before .before .before .before .before .before .before .before .before .before .before .before .before .before .before .before .before .before .before .before .before .before .before .before .before .before .before .pre .1 .0))  -- repeat-same-length-4
+    (λ c. c .before .before .before .before .before .before .before .before .before .before .before .before .before .before .before .before .before .before .before .before .before .before .before .before .loop-body .ensures .slots .size ∙ sym (c .before .before .before .before .before .before .before .before .before .before .before .before .before .before .before .before .before .before .before .before .before .before .before .before .before .before .before .before .before .before .before .before .before .before .before .before .before .before .before .before .before .before .before .before .before .before .before .before .before .before .before .before .before .before .before .before .pre .1 .0 .size))  -- repeat-same-length-4
     (λ c. repeat-done _ _ _ _ _ _ (c .before .before .before .before .before .before .before .before .before .before .before .before .before .before .before .before .before .before .before .before .before .before .before .before .before .before .before .before .before .before .before .before .before .before .before .before .before .before .before .before .before .before .before .before .before .before .before .before .before .inner .ensures) _ _ (c .before .before .before .before .before .before .before .before .before .before .before .before .before .before .before .before .before .before .before .before .before .before .before .before .before .before .before .before .before .before .before .before .before .before .before .before .before .before .before .before .before .before .before .before .before .before .before .before .before .before .before .before .before .before .before .before .pre .1 .1 .1 .1 .1 .0) (c .before .before .before .before .before .before .before .before .before .before .before .before .before .before .before .before .before .before .before .before .before .before .before .before .before .before .before .before .before .before .before .before .before .before .before .before .before .before .before .before .before .before .before .before .before .before .before .before .before .before .before .before .before .before .before .before .pre .1 .1 .1 .1 .0) (c .before .before .before .before .before .before .before .before .before .before .before .before .before .before .before .before .before .before .before .before .before .before .before .before .before .before .before .before .before .before .before .before .before .before .before .before .before .before .before .before .before .before .before .before .before .before .before .create-label .ensures) (c .before .before .before .before .before .before .before .before .before .before .before .before .before .before .before .before .before .before .before .before .before .before .before .before .before .before .before .before .before .before .before .before .before .before .before .before .before .before .before .before .before .create-label2 .ensures) (c .before .before .before .before .before .before .before .before .before .before .before .before .before .before .before .before .before .before .before .before .before .before .before .before .before .before .before .before .before .before .before .before .before .before .before .pool-first .ensures) (c .before .before .before .before .before .before .before .before .before .before .before .before .before .before .before .before .before .before .before .before .before .before .before .before .before .before .before .before .before .before .before .bind-label .ensures) (c .before .before .before .before .before .before .before .before .before .before .before .before .before .before .before .before .before .before .before .before .before .before .before .before .loop-body .ensures) (c .before .before .before .before .before .before .before .before .before .before .before .branch-unless .ensures) (c .before .before .bind-label2 .ensures)))  -- repeat-returns
     (λ t. sequence-lts.spec (
       read-stmt-reads.Asked,
@@ -565,7 +566,7 @@ pub +arm+arms+case+else-+for-+if-+loop-+loop-body+plain+repeat+sequence+stmt+whi
     (λ c. c .before .loop .inv .ready .room ∙ sym (c .before .before .before .before .before .before .before .before .pre .1 .1 .1 .0 .room))  -- sequence-same-length
     (λ c. c .before .loop .inv .ready .slots ∙ sym (c .before .before .before .before .before .before .before .before .pre .1 .1 .1 .0 .slots))  -- sequence-same-length-2
     (λ c. c .before .loop .inv .ready .long ∙ sym (c .before .before .before .before .before .before .before .before .pre .1 .1 .1 .0 .long))  -- sequence-same-length-3
-    (λ c. c .before .loop .inv .slots ∙ sym (c .before .before .before .before .before .before .before .before .pre .1 .0))  -- sequence-same-length-4
+    (λ c. c .before .loop .inv .slots .size ∙ sym (c .before .before .before .before .before .before .before .before .pre .1 .0 .size))  -- sequence-same-length-4
     (λ c. ends (c .before .loop .inv) (c .loop-test .left)))  -- sequence-returns
     (λ t. stmt-lts.spec (
       inner-reads.Asked,
@@ -595,17 +596,17 @@ pub +arm+arms+case+else-+for-+if-+loop-+loop-body+plain+repeat+sequence+stmt+whi
     (λ c. search needs)  -- stmt-enum-known-line
     (λ c κs. (c .before .before .before .before .before .before .before .before .before .before .before .before .before .pre .1 .1 .0, (line-there _ _ _ _ _ (sym (c .before .before .before .before .before .before .before .before .before .before .before .before .before .pre .1 .1 .1 .1 .1) ∙ ap stmtLine (c .before .before .before .before .line .given .1)) .0, (c .before .before .before .before .before .before .before .before .before .before .before .before .before .pre .1 .1 .1 .0, omega (arith, c .before .before .before .before .before .before .before .before .before .before .before .before .before .pre .1 .1 .1 .1 .0, inner-left _ (c .before .before .before .before .before .before .inner .ensures))))))  -- stmt-assign-requires
     (λ c. search needs)  -- stmt-enum-known-line-2
-    (λ c κs. (omega (arith, c .before .before .before .before .before .before .before .before .before .before .before .before .before .before .pre .0, line-there _ _ _ _ _ (sym (c .before .before .before .before .before .before .before .before .before .before .before .before .before .before .pre .1 .1 .1 .1 .1) ∙ ap stmtLine (c .before .before .before .before .before .line2 .given .1)) .1, inner-left _ (c .before .before .before .before .before .before .before .inner .ensures)), (c .before .before .before .before .before .before .before .before .before .before .before .before .before .before .pre .1 .0, (c .before .before .before .before .before .before .before .before .before .before .before .before .before .before .pre .1 .1 .0, (c .before .before .before .before .before .before .before .before .before .before .before .before .before .before .pre .1 .1 .1 .0, (omega (arith, c .before .before .before .before .before .before .before .before .before .before .before .before .before .before .pre .1 .1 .1 .1 .0, line-there _ _ _ _ _ (sym (c .before .before .before .before .before .before .before .before .before .before .before .before .before .before .pre .1 .1 .1 .1 .1) ∙ ap stmtLine (c .before .before .before .before .before .line2 .given .1)) .1, inner-left _ (c .before .before .before .before .before .before .before .inner .ensures), inner-inside _ (c .before .before .before .before .before .before .before .inner .ensures)), line-there _ _ _ _ _ (sym (c .before .before .before .before .before .before .before .before .before .before .before .before .before .before .pre .1 .1 .1 .1 .1) ∙ ap stmtLine (c .before .before .before .before .before .line2 .given .1)) .0))))))  -- stmt-if--requires
+    (λ c κs. (omega (arith, c .before .before .before .before .before .before .before .before .before .before .before .before .before .before .pre .0, line-there _ _ _ _ _ (sym (c .before .before .before .before .before .before .before .before .before .before .before .before .before .before .pre .1 .1 .1 .1 .1) ∙ ap stmtLine (c .before .before .before .before .before .line2 .given .1)) .1, inner-left _ (c .before .before .before .before .before .before .before .inner .ensures)), (inner-lent _ (c .before .before .before .before .before .before .before .inner .ensures) (c .before .before .before .before .before .before .before .before .before .before .before .before .before .before .pre .1 .0), (c .before .before .before .before .before .before .before .before .before .before .before .before .before .before .pre .1 .1 .0, (c .before .before .before .before .before .before .before .before .before .before .before .before .before .before .pre .1 .1 .1 .0, (omega (arith, c .before .before .before .before .before .before .before .before .before .before .before .before .before .before .pre .1 .1 .1 .1 .0, line-there _ _ _ _ _ (sym (c .before .before .before .before .before .before .before .before .before .before .before .before .before .before .pre .1 .1 .1 .1 .1) ∙ ap stmtLine (c .before .before .before .before .before .line2 .given .1)) .1, inner-left _ (c .before .before .before .before .before .before .before .inner .ensures), inner-inside _ (c .before .before .before .before .before .before .before .inner .ensures)), line-there _ _ _ _ _ (sym (c .before .before .before .before .before .before .before .before .before .before .before .before .before .before .pre .1 .1 .1 .1 .1) ∙ ap stmtLine (c .before .before .before .before .before .line2 .given .1)) .0))))))  -- stmt-if--requires
     (λ c. search needs)  -- stmt-enum-known-line-3
-    (λ c κs. (omega (arith, c .before .before .before .before .before .before .before .before .before .before .before .before .before .before .pre .0, line-there _ _ _ _ _ (sym (c .before .before .before .before .before .before .before .before .before .before .before .before .before .before .pre .1 .1 .1 .1 .1) ∙ ap stmtLine (c .before .before .before .before .before .line3 .given .1)) .1, inner-left _ (c .before .before .before .before .before .before .before .inner .ensures)), (c .before .before .before .before .before .before .before .before .before .before .before .before .before .before .pre .1 .0, (c .before .before .before .before .before .before .before .before .before .before .before .before .before .before .pre .1 .1 .0, (c .before .before .before .before .before .before .before .before .before .before .before .before .before .before .pre .1 .1 .1 .0, (omega (arith, c .before .before .before .before .before .before .before .before .before .before .before .before .before .before .pre .1 .1 .1 .1 .0, line-there _ _ _ _ _ (sym (c .before .before .before .before .before .before .before .before .before .before .before .before .before .before .pre .1 .1 .1 .1 .1) ∙ ap stmtLine (c .before .before .before .before .before .line3 .given .1)) .1, inner-left _ (c .before .before .before .before .before .before .before .inner .ensures), inner-inside _ (c .before .before .before .before .before .before .before .inner .ensures)), line-there _ _ _ _ _ (sym (c .before .before .before .before .before .before .before .before .before .before .before .before .before .before .pre .1 .1 .1 .1 .1) ∙ ap stmtLine (c .before .before .before .before .before .line3 .given .1)) .0))))))  -- stmt-case-requires
+    (λ c κs. (omega (arith, c .before .before .before .before .before .before .before .before .before .before .before .before .before .before .pre .0, line-there _ _ _ _ _ (sym (c .before .before .before .before .before .before .before .before .before .before .before .before .before .before .pre .1 .1 .1 .1 .1) ∙ ap stmtLine (c .before .before .before .before .before .line3 .given .1)) .1, inner-left _ (c .before .before .before .before .before .before .before .inner .ensures)), (inner-lent _ (c .before .before .before .before .before .before .before .inner .ensures) (c .before .before .before .before .before .before .before .before .before .before .before .before .before .before .pre .1 .0), (c .before .before .before .before .before .before .before .before .before .before .before .before .before .before .pre .1 .1 .0, (c .before .before .before .before .before .before .before .before .before .before .before .before .before .before .pre .1 .1 .1 .0, (omega (arith, c .before .before .before .before .before .before .before .before .before .before .before .before .before .before .pre .1 .1 .1 .1 .0, line-there _ _ _ _ _ (sym (c .before .before .before .before .before .before .before .before .before .before .before .before .before .before .pre .1 .1 .1 .1 .1) ∙ ap stmtLine (c .before .before .before .before .before .line3 .given .1)) .1, inner-left _ (c .before .before .before .before .before .before .before .inner .ensures), inner-inside _ (c .before .before .before .before .before .before .before .inner .ensures)), line-there _ _ _ _ _ (sym (c .before .before .before .before .before .before .before .before .before .before .before .before .before .before .pre .1 .1 .1 .1 .1) ∙ ap stmtLine (c .before .before .before .before .before .line3 .given .1)) .0))))))  -- stmt-case-requires
     (λ c. search needs)  -- stmt-enum-known-line-4
-    (λ c κs. (omega (arith, c .before .before .before .before .before .before .before .before .before .before .before .before .before .before .pre .0, line-there _ _ _ _ _ (sym (c .before .before .before .before .before .before .before .before .before .before .before .before .before .before .pre .1 .1 .1 .1 .1) ∙ ap stmtLine (c .before .before .before .before .before .line4 .given .1)) .1, inner-left _ (c .before .before .before .before .before .before .before .inner .ensures)), (c .before .before .before .before .before .before .before .before .before .before .before .before .before .before .pre .1 .0, (c .before .before .before .before .before .before .before .before .before .before .before .before .before .before .pre .1 .1 .0, (c .before .before .before .before .before .before .before .before .before .before .before .before .before .before .pre .1 .1 .1 .0, (omega (arith, c .before .before .before .before .before .before .before .before .before .before .before .before .before .before .pre .1 .1 .1 .1 .0, line-there _ _ _ _ _ (sym (c .before .before .before .before .before .before .before .before .before .before .before .before .before .before .pre .1 .1 .1 .1 .1) ∙ ap stmtLine (c .before .before .before .before .before .line4 .given .1)) .1, inner-left _ (c .before .before .before .before .before .before .before .inner .ensures), inner-inside _ (c .before .before .before .before .before .before .before .inner .ensures)), line-there _ _ _ _ _ (sym (c .before .before .before .before .before .before .before .before .before .before .before .before .before .before .pre .1 .1 .1 .1 .1) ∙ ap stmtLine (c .before .before .before .before .before .line4 .given .1)) .0))))))  -- stmt-for--requires
+    (λ c κs. (omega (arith, c .before .before .before .before .before .before .before .before .before .before .before .before .before .before .pre .0, line-there _ _ _ _ _ (sym (c .before .before .before .before .before .before .before .before .before .before .before .before .before .before .pre .1 .1 .1 .1 .1) ∙ ap stmtLine (c .before .before .before .before .before .line4 .given .1)) .1, inner-left _ (c .before .before .before .before .before .before .before .inner .ensures)), (inner-lent _ (c .before .before .before .before .before .before .before .inner .ensures) (c .before .before .before .before .before .before .before .before .before .before .before .before .before .before .pre .1 .0), (c .before .before .before .before .before .before .before .before .before .before .before .before .before .before .pre .1 .1 .0, (c .before .before .before .before .before .before .before .before .before .before .before .before .before .before .pre .1 .1 .1 .0, (omega (arith, c .before .before .before .before .before .before .before .before .before .before .before .before .before .before .pre .1 .1 .1 .1 .0, line-there _ _ _ _ _ (sym (c .before .before .before .before .before .before .before .before .before .before .before .before .before .before .pre .1 .1 .1 .1 .1) ∙ ap stmtLine (c .before .before .before .before .before .line4 .given .1)) .1, inner-left _ (c .before .before .before .before .before .before .before .inner .ensures), inner-inside _ (c .before .before .before .before .before .before .before .inner .ensures)), line-there _ _ _ _ _ (sym (c .before .before .before .before .before .before .before .before .before .before .before .before .before .before .pre .1 .1 .1 .1 .1) ∙ ap stmtLine (c .before .before .before .before .before .line4 .given .1)) .0))))))  -- stmt-for--requires
     (λ c. search needs)  -- stmt-enum-known-line-5
-    (λ c κs. (omega (arith, c .before .before .before .before .before .before .before .before .before .before .before .before .before .before .pre .0, line-there _ _ _ _ _ (sym (c .before .before .before .before .before .before .before .before .before .before .before .before .before .before .pre .1 .1 .1 .1 .1) ∙ ap stmtLine (c .before .before .before .before .before .line5 .given .1)) .1, inner-left _ (c .before .before .before .before .before .before .before .inner .ensures)), (c .before .before .before .before .before .before .before .before .before .before .before .before .before .before .pre .1 .0, (c .before .before .before .before .before .before .before .before .before .before .before .before .before .before .pre .1 .1 .0, (c .before .before .before .before .before .before .before .before .before .before .before .before .before .before .pre .1 .1 .1 .0, (omega (arith, c .before .before .before .before .before .before .before .before .before .before .before .before .before .before .pre .1 .1 .1 .1 .0, line-there _ _ _ _ _ (sym (c .before .before .before .before .before .before .before .before .before .before .before .before .before .before .pre .1 .1 .1 .1 .1) ∙ ap stmtLine (c .before .before .before .before .before .line5 .given .1)) .1, inner-left _ (c .before .before .before .before .before .before .before .inner .ensures), inner-inside _ (c .before .before .before .before .before .before .before .inner .ensures)), line-there _ _ _ _ _ (sym (c .before .before .before .before .before .before .before .before .before .before .before .before .before .before .pre .1 .1 .1 .1 .1) ∙ ap stmtLine (c .before .before .before .before .before .line5 .given .1)) .0))))))  -- stmt-loop--requires
+    (λ c κs. (omega (arith, c .before .before .before .before .before .before .before .before .before .before .before .before .before .before .pre .0, line-there _ _ _ _ _ (sym (c .before .before .before .before .before .before .before .before .before .before .before .before .before .before .pre .1 .1 .1 .1 .1) ∙ ap stmtLine (c .before .before .before .before .before .line5 .given .1)) .1, inner-left _ (c .before .before .before .before .before .before .before .inner .ensures)), (inner-lent _ (c .before .before .before .before .before .before .before .inner .ensures) (c .before .before .before .before .before .before .before .before .before .before .before .before .before .before .pre .1 .0), (c .before .before .before .before .before .before .before .before .before .before .before .before .before .before .pre .1 .1 .0, (c .before .before .before .before .before .before .before .before .before .before .before .before .before .before .pre .1 .1 .1 .0, (omega (arith, c .before .before .before .before .before .before .before .before .before .before .before .before .before .before .pre .1 .1 .1 .1 .0, line-there _ _ _ _ _ (sym (c .before .before .before .before .before .before .before .before .before .before .before .before .before .before .pre .1 .1 .1 .1 .1) ∙ ap stmtLine (c .before .before .before .before .before .line5 .given .1)) .1, inner-left _ (c .before .before .before .before .before .before .before .inner .ensures), inner-inside _ (c .before .before .before .before .before .before .before .inner .ensures)), line-there _ _ _ _ _ (sym (c .before .before .before .before .before .before .before .before .before .before .before .before .before .before .pre .1 .1 .1 .1 .1) ∙ ap stmtLine (c .before .before .before .before .before .line5 .given .1)) .0))))))  -- stmt-loop--requires
     (λ c. search needs)  -- stmt-enum-known-line-6
-    (λ c κs. (c .before .before .before .before .before .before .before .before .before .before .before .before .before .pre .1 .1 .0, (line-there _ _ _ _ _ (sym (c .before .before .before .before .before .before .before .before .before .before .before .before .before .pre .1 .1 .1 .1 .1) ∙ ap stmtLine (c .before .before .before .before .line6 .given .1)) .0, (c .before .before .before .before .before .before .before .before .before .before .before .before .before .pre .1 .1 .1 .0 .fine, (c .before .before .before .before .before .before .before .before .before .before .before .before .before .pre .1 .1 .1 .0 .room, (c .before .before .before .before .before .before .before .before .before .before .before .before .before .pre .1 .1 .1 .0 .slots, (c .before .before .before .before .before .before .before .before .before .before .before .before .before .pre .1 .0, omega (arith, c .before .before .before .before .before .before .before .before .before .before .before .before .before .pre .1 .1 .1 .1 .0, inner-inside _ (c .before .before .before .before .before .before .inner .ensures)))))))))  -- stmt-exit-requires
+    (λ c κs. (c .before .before .before .before .before .before .before .before .before .before .before .before .before .pre .1 .1 .0, (line-there _ _ _ _ _ (sym (c .before .before .before .before .before .before .before .before .before .before .before .before .before .pre .1 .1 .1 .1 .1) ∙ ap stmtLine (c .before .before .before .before .line6 .given .1)) .0, (c .before .before .before .before .before .before .before .before .before .before .before .before .before .pre .1 .1 .1 .0 .fine, (c .before .before .before .before .before .before .before .before .before .before .before .before .before .pre .1 .1 .1 .0 .room, (c .before .before .before .before .before .before .before .before .before .before .before .before .before .pre .1 .1 .1 .0 .slots, (c .before .before .before .before .before .before .before .before .before .before .before .before .before .pre .1 .0 .size, omega (arith, c .before .before .before .before .before .before .before .before .before .before .before .before .before .pre .1 .1 .1 .1 .0, inner-inside _ (c .before .before .before .before .before .before .inner .ensures)))))))))  -- stmt-exit-requires
     (λ c. search needs)  -- stmt-enum-known-line-7
-    (λ c κs. (c .before .before .before .before .before .before .before .before .before .before .before .before .before .pre .1 .1 .0, (line-there _ _ _ _ _ (sym (c .before .before .before .before .before .before .before .before .before .before .before .before .before .pre .1 .1 .1 .1 .1) ∙ ap stmtLine (c .before .before .before .before .line7 .given .1)) .0, (c .before .before .before .before .before .before .before .before .before .before .before .before .before .pre .1 .1 .1 .0 .fine, (c .before .before .before .before .before .before .before .before .before .before .before .before .before .pre .1 .1 .1 .0 .room, (c .before .before .before .before .before .before .before .before .before .before .before .before .before .pre .1 .1 .1 .0 .slots, (c .before .before .before .before .before .before .before .before .before .before .before .before .before .pre .1 .0, omega (arith, c .before .before .before .before .before .before .before .before .before .before .before .before .before .pre .1 .1 .1 .1 .0, inner-inside _ (c .before .before .before .before .before .before .inner .ensures)))))))))  -- stmt-continue--requires
+    (λ c κs. (c .before .before .before .before .before .before .before .before .before .before .before .before .before .pre .1 .1 .0, (line-there _ _ _ _ _ (sym (c .before .before .before .before .before .before .before .before .before .before .before .before .before .pre .1 .1 .1 .1 .1) ∙ ap stmtLine (c .before .before .before .before .line7 .given .1)) .0, (c .before .before .before .before .before .before .before .before .before .before .before .before .before .pre .1 .1 .1 .0 .fine, (c .before .before .before .before .before .before .before .before .before .before .before .before .before .pre .1 .1 .1 .0 .room, (c .before .before .before .before .before .before .before .before .before .before .before .before .before .pre .1 .1 .1 .0 .slots, (c .before .before .before .before .before .before .before .before .before .before .before .before .before .pre .1 .0 .size, omega (arith, c .before .before .before .before .before .before .before .before .before .before .before .before .before .pre .1 .1 .1 .1 .0, inner-inside _ (c .before .before .before .before .before .before .inner .ensures)))))))))  -- stmt-continue--requires
     (λ c. search needs)  -- stmt-enum-told
     (λ c κs. (c .before .before .before .before .before .before .before .before .before .before .before .pre .1 .1 .0, (line-there _ _ _ _ _ (sym (c .before .before .before .before .before .before .before .before .before .before .before .pre .1 .1 .1 .1 .1) ∙ ap stmtLine (c .before .before .enum-told .given .1)) .0, (c .before .before .before .before .before .before .before .before .before .before .before .pre .1 .1 .1 .0 .fine, (c .before .before .before .before .before .before .before .before .before .before .before .pre .1 .1 .1 .0 .room, c .before .before .before .before .before .before .before .before .before .before .before .pre .1 .1 .1 .0 .slots)))))  -- stmt-return--requires
     (λ c. search needs)  -- stmt-enum-known-line-8
@@ -617,22 +618,22 @@ pub +arm+arms+case+else-+for-+if-+loop-+loop-body+plain+repeat+sequence+stmt+whi
     (λ c. c .before .before .before .before .before .before .before .before .if- .ensures .filled .ready .room ∙ sym (c .before .before .before .before .before .before .before .before .before .before .before .before .before .before .before .before .before .before .before .before .before .before .before .pre .1 .1 .1 .0 .room))  -- stmt-same-length-4
     (λ c. c .before .before .before .before .before .before .before .before .if- .ensures .filled .ready .slots ∙ sym (c .before .before .before .before .before .before .before .before .before .before .before .before .before .before .before .before .before .before .before .before .before .before .before .pre .1 .1 .1 .0 .slots))  -- stmt-same-length-5
     (λ c. c .before .before .before .before .before .before .before .before .if- .ensures .filled .ready .long ∙ sym (c .before .before .before .before .before .before .before .before .before .before .before .before .before .before .before .before .before .before .before .before .before .before .before .pre .1 .1 .1 .0 .long))  -- stmt-same-length-6
-    (λ c. c .before .before .before .before .before .before .before .before .if- .ensures .slots ∙ sym (c .before .before .before .before .before .before .before .before .before .before .before .before .before .before .before .before .before .before .before .before .before .before .before .pre .1 .0))  -- stmt-same-length-7
+    (λ c. c .before .before .before .before .before .before .before .before .if- .ensures .slots .size ∙ sym (c .before .before .before .before .before .before .before .before .before .before .before .before .before .before .before .before .before .before .before .before .before .before .before .pre .1 .0 .size))  -- stmt-same-length-7
     (λ c. ran-if _ _ _ _ (c .before .before .before .before .before .before .before .before .before .before .before .before .before .before .before .before .inner .ensures) _ _ _ (sym (c .before .before .before .before .before .before .before .before .before .before .before .before .before .before .before .before .before .before .before .before .before .before .before .pre .1 .1 .1 .1 .1) ∙ ap stmtLine (c .before .before .before .before .before .before .before .before .before .before .before .before .before .before .line2 .given .1)) (c .before .before .before .before .before .before .before .before .if- .ensures))  -- stmt-returns-2
     (λ c. c .before .before .before .before .before .before .before .before .case .ensures .filled .ready .room ∙ sym (c .before .before .before .before .before .before .before .before .before .before .before .before .before .before .before .before .before .before .before .before .before .before .before .pre .1 .1 .1 .0 .room))  -- stmt-same-length-8
     (λ c. c .before .before .before .before .before .before .before .before .case .ensures .filled .ready .slots ∙ sym (c .before .before .before .before .before .before .before .before .before .before .before .before .before .before .before .before .before .before .before .before .before .before .before .pre .1 .1 .1 .0 .slots))  -- stmt-same-length-9
     (λ c. c .before .before .before .before .before .before .before .before .case .ensures .filled .ready .long ∙ sym (c .before .before .before .before .before .before .before .before .before .before .before .before .before .before .before .before .before .before .before .before .before .before .before .pre .1 .1 .1 .0 .long))  -- stmt-same-length-10
-    (λ c. c .before .before .before .before .before .before .before .before .case .ensures .slots ∙ sym (c .before .before .before .before .before .before .before .before .before .before .before .before .before .before .before .before .before .before .before .before .before .before .before .pre .1 .0))  -- stmt-same-length-11
+    (λ c. c .before .before .before .before .before .before .before .before .case .ensures .slots .size ∙ sym (c .before .before .before .before .before .before .before .before .before .before .before .before .before .before .before .before .before .before .before .before .before .before .before .pre .1 .0 .size))  -- stmt-same-length-11
     (λ c. ran-case _ _ _ _ (c .before .before .before .before .before .before .before .before .before .before .before .before .before .before .before .before .inner .ensures) _ _ _ (sym (c .before .before .before .before .before .before .before .before .before .before .before .before .before .before .before .before .before .before .before .before .before .before .before .pre .1 .1 .1 .1 .1) ∙ ap stmtLine (c .before .before .before .before .before .before .before .before .before .before .before .before .before .before .line3 .given .1)) (c .before .before .before .before .before .before .before .before .case .ensures))  -- stmt-returns-3
     (λ c. c .before .before .before .before .before .before .before .before .for- .ensures .filled .ready .room ∙ sym (c .before .before .before .before .before .before .before .before .before .before .before .before .before .before .before .before .before .before .before .before .before .before .before .pre .1 .1 .1 .0 .room))  -- stmt-same-length-12
     (λ c. c .before .before .before .before .before .before .before .before .for- .ensures .filled .ready .slots ∙ sym (c .before .before .before .before .before .before .before .before .before .before .before .before .before .before .before .before .before .before .before .before .before .before .before .pre .1 .1 .1 .0 .slots))  -- stmt-same-length-13
     (λ c. c .before .before .before .before .before .before .before .before .for- .ensures .filled .ready .long ∙ sym (c .before .before .before .before .before .before .before .before .before .before .before .before .before .before .before .before .before .before .before .before .before .before .before .pre .1 .1 .1 .0 .long))  -- stmt-same-length-14
-    (λ c. c .before .before .before .before .before .before .before .before .for- .ensures .slots ∙ sym (c .before .before .before .before .before .before .before .before .before .before .before .before .before .before .before .before .before .before .before .before .before .before .before .pre .1 .0))  -- stmt-same-length-15
+    (λ c. c .before .before .before .before .before .before .before .before .for- .ensures .slots .size ∙ sym (c .before .before .before .before .before .before .before .before .before .before .before .before .before .before .before .before .before .before .before .before .before .before .before .pre .1 .0 .size))  -- stmt-same-length-15
     (λ c. ran-for _ _ _ _ (c .before .before .before .before .before .before .before .before .before .before .before .before .before .before .before .before .inner .ensures) _ _ _ _ _ (sym (c .before .before .before .before .before .before .before .before .before .before .before .before .before .before .before .before .before .before .before .before .before .before .before .pre .1 .1 .1 .1 .1) ∙ ap stmtLine (c .before .before .before .before .before .before .before .before .before .before .before .before .before .before .line4 .given .1)) (c .before .before .before .before .before .before .before .before .for- .ensures))  -- stmt-returns-4
     (λ c. c .before .before .before .before .before .before .before .before .loop- .ensures .filled .ready .room ∙ sym (c .before .before .before .before .before .before .before .before .before .before .before .before .before .before .before .before .before .before .before .before .before .before .before .pre .1 .1 .1 .0 .room))  -- stmt-same-length-16
     (λ c. c .before .before .before .before .before .before .before .before .loop- .ensures .filled .ready .slots ∙ sym (c .before .before .before .before .before .before .before .before .before .before .before .before .before .before .before .before .before .before .before .before .before .before .before .pre .1 .1 .1 .0 .slots))  -- stmt-same-length-17
     (λ c. c .before .before .before .before .before .before .before .before .loop- .ensures .filled .ready .long ∙ sym (c .before .before .before .before .before .before .before .before .before .before .before .before .before .before .before .before .before .before .before .before .before .before .before .pre .1 .1 .1 .0 .long))  -- stmt-same-length-18
-    (λ c. c .before .before .before .before .before .before .before .before .loop- .ensures .slots ∙ sym (c .before .before .before .before .before .before .before .before .before .before .before .before .before .before .before .before .before .before .before .before .before .before .before .pre .1 .0))  -- stmt-same-length-19
+    (λ c. c .before .before .before .before .before .before .before .before .loop- .ensures .slots .size ∙ sym (c .before .before .before .before .before .before .before .before .before .before .before .before .before .before .before .before .before .before .before .before .before .before .before .pre .1 .0 .size))  -- stmt-same-length-19
     (λ c. ran-loop _ _ _ _ (c .before .before .before .before .before .before .before .before .before .before .before .before .before .before .before .before .inner .ensures) _ _ _ _ (sym (c .before .before .before .before .before .before .before .before .before .before .before .before .before .before .before .before .before .before .before .before .before .before .before .pre .1 .1 .1 .1 .1) ∙ ap stmtLine (c .before .before .before .before .before .before .before .before .before .before .before .before .before .before .line5 .given .1)) (c .before .before .before .before .before .before .before .before .loop- .ensures))  -- stmt-returns-5
     (λ c. c .before .before .before .before .exit .ensures .coded .room ∙ sym (c .before .before .before .before .before .before .before .before .before .before .before .before .before .before .before .before .before .before .pre .1 .1 .1 .0 .room))  -- stmt-same-length-20
     (λ c. c .before .before .before .before .exit .ensures .coded .slots ∙ sym (c .before .before .before .before .before .before .before .before .before .before .before .before .before .before .before .before .before .before .pre .1 .1 .1 .0 .slots))  -- stmt-same-length-21
@@ -640,8 +641,8 @@ pub +arm+arms+case+else-+for-+if-+loop-+loop-body+plain+repeat+sequence+stmt+whi
     (λ c. ran-exit _ _ _ _ (c .before .before .before .before .before .before .before .before .before .before .before .before .before .before .before .before .before .before .pre .1 .1 .1 .0) (c .before .before .before .before .before .before .before .before .before .before .before .inner .ensures) _ _ (c .before .before .before .before .before .before .before .before .before .before .before .before .before .before .before .before .before .before .pre .1 .0) (sym (c .before .before .before .before .before .before .before .before .before .before .before .before .before .before .before .before .before .before .pre .1 .1 .1 .1 .1) ∙ ap stmtLine (c .before .before .before .before .before .before .before .before .before .line6 .given .1)) (c .before .before .before .before .exit .ensures))  -- stmt-returns-6
     (λ c. c .before .before .before .before .before .before .continue- .ensures .stepped .coded .room ∙ sym (c .before .before .before .before .before .before .before .before .before .before .before .before .before .before .before .before .before .before .before .before .pre .1 .1 .1 .0 .room))  -- stmt-same-length-23
     (λ c. c .before .before .before .before .before .before .continue- .ensures .stepped .coded .slots ∙ sym (c .before .before .before .before .before .before .before .before .before .before .before .before .before .before .before .before .before .before .before .before .pre .1 .1 .1 .0 .slots))  -- stmt-same-length-24
-    (λ c. c .before .before .before .before .before .before .continue- .ensures .slots ∙ sym (c .before .before .before .before .before .before .before .before .before .before .before .before .before .before .before .before .before .before .before .before .pre .1 .0))  -- stmt-same-length-25
-    (λ c. ran-continue _ _ _ _ (c .before .before .before .before .before .before .before .before .before .before .before .before .before .before .before .before .before .before .before .before .pre .1 .1 .1 .0) (c .before .before .before .before .before .before .before .before .before .before .before .before .before .inner .ensures) _ _ (sym (c .before .before .before .before .before .before .before .before .before .before .before .before .before .before .before .before .before .before .before .before .pre .1 .1 .1 .1 .1) ∙ ap stmtLine (c .before .before .before .before .before .before .before .before .before .before .before .line7 .given .1)) (c .before .before .before .before .before .before .continue- .ensures))  -- stmt-returns-7
+    (λ c. c .before .before .before .before .before .before .continue- .ensures .behind .size ∙ sym (c .before .before .before .before .before .before .before .before .before .before .before .before .before .before .before .before .before .before .before .before .pre .1 .0 .size))  -- stmt-same-length-25
+    (λ c. ran-continue _ _ _ _ (c .before .before .before .before .before .before .before .before .before .before .before .before .before .before .before .before .before .before .before .before .pre .1 .1 .1 .0) (c .before .before .before .before .before .before .before .before .before .before .before .before .before .inner .ensures) _ _ (c .before .before .before .before .before .before .before .before .before .before .before .before .before .before .before .before .before .before .before .before .pre .1 .0) (sym (c .before .before .before .before .before .before .before .before .before .before .before .before .before .before .before .before .before .before .before .before .pre .1 .1 .1 .1 .1) ∙ ap stmtLine (c .before .before .before .before .before .before .before .before .before .before .before .line7 .given .1)) (c .before .before .before .before .before .before .continue- .ensures))  -- stmt-returns-7
     (λ c. c .before .before .before .before .return- .ensures .coded .room ∙ sym (c .before .before .before .before .before .before .before .before .before .before .before .before .before .before .before .before .pre .1 .1 .1 .0 .room))  -- stmt-same-length-26
     (λ c. c .before .before .before .before .return- .ensures .coded .slots ∙ sym (c .before .before .before .before .before .before .before .before .before .before .before .before .before .before .before .before .pre .1 .1 .1 .0 .slots))  -- stmt-same-length-27
     (λ c. ran-return _ _ _ _ (c .before .before .before .before .before .before .before .before .before .before .before .before .before .before .before .before .pre .1 .1 .1 .0) _ (c .before .before .before .before .before .before .before .before .before .before .before .before .before .before .before .before .pre .1 .0) (sym (c .before .before .before .before .before .before .before .before .before .before .before .before .before .before .before .before .pre .1 .1 .1 .1 .1) ∙ ap stmtLine (c .before .before .before .before .before .before .before .enum-told .given .1)) (c .before .before .before .before .return- .ensures))  -- stmt-returns-8
@@ -671,5 +672,5 @@ pub +arm+arms+case+else-+for-+if-+loop-+loop-body+plain+repeat+sequence+stmt+whi
     (λ c. c .before .before .before .before .before .before .before .before .before .before .while-end .ensures .ready .room ∙ sym (c .before .before .before .before .before .before .before .before .before .before .before .before .before .before .before .before .before .before .before .before .before .before .before .before .before .before .before .before .before .before .before .before .before .before .before .before .before .before .before .before .before .before .before .before .before .before .before .before .before .before .before .before .before .before .pre .1 .1 .1 .1 .0 .room))  -- while--same-length
     (λ c. c .before .before .bind-label .ensures .slots ∙ sym (c .before .before .before .before .before .before .before .before .before .before .before .before .before .before .before .before .before .before .before .before .before .before .before .before .before .before .before .before .before .before .before .before .before .before .before .before .before .before .before .before .before .before .before .before .before .before .before .before .before .before .before .before .before .before .pre .1 .1 .1 .1 .0 .slots))  -- while--same-length-2
     (λ c. c .before .before .before .before .before .before .before .before .before .before .while-end .ensures .ready .long ∙ sym (c .before .before .before .before .before .before .before .before .before .before .before .before .before .before .before .before .before .before .before .before .before .before .before .before .before .before .before .before .before .before .before .before .before .before .before .before .before .before .before .before .before .before .before .before .before .before .before .before .before .before .before .before .before .before .pre .1 .1 .1 .1 .0 .long))  -- while--same-length-3
-    (λ c. c .before .before .before .before .before .before .before .before .before .before .before .before .before .before .before .before .before .before .before .before .before .before .before .before .loop-body .ensures .slots ∙ sym (c .before .before .before .before .before .before .before .before .before .before .before .before .before .before .before .before .before .before .before .before .before .before .before .before .before .before .before .before .before .before .before .before .before .before .before .before .before .before .before .before .before .before .before .before .before .before .before .before .before .before .before .before .before .before .pre .1 .0))  -- while--same-length-4
+    (λ c. c .before .before .before .before .before .before .before .before .before .before .before .before .before .before .before .before .before .before .before .before .before .before .before .before .loop-body .ensures .slots .size ∙ sym (c .before .before .before .before .before .before .before .before .before .before .before .before .before .before .before .before .before .before .before .before .before .before .before .before .before .before .before .before .before .before .before .before .before .before .before .before .before .before .before .before .before .before .before .before .before .before .before .before .before .before .before .before .before .before .pre .1 .0 .size))  -- while--same-length-4
     (λ c. while-done _ _ _ _ _ _ (c .before .before .before .before .before .before .before .before .before .before .before .before .before .before .before .before .before .before .before .before .before .before .before .before .before .before .before .before .before .before .before .before .before .before .before .before .before .before .before .before .before .before .before .before .before .before .before .inner .ensures) _ (c .before .before .before .before .before .before .before .before .before .before .before .before .before .before .before .before .before .before .before .before .before .before .before .before .before .before .before .before .before .before .before .before .before .before .before .before .before .before .before .before .before .before .before .before .before .before .before .before .before .before .before .before .before .before .pre .1 .1 .1 .1 .0) (c .before .before .before .before .before .before .before .before .before .before .before .before .before .before .before .before .before .before .before .before .before .before .before .before .before .before .before .before .before .before .before .before .before .before .before .before .before .before .before .before .before .before .before .before .before .create-label .ensures) (c .before .before .before .before .before .before .before .before .before .before .before .before .before .before .before .before .before .before .before .before .before .before .before .before .before .before .before .before .before .before .before .before .before .before .before .before .before .while-head .ensures) (c .before .before .before .before .before .before .before .before .before .before .before .before .before .before .before .before .before .before .before .before .before .before .before .before .loop-body .ensures) (c .before .before .before .before .before .before .before .before .before .before .while-end .ensures) (c .before .before .bind-label .ensures))  -- while--returns
