@@ -1,2 +1,4 @@
+pub mod Coded
 pub mod Facts
 pub mod Lying
+pub mod Value

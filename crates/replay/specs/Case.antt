@@ -1,8 +1,50 @@
--- Where the parts of a case lie.
-use Prim.Native.Nat.{ℕ, _≤_, _<_}
+-- Stored answers as bytes: where the parts of a case lie, and what a case counts for.
+use Prim.Native.Nat.{ℕ, _+_, _≤_, _<_, min, suc}
+use mathlib.Core.Bool.{Bool, true, false, _&&_}
+use mathlib.Core.List.{List, [], _∷_}
+use lib.Dec.{eqb}
+use lib.ListN.{length, drop}
 use Rattle.replay.specs.declared.Case.{Case}
 
--- in n bytes, from a place on
+-- whether a text begins with these bytes
+unfoldable pub begins : List ℕ → List ℕ → Bool
+begins [] text = true
+begins (p ∷ ps) [] = false
+begins (p ∷ ps) (b ∷ bs) = eqb b p && begins ps bs
+
+abbrev pub lf : ℕ
+lf = 10
+
+-- the line ====
+abbrev pub separator : List ℕ
+separator = 61 ∷ 61 ∷ 61 ∷ 61 ∷ lf ∷ []
+
+-- how many bytes stand before the first separator line, or at all; whether the first one starts a line
+unfoldable pub partSize : Bool → List ℕ → ℕ
+partSize starts [] = 0
+partSize starts (b ∷ bs) = elim (starts && begins separator (b ∷ bs)) [ true ↦ 0 | false ↦ suc (partSize (eqb b lf) bs) ]
+
+unfoldable pub partEnd : List ℕ → ℕ → ℕ
+partEnd text from = from + partSize true (drop from text)
+
+-- behind the separator line that stands here, or the end
+unfoldable pub behind : List ℕ → ℕ → ℕ
+behind text at = min (at + length separator) (length text)
+
+-- the case that starts here: its input up to a separator line, its answer up to the next
+unfoldable pub caseAt : List ℕ → ℕ → Case
+caseAt text at =
+    let end = partEnd text at in
+    let answer = behind text end in
+    let stop = partEnd text answer in
+    record { end = end; answer = answer; stop = stop; next = behind text stop }
+
+-- what a case counts for among those that differ
+unfoldable pub missing : Bool → ℕ
+missing true = 0
+missing false = 1
+
+-- the parts lie in n bytes, from a place on, and the next case lies ahead
 pub record Parts (n at : ℕ) (c : Case) : Type 0 where
   pub input : at ≤ c .end
   pub ends : c .end ≤ n

@@ -1,7 +1,4 @@
 -- Made by `answers` from crates/forms_test/answers/by_value.txt: edit that file, not this one.
-use mathlib.Core.Path.{sym}
-use native.Mathlib.Omega.{arith}
-use lib.Seq.{length-take-le}
 use borrow.Author.Needs.{needs}
 use Rattle.forms_test.proofs.by_value.Statement.{statement}
 use Rattle.forms_test.proofs.by_value.Tie as tie
@@ -16,7 +13,7 @@ by-value-spec =
     (λ c. search needs)  -- slice-aggregate-emit-stmts-3
     (λ c κs. search needs)  -- start-requires
     (λ c κs. search needs)  -- emit-stmts-requires
-    (λ c. search needs)  -- array-share-prefix-code
-    (λ c. sym (length-take-le _ _ (omega (arith, c .before .before .before .before .before .emit-stmts .ensures .ready .fine .size, c .before .before .before .before .before .emit-stmts .ensures .ready .room))))  -- slice-aggregate-print-bytes
-    (λ c κs. search needs)  -- print-bytes-requires
+    (λ c. search needs)  -- slice-aggregate-print-emitted
+    (λ c. search needs)  -- slice-aggregate-print-emitted-2
+    (λ c κs. search needs)  -- print-emitted-requires
     (λ c. search needs))  -- returns-2

@@ -1,7 +1,7 @@
--- `lent_emitter::load_constant` meets its contract: a walk of its MIR, by hand. The borrow is opened, the Emitter is copied out of it and passed to `Emitter::load_constant` with the slices, and what `Emitter::load_constant` returned is stored there and the borrow closed at it.
+-- `lent_emitter::Lent::load_constant` meets its contract: a walk of its MIR, by hand. The borrow is opened, the Lent is copied out of it and passed to `Emitter::load_constant` with the slices, and what `Emitter::load_constant` returned is stored there and the borrow closed at it.
 -- All that the proof knows of `Emitter::load_constant` is that it meets its contract. The steps are those of `tools/thin`.
 -- Assumes nothing.
-use mathlib.Core.Path.{_≡_, refl}
+use mathlib.Core.Path.{_≡_, refl, ap, subst}
 use Prim.Native.Nat.{ℕ, _<_, _^_}
 use mathlib.Core.List.{[], _∷_, List}
 use lib.ListN.{length}
@@ -18,13 +18,13 @@ use ghost.Atoms.{Atoms, sem}
 use contract.Monad.{Fun, fact}
 use contract.Running.{givenOf, tables, tablesOf}
 use types.Kit.{Given, Item, ‵, raw, _⊛_, ⋆, some, later, _$_, _∵_, !, qed, by, move, keep, drop, use1, split, join, pick, rewrite, fsplit, fsplit3, fjoin, fjoin3, feqL, feqI, suffices, frame, await, done}
-use types.Run.{look, look-raw, init, store-raw, forget, stop, hop, fld, from, load, addr, unit-lit, of-opd, and-then, no-more, assigns, land, returns, enter, alloc1, alloc0, params1, pass1, pass0, free1, free0}
-use types.Part.{agg, whole, sub, look-in}
+use types.Run.{look, init, forget, stop, hop, fld, from, load, addr, unit-lit, of-opd, and-then, no-more, assigns, land, returns, enter, alloc1, alloc0, params1, pass1, pass0, free1, free0}
+use types.Part.{agg, whole, sub, look-in, store-in}
 use types.SemTy.{Body}
 use sound.WpLaws.{FmC, fmOf, WpFn-mono}
 use denote.RattleType.{owns}
 use denote.Laws.{Is, shows}
-use denote.Memory.{mem}
+use denote.Memory.{mem, cellAt}
 use denote.Plain.{UInt, uint-vals, uint-tells, uint-makes, uint-lawful}
 use denote.Ref.{RefT, MutRef, ptr-vals, mut-tells}
 use denote.Slice.{sliceVal, MutSlice, ShrSlice, Room, finally, slice-vals, mut-slice-tells, shr-slice-tells, shr-slice-copy}
@@ -40,34 +40,38 @@ use denote.Triple.Clauses.{ensured, lasts}
 use denote.Triple.Table.{entered, cited}
 use denote.Triple.Walked.{says, needs, Stays, stay-ref, stay-none, stay-none-slice, gave-slice, walkOf, goes-ref, goes-none, goes-none-slice, goes-gave-slice, Walks, ends-at, walked, walk-meets}
 use denote.Exit.{yes}
+use Rattle.lent_emitter.proofs.Lying.{val, held, held-is, lent, lent-is}
+use Rattle.lent_emitter.specs.declared.Lent.{Lent}
 use Rattle.emit.specs.declared.Emitter.{Emitter}
 use Rattle.definition.specs.Emit.{act, loadConstant}
 use Rattle.opcode.specs.Table.{sheetIn}
 use Rattle.emit.specs.View.{world}
 use Rattle.emit.specs.Steps.{Ready, Filled}
-use Rattle.emit.proofs.Emitter as T
-use Rattle.emit.proofs.Emitter.Laws as T′
+use Rattle.lent_emitter.proofs.Lent as T
+use Rattle.lent_emitter.proofs.Lent.Laws as T′
+use Rattle.emit.proofs.Emitter as E
+use Rattle.emit.proofs.Emitter.Laws as E′
 use Rattle.emit.proofs.Emitter.load_constant as core
 use Rattle.emit.proofs.Emitter.load_constant.Symbol as core-def
 use Rattle.emit.proofs.Emitter.load_constant.Symbol.{name as #core}
 use Rattle.emit.proofs.Emitter.load_constant.Met as core-thm
-use Rattle.lent_emitter.proofs.load_constant.Key.{name as #thin}
-use Rattle.lent_emitter.proofs.load_constant as f
-use Rattle.lent_emitter.proofs.load_constant.Statement as stated
-use Rattle.lent_emitter.proofs.load_constant.Code as the-code
+use Rattle.lent_emitter.proofs.Lent.load_constant.Key.{name as #thin}
+use Rattle.lent_emitter.proofs.Lent.load_constant as f
+use Rattle.lent_emitter.proofs.Lent.load_constant.Statement as stated
+use Rattle.lent_emitter.proofs.Lent.load_constant.Code as the-code
 
 abbrev stayed : Stays (f.ended .signature .params) (f.ended .kept)
 stayed = (stay-ref (0 ∷ []) tt (plain (λ _. T.the-row)), (stay-none-slice (1 ∷ []) tt (plain (λ _. UInt w8)) yes, (gave-slice (2 ∷ []) tt (plain (λ _. UInt w8)), (gave-slice (3 ∷ []) tt (plain (λ _. UInt w16)), (gave-slice (4 ∷ []) tt (plain (λ _. UInt w32)), (stay-none (λ _. UInt w32) yes, tt))))))
 
 -- what `Emitter::load_constant` requires
-abbrev Fine : Emitter → List ℕ → List ℕ → List ℕ → List ℕ → ℕ → Type 0
-Fine h sheet code book pool k = Ready (world h code book pool)
+abbrev Fine : Lent → List ℕ → List ℕ → List ℕ → List ℕ → ℕ → Type 0
+Fine h sheet code book pool k = Ready (world (h .emitter) code book pool)
 
 -- the contract that the proof cites
 abbrev Callee : {M : Type 1} (𝓤 : URA M) (H : Heap 𝓤) (A : Atoms 𝓤) (at-mem : Memory → SProp 𝓤) (run : Routine → Fun 𝓤) → Contract 𝓤
 Callee 𝓤 H A at-mem run = tripleOf 𝓤 H A core.signature (core.spec 𝓤 H A at-mem run)
 
-module _ {M : Type 1} (𝓤 : URA M) (H : Heap 𝓤) (A : Atoms 𝓤) (W : Given 𝓤 H A) (at-mem : Memory → SProp 𝓤) (run : Routine → Fun 𝓤) (κ₀ κ₁ κ₂ κ₃ κ₄ : Lft) (q₀ q₁ q₂ q₃ q₄ : Share) (b₀ o₀ : ℕ) (γ₀ : GName) (h : Emitter) (b₁ o₁ : ℕ) (γ₁ : GName) (sheet : List ℕ) (sheet-room : Room (UInt w8) (length sheet)) (b₂ o₂ : ℕ) (γ₂ : GName) (code : List ℕ) (code-room : Room (UInt w8) (length code)) (b₃ o₃ : ℕ) (γ₃ : GName) (book : List ℕ) (book-room : Room (UInt w16) (length book)) (b₄ o₄ : ℕ) (γ₄ : GName) (pool : List ℕ) (pool-room : Room (UInt w32) (length pool)) (k : ℕ) (k-fits : k < 2 ^ 32) where
+module _ {M : Type 1} (𝓤 : URA M) (H : Heap 𝓤) (A : Atoms 𝓤) (W : Given 𝓤 H A) (at-mem : Memory → SProp 𝓤) (run : Routine → Fun 𝓤) (κ₀ κ₁ κ₂ κ₃ κ₄ : Lft) (q₀ q₁ q₂ q₃ q₄ : Share) (b₀ o₀ : ℕ) (γ₀ : GName) (h : Lent) (b₁ o₁ : ℕ) (γ₁ : GName) (sheet : List ℕ) (sheet-room : Room (UInt w8) (length sheet)) (b₂ o₂ : ℕ) (γ₂ : GName) (code : List ℕ) (code-room : Room (UInt w8) (length code)) (b₃ o₃ : ℕ) (γ₃ : GName) (book : List ℕ) (book-room : Room (UInt w16) (length book)) (b₄ o₄ : ℕ) (γ₄ : GName) (pool : List ℕ) (pool-room : Room (UInt w32) (length pool)) (k : ℕ) (k-fits : k < 2 ^ 32) where
   abbrev x₁ : RefT (List ℕ)
   x₁ = record { ptr = (b₁, o₁); name = γ₁; now = sheet }
 
@@ -93,10 +97,10 @@ module _ {M : Type 1} (𝓤 : URA M) (H : Heap 𝓤) (A : Atoms 𝓤) (W : Given
   s₄ = sliceVal (b₄, o₄) (length pool)
 
   abbrev mach : Val
-  mach = LL.val T.the-type T′.the-laws h
+  mach = held (h .emitter)
 
   abbrev Arg : Type 0
-  Arg = (RefT Emitter × (RefT (List ℕ) × (RefT (List ℕ) × (RefT (List ℕ) × (RefT (List ℕ) × (ℕ × Unit {0}))))))
+  Arg = (RefT Lent × (RefT (List ℕ) × (RefT (List ℕ) × (RefT (List ℕ) × (RefT (List ℕ) × (ℕ × Unit {0}))))))
 
   abbrev a : Arg
   a = (record { ptr = (b₀, o₀); name = γ₀; now = h }, (x₁, (x₂, (x₃, (x₄, (k, tt))))))
@@ -106,21 +110,21 @@ module _ {M : Type 1} (𝓤 : URA M) (H : Heap 𝓤) (A : Atoms 𝓤) (W : Given
 
   -- what `Emitter::load_constant` ensures of its result and the last lists
   abbrev Done : Emitter → List ℕ → List ℕ → List ℕ → Type 0
-  Done r code′ book′ pool′ = Filled (act (sheetIn sheet) (loadConstant k)) (world h code book pool) (world r code′ book′ pool′)
+  Done r code′ book′ pool′ = Filled (act (sheetIn sheet) (loadConstant k)) (world (h .emitter) code book pool) (world r code′ book′ pool′)
 
   abbrev Post : Val → SProp 𝓤
   Post = walkOf 𝓤 H A f.ended stayed (f.clauses 𝓤 H A at-mem run) .post (((κ₀, (κ₁, (κ₂, (κ₃, (κ₄, tt))))), (q₀, (q₁, (q₂, (q₃, (q₄, tt))))), tt, a, at), tt)
 
   exits : (r : Emitter) (code′ : List ℕ) (book′ : List ℕ) (pool′ : List ℕ) → Done r code′ book′ pool′ → length code′ ≡ length code → length book′ ≡ length book → length pool′ ≡ length pool
-      → ent 𝓤 (⋆ 𝓤 H A (‵ (fobs γ₀ (T.the-row .coded .code (r))) ∷ ‵ (fbor κ₀ (Body (mem T.the-row) b₀ o₀ γ₀)) ∷ ‵ (flft κ₀ q₀) ∷ (‵ (flft κ₁ q₁) ⊛ ‵ (flft κ₂ q₂) ⊛ ‵ (flft κ₃ q₃) ⊛ ‵ (flft κ₄ q₄) ⊛ ‵ ftrue) ∷ ‵ (finally (UInt w8) γ₂ code′) ∷ ‵ (finally (UInt w16) γ₃ book′) ∷ ‵ (finally (UInt w32) γ₄ pool′) ∷ ‵ (ShrSlice (named 1) κ₁ (UInt w8) .own x₁ (s₁ ∷ [])) ∷ [])) (Post (vunit))
+      → ent 𝓤 (⋆ 𝓤 H A (‵ (fobs γ₀ (T.the-row .coded .code (lent (r)))) ∷ ‵ (fbor κ₀ (Body (mem T.the-row) b₀ o₀ γ₀)) ∷ ‵ (flft κ₀ q₀) ∷ (‵ (flft κ₁ q₁) ⊛ ‵ (flft κ₂ q₂) ⊛ ‵ (flft κ₃ q₃) ⊛ ‵ (flft κ₄ q₄) ⊛ ‵ ftrue) ∷ ‵ (finally (UInt w8) γ₂ code′) ∷ ‵ (finally (UInt w16) γ₃ book′) ∷ ‵ (finally (UInt w32) γ₄ pool′) ∷ ‵ (ShrSlice (named 1) κ₁ (UInt w8) .own x₁ (s₁ ∷ [])) ∷ [])) (Post (vunit))
   exits r code′ book′ pool′ d l₂ l₃ l₄ =
-      qed W (‵ (fobs γ₀ (T.the-row .coded .code (r))) ∷ ‵ (fbor κ₀ (Body (mem T.the-row) b₀ o₀ γ₀)) ∷ ‵ (flft κ₀ q₀) ∷ (‵ (flft κ₁ q₁) ⊛ ‵ (flft κ₂ q₂) ⊛ ‵ (flft κ₃ q₃) ⊛ ‵ (flft κ₄ q₄) ⊛ ‵ ftrue) ∷ ‵ (finally (UInt w8) γ₂ code′) ∷ ‵ (finally (UInt w16) γ₃ book′) ∷ ‵ (finally (UInt w32) γ₄ pool′) ∷ ‵ (ShrSlice (named 1) κ₁ (UInt w8) .own x₁ (s₁ ∷ [])) ∷ []) ∵
-      suffices ! _ (ends-at 𝓤 H A f.ended stayed (f.clauses 𝓤 H A at-mem run) W (((κ₀, (κ₁, (κ₂, (κ₃, (κ₄, tt))))), (q₀, (q₁, (q₂, (q₃, (q₄, tt))))), tt, a, at), tt) (vunit) (tt) (r, (tt, (code′, (book′, (pool′, (tt, tt)))))) (tt, (tt, (l₂, (l₃, (l₄, (tt, tt))))))) $ says ! d $
+      qed W (‵ (fobs γ₀ (T.the-row .coded .code (lent (r)))) ∷ ‵ (fbor κ₀ (Body (mem T.the-row) b₀ o₀ γ₀)) ∷ ‵ (flft κ₀ q₀) ∷ (‵ (flft κ₁ q₁) ⊛ ‵ (flft κ₂ q₂) ⊛ ‵ (flft κ₃ q₃) ⊛ ‵ (flft κ₄ q₄) ⊛ ‵ ftrue) ∷ ‵ (finally (UInt w8) γ₂ code′) ∷ ‵ (finally (UInt w16) γ₃ book′) ∷ ‵ (finally (UInt w32) γ₄ pool′) ∷ ‵ (ShrSlice (named 1) κ₁ (UInt w8) .own x₁ (s₁ ∷ [])) ∷ []) ∵
+      suffices ! _ (ends-at 𝓤 H A f.ended stayed (f.clauses 𝓤 H A at-mem run) W (((κ₀, (κ₁, (κ₂, (κ₃, (κ₄, tt))))), (q₀, (q₁, (q₂, (q₃, (q₄, tt))))), tt, a, at), tt) (vunit) (tt) (lent (r), (tt, (code′, (book′, (pool′, (tt, tt)))))) (tt, (tt, (l₂, (l₃, (l₄, (tt, tt))))))) $ says ! d $
       move ! (2 ∷ 3 ∷ []) $ join ! $ frame ! $ feqI ! (List Val) (vptr b₀ o₀ ∷ []) (vptr b₀ o₀ ∷ []) refl $ fjoin3 ! $ nothing ! $ owned ! (UInt w32) (Is (UInt w32)) (uint-makes 𝓤 H A W w32) k _ (refl, k-fits) $ fjoin ! $ move ! (4 ∷ 0 ∷ []) $ fjoin ! $ move ! (3 ∷ 0 ∷ []) $ fjoin ! $ move ! (2 ∷ 0 ∷ []) $ fjoin ! $ move ! (2 ∷ 0 ∷ []) $ fjoin ! $ move ! (1 ∷ 0 ∷ []) $ fjoin ! $ feqI ! (List Val) (vunit ∷ []) (vunit ∷ []) refl $ move ! (1 ∷ 0 ∷ []) $ done !
 
   -- what `Emitter::load_constant`'s triple binds outside, and that the walk has what it asks: each slice goes to it at its own lifetime, share and name
   abbrev core-args : (Emitter × (RefT (List ℕ) × (RefT (List ℕ) × (RefT (List ℕ) × (RefT (List ℕ) × (ℕ × Unit {0}))))))
-  core-args = (h, (x₁, (x₂, (x₃, (x₄, (k, tt))))))
+  core-args = (h .emitter, (x₁, (x₂, (x₃, (x₄, (k, tt))))))
 
   abbrev core-κs : (Lft × (Lft × (Lft × (Lft × Unit {0}))))
   core-κs = (κ₁, (κ₂, (κ₃, (κ₄, tt))))
@@ -128,8 +132,11 @@ module _ {M : Type 1} (𝓤 : URA M) (H : Heap 𝓤) (A : Atoms 𝓤) (W : Given
   abbrev to-core : Callee 𝓤 H A at-mem run .Ghost
   to-core = ((core-κs, (q₁, (q₂, (q₃, (q₄, tt)))), tt, core-args, (mach ∷ [], (s₁ ∷ [], (s₂ ∷ [], (s₃ ∷ [], (s₄ ∷ [], (vint w32 k ∷ [], tt))))))), tt)
 
-  goes : Fine h sheet code book pool k → Is T.the-row h (mach ∷ []) → ent 𝓤 (⋆ 𝓤 H A (((‵ (flft κ₁ q₁) ⊛ ‵ (flft κ₂ q₂) ⊛ ‵ (flft κ₃ q₃) ⊛ ‵ (flft κ₄ q₄) ⊛ ‵ ftrue) ⊛ ‵ (ShrSlice (named 1) κ₁ (UInt w8) .own x₁ (s₁ ∷ [])) ⊛ ‵ (MutSlice (named 2) κ₂ (UInt w8) .own x₂ (s₂ ∷ [])) ⊛ ‵ (MutSlice (named 3) κ₃ (UInt w16) .own x₃ (s₃ ∷ [])) ⊛ ‵ (MutSlice (named 4) κ₄ (UInt w32) .own x₄ (s₄ ∷ []))) ∷ [])) (Callee 𝓤 H A at-mem run .pre to-core)
-  goes fine was = qed W (((‵ (flft κ₁ q₁) ⊛ ‵ (flft κ₂ q₂) ⊛ ‵ (flft κ₃ q₃) ⊛ ‵ (flft κ₄ q₄) ⊛ ‵ ftrue) ⊛ ‵ (ShrSlice (named 1) κ₁ (UInt w8) .own x₁ (s₁ ∷ [])) ⊛ ‵ (MutSlice (named 2) κ₂ (UInt w8) .own x₂ (s₂ ∷ [])) ⊛ ‵ (MutSlice (named 3) κ₃ (UInt w16) .own x₃ (s₃ ∷ [])) ⊛ ‵ (MutSlice (named 4) κ₄ (UInt w32) .own x₄ (s₄ ∷ []))) ∷ []) ∵ says ! fine $ split ! $ frame ! $ split ! $ move ! (1 ∷ []) $ split ! $ move ! (1 ∷ []) $ split ! $ move ! (1 ∷ []) $ nothing ! $ owned ! (UInt w32) (Is (UInt w32)) (uint-makes 𝓤 H A W w32) k _ (refl, k-fits) $ fjoin ! $ move ! (1 ∷ 0 ∷ []) $ fjoin ! $ move ! (1 ∷ 0 ∷ []) $ fjoin ! $ move ! (1 ∷ 0 ∷ []) $ fjoin ! $ move ! (1 ∷ 0 ∷ []) $ fjoin ! $ owned ! T.the-row (Is T.the-row) (LL.makes T.the-type T′.the-plain 𝓤 H A) h _ was $ fjoin ! $ done !
+  goes : Fine h sheet code book pool k → Is E.the-row (h .emitter) (mach ∷ []) → ent 𝓤 (⋆ 𝓤 H A (((‵ (flft κ₁ q₁) ⊛ ‵ (flft κ₂ q₂) ⊛ ‵ (flft κ₃ q₃) ⊛ ‵ (flft κ₄ q₄) ⊛ ‵ ftrue) ⊛ ‵ (ShrSlice (named 1) κ₁ (UInt w8) .own x₁ (s₁ ∷ [])) ⊛ ‵ (MutSlice (named 2) κ₂ (UInt w8) .own x₂ (s₂ ∷ [])) ⊛ ‵ (MutSlice (named 3) κ₃ (UInt w16) .own x₃ (s₃ ∷ [])) ⊛ ‵ (MutSlice (named 4) κ₄ (UInt w32) .own x₄ (s₄ ∷ []))) ∷ [])) (Callee 𝓤 H A at-mem run .pre to-core)
+  goes fine was = qed W (((‵ (flft κ₁ q₁) ⊛ ‵ (flft κ₂ q₂) ⊛ ‵ (flft κ₃ q₃) ⊛ ‵ (flft κ₄ q₄) ⊛ ‵ ftrue) ⊛ ‵ (ShrSlice (named 1) κ₁ (UInt w8) .own x₁ (s₁ ∷ [])) ⊛ ‵ (MutSlice (named 2) κ₂ (UInt w8) .own x₂ (s₂ ∷ [])) ⊛ ‵ (MutSlice (named 3) κ₃ (UInt w16) .own x₃ (s₃ ∷ [])) ⊛ ‵ (MutSlice (named 4) κ₄ (UInt w32) .own x₄ (s₄ ∷ []))) ∷ []) ∵ says ! fine $ split ! $ frame ! $ split ! $ move ! (1 ∷ []) $ split ! $ move ! (1 ∷ []) $ split ! $ move ! (1 ∷ []) $ nothing ! $ owned ! (UInt w32) (Is (UInt w32)) (uint-makes 𝓤 H A W w32) k _ (refl, k-fits) $ fjoin ! $ move ! (1 ∷ 0 ∷ []) $ fjoin ! $ move ! (1 ∷ 0 ∷ []) $ fjoin ! $ move ! (1 ∷ 0 ∷ []) $ fjoin ! $ move ! (1 ∷ 0 ∷ []) $ fjoin ! $ owned ! E.the-row (Is E.the-row) (LL.makes E.the-type E′.the-plain 𝓤 H A) (h .emitter) _ was $ fjoin ! $ done !
+
+  fst-is : (r : Emitter) (y : Val) → Is E.the-row r (y ∷ []) → Is E.the-row (r) (held (r) ∷ [])
+  fst-is r y is = subst (λ (v : List Val). Is E.the-row r v) (LL.tells E.the-type E′.the-laws r _ is) is
 
   module _ (C : Calls 𝓤 H) (Λ : Loops 𝓤 H) (fm : FmC 𝓤 H (W .laws) C) (known : Triple 𝓤 (C #core) (Callee 𝓤 H A at-mem run)) where
     walk : Fine h sheet code book pool k → ent 𝓤 (onEntry 𝓤 H A f.signature (κ₀, (κ₁, (κ₂, (κ₃, (κ₄, tt))))) (q₀, (q₁, (q₂, (q₃, (q₄, tt))))) a at) (WpFn 𝓤 H C Λ the-code.function (vptr b₀ o₀ ∷ s₁ ∷ s₂ ∷ s₃ ∷ s₄ ∷ vint w32 k ∷ []) Post)
@@ -140,24 +147,26 @@ module _ {M : Type 1} (𝓤 : URA M) (H : Heap 𝓤) (A : Atoms 𝓤) (W : Given
         -- the parameters are taken apart, and the borrow of what lies behind e is opened
         move ! (31 ∷ []) $ fsplit ! $ move ! (1 ∷ []) $ fsplit ! $ move ! (1 ∷ []) $ fsplit ! $ move ! (1 ∷ []) $ fsplit ! $ move ! (1 ∷ []) $ fsplit ! $ move ! (1 ∷ []) $ fsplit ! $ drop ! $ drop ! $ move ! (4 ∷ []) $ fsplit3 ! $ drop ! $ move ! (36 ∷ []) $ split ! $ move ! (2 ∷ 3 ∷ 0 ∷ []) $
         opens ! tt T.the-row {h = h} b₀ o₀ (λ vs. spelt ! T.the-row (Is T.the-row) (shows 𝓤 H A T.the-row) (LL.vals T.the-type T′.the-laws) (LL.tells T.the-type T′.the-laws) fullShare h vs b₀ o₀ $
-        move ! (1 ∷ []) $ peeks ! T.the-row (Is T.the-row) (shows 𝓤 H A T.the-row) h (mach ∷ []) (λ was. drop ! $
+        move ! (1 ∷ []) $ peeks ! T.the-row (Is T.the-row) (shows 𝓤 H A T.the-row) h (val h ∷ []) (λ was. drop ! $
+        use1 W (‵ (fat fullShare T′.mir b₀ o₀ (val h))) (W .laws .raw-at fullShare T′.mir b₀ o₀ (val h)) $
         -- [CELL; OBOR; OBS; AUTH; TOKR; O4; O3; O2; O1; L14; L13; L12; L11; L10; L9; L8; L7; L6; L5; L4; L3; L2; L1; L0]
-        assigns ! (of-opd ! (load ! (from ! (hop ! (look ! 35 refl) (stop !))) (look-raw ! 0 refl))) (from ! (stop !)) (init ! 21 refl (LL.lawful T.the-type T′.the-laws 𝓤 H A W .typed (h) _ was .0)) $
+        assigns ! (of-opd ! (load ! (from ! (hop ! (look ! 35 refl) (fld ! refl (stop !)))) (look-in ! 0 (sub ! 0 refl (whole !))))) (from ! (stop !)) (init ! 21 refl (LL.lawful E.the-type E′.the-laws 𝓤 H A W .typed ((h .emitter)) _ (held-is h was) .0)) $
         assigns ! (addr ! (from ! (fld ! refl (hop ! (look-in ! 31 (sub ! 0 refl (whole !))) (stop !))))) (from ! (stop !)) (init ! 19 refl (tt, tt)) $ assigns ! (agg ! (and-then ! (load ! (from ! (stop !)) (look ! 19 refl)) (and-then ! (load ! (from ! (fld ! refl (stop !))) (look-in ! 31 (sub ! 1 refl (whole !)))) (no-more !)))) (from ! (stop !)) (init ! 17 refl (tt, (tt, (record { fits = code-room .0 }, tt)))) $
         assigns ! (addr ! (from ! (fld ! refl (hop ! (look-in ! 29 (sub ! 0 refl (whole !))) (stop !))))) (from ! (stop !)) (init ! 15 refl (tt, tt)) $ assigns ! (agg ! (and-then ! (load ! (from ! (stop !)) (look ! 15 refl)) (and-then ! (load ! (from ! (fld ! refl (stop !))) (look-in ! 29 (sub ! 1 refl (whole !)))) (no-more !)))) (from ! (stop !)) (init ! 13 refl (tt, (tt, (record { fits = book-room .0 }, tt)))) $
         assigns ! (addr ! (from ! (fld ! refl (hop ! (look-in ! 27 (sub ! 0 refl (whole !))) (stop !))))) (from ! (stop !)) (init ! 11 refl (tt, tt)) $ assigns ! (agg ! (and-then ! (load ! (from ! (stop !)) (look ! 11 refl)) (and-then ! (load ! (from ! (fld ! refl (stop !))) (look-in ! 27 (sub ! 1 refl (whole !)))) (no-more !)))) (from ! (stop !)) (init ! 9 refl (tt, (tt, (record { fits = pool-room .0 }, tt)))) $
         -- the call
-        move ! (8 ∷ []) $ use1 W (‵ (ShrSlice (named 1) κ₁ (UInt w8) .own x₁ (s₁ ∷ [])) ⊛ ‵ (ShrSlice (named 1) κ₁ (UInt w8) .own x₁ (s₁ ∷ []))) (shr-slice-copy 𝓤 H A W (named 1) κ₁ (UInt w8) .twice x₁ (s₁ ∷ [])) $ split ! $ move ! (8 ∷ 7 ∷ []) $ join ! $ move ! (8 ∷ 0 ∷ []) $ join ! $ move ! (1 ∷ 0 ∷ []) $ join ! $ move ! (6 ∷ 0 ∷ []) $ join ! $ use1 W (raw (Callee 𝓤 H A at-mem run .pre to-core)) (goes fine was) $
+        move ! (8 ∷ []) $ use1 W (‵ (ShrSlice (named 1) κ₁ (UInt w8) .own x₁ (s₁ ∷ [])) ⊛ ‵ (ShrSlice (named 1) κ₁ (UInt w8) .own x₁ (s₁ ∷ []))) (shr-slice-copy 𝓤 H A W (named 1) κ₁ (UInt w8) .twice x₁ (s₁ ∷ [])) $ split ! $ move ! (8 ∷ 7 ∷ []) $ join ! $ move ! (8 ∷ 0 ∷ []) $ join ! $ move ! (1 ∷ 0 ∷ []) $ join ! $ move ! (6 ∷ 0 ∷ []) $ join ! $ use1 W (raw (Callee 𝓤 H A at-mem run .pre to-core)) (goes fine (held-is h was)) $
         calls-at ! fm (Callee 𝓤 H A at-mem run) known to-core (and-then ! (load ! (from ! (stop !)) (look ! 18 refl)) (and-then ! (load ! (from ! (stop !)) (look ! 30 refl)) (and-then ! (load ! (from ! (stop !)) (look ! 14 refl)) (and-then ! (load ! (from ! (stop !)) (look ! 10 refl)) (and-then ! (load ! (from ! (stop !)) (look ! 6 refl)) (and-then ! (load ! (from ! (stop !)) (look ! 22 refl)) (no-more !))))))) (λ y.
-        use1 W (later (some (λ (r : Emitter). ((‵ (flft κ₁ q₁) ⊛ ‵ (flft κ₂ q₂) ⊛ ‵ (flft κ₃ q₃) ⊛ ‵ (flft κ₄ q₄) ⊛ ‵ ftrue) ⊛ ‵ (T.the-row .own r (y ∷ []))) ⊛ raw (ensured 𝓤 H A core.ended (core.clauses 𝓤 H A at-mem run) core-κs core-args tt r)))) (id⊢ 𝓤 _) $ await ! tt $ pick ! (λ r.
+        use1 W (later (some (λ (r : Emitter). ((‵ (flft κ₁ q₁) ⊛ ‵ (flft κ₂ q₂) ⊛ ‵ (flft κ₃ q₃) ⊛ ‵ (flft κ₄ q₄) ⊛ ‵ ftrue) ⊛ ‵ (E.the-row .own r (y ∷ []))) ⊛ raw (ensured 𝓤 H A core.ended (core.clauses 𝓤 H A at-mem run) core-κs core-args tt r)))) (id⊢ 𝓤 _) $ await ! tt $ pick ! (λ r.
         split ! $ move ! (1 ∷ []) $ use1 W (some (λ (zs : (Unit {0} × (Unit {0} × (List ℕ × (List ℕ × (List ℕ × (Unit {0} × Unit {0}))))))). ‵ (lasts core.ended core-κs core-args zs) ⊛ raw (fact 𝓤 (Done r (zs .1 .1 .0) (zs .1 .1 .1 .0) (zs .1 .1 .1 .1 .0))))) (id⊢ 𝓤 _) $ pick ! (λ zs.
         split ! $ move ! (1 ∷ []) $ heard ! (Done r (zs .1 .1 .0) (zs .1 .1 .1 .0) (zs .1 .1 .1 .1 .0)) (λ d. fsplit ! $ drop ! $ fsplit ! $ drop ! $ fsplit ! $ fsplit ! $ move ! (1 ∷ []) $ feqL ! (λ l₂. move ! (1 ∷ []) $ fsplit ! $ fsplit ! $ move ! (1 ∷ []) $ feqL ! (λ l₃. move ! (1 ∷ []) $ fsplit ! $ fsplit ! $ move ! (1 ∷ []) $ feqL ! (λ l₄. move ! (1 ∷ []) $ fsplit ! $ drop ! $ drop ! $ move ! (3 ∷ []) $ split ! $ move ! (1 ∷ []) $
-        peeks ! T.the-row (Is T.the-row) (shows 𝓤 H A T.the-row) r (y ∷ []) (λ is.
-        -- [OWNR; TOKR; F4; F3; F2; O1; CELL; OBOR; OBS; AUTH; L14; L13; L12; L11; L10; L9; L8; L7; L6; L5; L4; L3; L2; L1; L0]
-        land ! (from ! (stop !)) (init ! 24 refl (LL.lawful T.the-type T′.the-laws 𝓤 H A W .typed r _ is .0)) $
-        assigns ! (of-opd ! (load ! (from ! (stop !)) (look ! 24 refl))) (from ! (hop ! (look ! 36 refl) (stop !))) (store-raw ! 6 refl (LL.lawful T.the-type T′.the-laws 𝓤 H A W .typed (r) _ is .0)) $
-        assigns ! (of-opd ! (unit-lit !)) (from ! (stop !)) (init ! 38 refl (tt, tt)) $
-        move ! (6 ∷ 0 ∷ 7 ∷ 8 ∷ 9 ∷ []) $ closes ! tt T.the-row (r) (y ∷ []) b₀ o₀ $
+        peeks ! E.the-row (Is E.the-row) (shows 𝓤 H A E.the-row) r (y ∷ []) (λ is. drop ! $
+        -- [TOKR; F4; F3; F2; O1; CELL; OBOR; OBS; AUTH; L14; L13; L12; L11; L10; L9; L8; L7; L6; L5; L4; L3; L2; L1; L0]
+        land ! (from ! (stop !)) (init ! 23 refl (LL.lawful E.the-type E′.the-laws 𝓤 H A W .typed r _ is .0)) $
+        rewrite ! 23 (λ (u : Val). ‵ (fat fullShare E′.mir l₇ 0 u)) (ap only (LL.tells E.the-type E′.the-laws r _ is)) refl $
+        assigns ! (of-opd ! (load ! (from ! (stop !)) (look ! 23 refl))) (from ! (hop ! (look ! 35 refl) (fld ! refl (stop !)))) (store-in ! 5 (sub ! 0 refl (whole !)) (LL.lawful E.the-type E′.the-laws 𝓤 H A W .typed (r) _ (fst-is r y is) .0)) $
+        assigns ! (of-opd ! (unit-lit !)) (from ! (stop !)) (init ! 37 refl (tt, tt)) $
+        move ! (5 ∷ []) $ use1 W (‵ (cellAt fullShare (T.the-row .mir) (val (lent (r)) ∷ []) b₀ o₀)) (W .laws .at-raw fullShare T′.mir b₀ o₀ (val (lent (r)))) $ owned ! T.the-row (Is T.the-row) (LL.makes T.the-type T′.the-plain 𝓤 H A) (lent (r)) _ (lent-is (r) (fst-is r y is)) $ move ! (1 ∷ 0 ∷ 7 ∷ 8 ∷ 9 ∷ []) $ closes ! tt T.the-row (lent (r)) (val (lent (r)) ∷ []) b₀ o₀ $
         returns ! (look ! 36 refl) $ forget ! 8 refl $ forget ! 10 refl $ forget ! 12 refl $ forget ! 14 refl $ forget ! 16 refl $ forget ! 18 refl $ forget ! 20 refl $ forget ! 22 refl $ forget ! 24 refl $ forget ! 26 refl $ forget ! 28 refl $ forget ! 30 refl $ forget ! 32 refl $ forget ! 34 refl $ forget ! 36 refl $
         move ! (36 ∷ 37 ∷ []) $ free1 ! $ move ! (34 ∷ 35 ∷ []) $ free1 ! $ move ! (32 ∷ 33 ∷ []) $ free1 ! $ move ! (30 ∷ 31 ∷ []) $ free1 ! $ move ! (28 ∷ 29 ∷ []) $ free1 ! $ move ! (26 ∷ 27 ∷ []) $ free1 ! $ move ! (24 ∷ 25 ∷ []) $ free1 ! $ move ! (22 ∷ 23 ∷ []) $ free1 ! $ move ! (20 ∷ 21 ∷ []) $ free1 ! $ move ! (18 ∷ 19 ∷ []) $ free1 ! $ move ! (16 ∷ 17 ∷ []) $ free1 ! $ move ! (14 ∷ 15 ∷ []) $ free1 ! $ move ! (12 ∷ 13 ∷ []) $ free1 ! $ move ! (10 ∷ 11 ∷ []) $ free1 ! $ move ! (8 ∷ 9 ∷ []) $ free1 ! $ free0 ! $
         keep ! (0 ∷ 1 ∷ 2 ∷ 3 ∷ 6 ∷ 5 ∷ 4 ∷ 7 ∷ []) $ by ! (exits r (zs .1 .1 .0) (zs .1 .1 .1 .0) (zs .1 .1 .1 .1 .0) d l₂ l₃ l₄))))))))))))))))))))))))))
