@@ -8,7 +8,7 @@ use native.Mathlib.Omega.{arith}
 use borrow.Author.Tests.{le-ltb, lt-ltb, eq-eqb, ne-eqb, eqb-true, eqb-false}
 use lib.Dec.{eqb}
 use lib.ListN.{length, take, set, getD, length-set}
-use lib.Seq.{length-take-le, getD-take, take-suc-set, drop-set-lt}
+use lib.Seq.{length-take-le, getD-take, take-take, take-suc-set, drop-set-lt}
 use Rattle.definition.specs.Limits.{maxCode, maxConstants, constantsFull}
 use Rattle.definition.specs.Res.{Res, ok, refuse, _>>=_, _>>_, demand}
 use Rattle.definition.specs.Opcode.{Sheet, loadConst}
@@ -17,6 +17,7 @@ use Rattle.definition.specs.Emit.{loadConstant, addConstant, refused, act, add,
 use Rattle.emit.specs.declared.Emitter.{Emitter}
 use Rattle.emit.specs.declared.Interned.{Interned}
 use Rattle.emit.specs.declared.Last.the-variants.{Other}
+use Rattle.emit.specs.Pool.{Held, Appended}
 use Rattle.emit.specs.View.{world, state}
 use Rattle.emit.specs.Steps.{Did, Fine, Bare, Pooled, Coded, Filled}
 use Rattle.emit.specs.Parts.{counted, Added, Interns}
@@ -48,6 +49,15 @@ index-new (x ∷ xs) k h = go (eqb x k) h (λ q. index-new xs k q)
     go true h f = absurd (omega arith)
     go false h f = ap suc (f (omega arith))
 
+-- the first of the first n constants that is k
+pub first-found : (pool : List ℕ) (n k i : ℕ) → n ≤ length pool → i < n → ((j : ℕ) → j < i → getD pool j 0 ≡ k → ⊥) → getD pool i 0 ≡ k → i ≡ indexOf k (take n pool)
+first-found pool n k i long h before e =
+    let size = length-take-le n pool long in
+    found-in (take n pool) k i (λ j l q. before j l (sym (getD-take n pool j 0 (omega arith)) ∙ q)) (rw size h) (getD-take n pool i 0 h ∙ e)
+
+pub first-none : (pool : List ℕ) (n k : ℕ) → n ≤ length pool → ((j : ℕ) → j < n → getD pool j 0 ≡ k → ⊥) → n ≡ indexOf k (take n pool)
+first-none pool n k long before = none-in (take n pool) k n (λ j l q. before j l (sym (getD-take n pool j 0 l) ∙ q)) (length-take-le n pool long)
+
 -- none of the first i is k
 pub record Before (pool : List ℕ) (k i n : ℕ) : Type 0 where
   pub none : (j : ℕ) → j < i → getD pool j 0 ≡ k → ⊥
@@ -65,18 +75,14 @@ module _ (pool : List ℕ) (n k : ℕ) where
       go j l e false q = let z = eqb-false j i q in b .none j (omega arith) e
 
   pub index-found : {i : ℕ} → Before pool k i n → i < n → n ≤ length pool → getD pool i 0 ≡ k → (i ≡ indexOf k (take n pool)) × (i ≤ n)
-  index-found {i} b h long e =
-      let size = length-take-le n pool long in
-      (found-in (take n pool) k i (λ j l q. b .none j l (sym (getD-take n pool j 0 (omega arith)) ∙ q)) (rw size h) (getD-take n pool i 0 h ∙ e), omega arith)
+  index-found {i} b h long e = (first-found pool n k i long h (b .none) e, omega arith)
 
   pub index-none : {i : ℕ} → Before pool k i n → n ≤ i → n ≤ length pool → (n ≡ indexOf k (take n pool)) × (n ≤ n)
-  index-none {i} b h long =
-      let size = length-take-le n pool long in
-      (none-in (take n pool) k n (λ j l q. b .none j (omega arith) (sym (getD-take n pool j 0 l) ∙ q)) size, omega arith)
+  index-none {i} b h long = (first-none pool n k long (λ j l q. b .none j (omega arith) q), omega arith)
 
 -- ---- a constant in the pool
 
-module _ (k : ℕ) {e : Emitter} {pool : List ℕ} (h : Fine e) (long : length pool ≡ maxConstants) where
+module _ (k : ℕ) {e : Emitter} {pool : List ℕ} (h : Fine e) (long : Held pool) where
   pub intern-stays : (e .refused ≡ 0 → ⊥) → Interns k e pool (record { emitter = e; index = 0 }) pool
   intern-stays off = record { pooled = record { fine = h; long = long; kept = λ code book. kept-self (world e code book pool); did = λ s code book. stays (act s (addConstant k)) off }; index = λ z. absurd (off z) }
 
@@ -106,25 +112,27 @@ module _ (k : ℕ) {e : Emitter} {pool : List ℕ} (h : Fine e) (long : length p
         index = λ z. absurd (is-refused b z);
       }
 
-      pub intern-more : e .refused ≡ 0 → e .constants < maxConstants → i ≤ e .constants
-          → Interns k e pool (record { emitter = counted e (e .labels) (e .patches) (e .lines) (e .constants + 1); index = x }) (set pool (e .constants) k)
+      pub intern-more : {pool′ : List ℕ} → e .refused ≡ 0 → e .constants < maxConstants → i ≤ e .constants → Appended (e .constants) k pool pool′
+          → Interns k e pool (record { emitter = counted e (e .labels) (e .patches) (e .lines) (e .constants + 1); index = x }) pool′
       unfolding act pooled pooledIf demand _>>_ withConstant
-      intern-more on few most =
+      intern-more {pool′} on few most a =
           let count = count-of pool h long in
-          let more : take (e .constants + 1) (set pool (e .constants) k) ≡ take (e .constants) pool ++ (k ∷ []) = rw add-one (take-suc-set pool (e .constants) k (omega arith)) in
+          let here : e .constants < length (take maxConstants pool) = rw (length-take-le maxConstants pool (omega (arith, long .size))) few in
+          let more : take (e .constants + 1) pool′ ≡ take (e .constants) pool ++ (k ∷ [])
+          = sym (take-take (e .constants + 1) maxConstants pool′ (omega arith)) ∙ rw (a .is, add-one, take-suc-set (take maxConstants pool) (e .constants) k here, take-take (e .constants) maxConstants pool (omega arith)) in
           let new : indexOf k (take (e .constants) pool ++ (k ∷ [])) ≡ length (take (e .constants) pool) = index-new (take (e .constants) pool) k (rw (count, ← is) absent) in
           record {
             pooled = record {
               fine = record { size = h .size; labels = h .labels; patches = h .patches; lines = h .lines; constants = omega arith; last = h .last; depth = h .depth; deepest = h .deepest; place = h .place };
-              long = length-set pool (e .constants) k ∙ long;
+              long = a .held;
               kept = λ code book. record {
                 grown = record { size = omega arith; labels = omega arith; patches = omega arith; lines = omega arith; constants = omega arith };
                 code = refl;
                 book = tails-self (counted e (e .labels) (e .patches) (e .lines) (e .constants + 1)) book;
-                pool = drop-set-lt (e .constants + 1) pool (e .constants) k (omega arith);
+                pool = rw (a .is) (drop-set-lt (e .constants + 1) (take maxConstants pool) (e .constants) k (omega arith));
                 sticky = λ z. absurd (z on);
               };
-              did = λ s code book. goes (act s (addConstant k)) (world e code book pool) (world (counted e (e .labels) (e .patches) (e .lines) (e .constants + 1)) code book (set pool (e .constants) k)) on on
+              did = λ s code book. goes (act s (addConstant k)) (world e code book pool) (world (counted e (e .labels) (e .patches) (e .lines) (e .constants + 1)) code book pool′) on on
                   (rw (count, ← is, le-ltb _ _ absent, count, lt-ltb _ _ few, more));
             };
             index = λ z. is-x ∙ rw (more, new, count) (omega arith);

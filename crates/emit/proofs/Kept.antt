@@ -6,7 +6,7 @@ use native.Mathlib.Omega.{arith}
 use lib.ListN.{length, take, drop, set}
 use lib.Seq.{sets, sets-eq, drop-drop, drop-at, length-take-le}
 use lib.ListN.{length-append}
-use Rattle.definition.specs.Limits.{maxLabels, maxBranches, maxLines, entrySize}
+use Rattle.definition.specs.Limits.{maxLabels, maxBranches, maxLines, maxConstants, entrySize}
 use Rattle.emit.specs.declared.Emitter.{Emitter}
 use Rattle.emit.specs.Book.{labelSize, patchSize, labelBase, patchBase, lineBase, row}
 use Rattle.emit.specs.View.{World, world}
@@ -47,7 +47,7 @@ kept-then {w} {v} {u} a b =
         patches = λ i x y. b .book .patches i x y ∙ a .book .patches i (omega (arith, h .patches)) y;
         lines = λ i x y. b .book .lines i x y ∙ a .book .lines i (omega (arith, h .lines)) y;
       };
-      pool = b .pool ∙ drop-more (v .pool) (w .pool) (v .e .constants) (u .e .constants) (h .constants) (a .pool);
+      pool = b .pool ∙ drop-more (take maxConstants (v .pool)) (take maxConstants (w .pool)) (v .e .constants) (u .e .constants) (h .constants) (a .pool);
       sticky = λ off.
           let same = a .sticky off in
           b .sticky (λ z. off (sym (ap (λ (x : World). x .e .refused) same) ∙ z)) ∙ same;

@@ -7,5 +7,6 @@ pub mod Labels
 pub mod Instructions
 pub mod Loads
 pub mod Constants
+pub mod Chains
 pub mod Branches
 pub mod Lines

@@ -5,7 +5,7 @@ use Prim.Native.Nat.{ℕ, zero, suc, _+_, _*_, _^_, _≤_, _<_}
 use native.Mathlib.Omega.{arith}
 use lib.ListN.{length, take}
 use lib.Seq.{length-take-le}
-use Rattle.definition.specs.Limits.{maxCode, maxBranches, maxConstants}
+use Rattle.definition.specs.Limits.{maxCode, maxBranches}
 use Rattle.definition.specs.Res.{Res, ok, refuse, _>>=_}
 use Rattle.definition.specs.Opcode.{Sheet}
 use Rattle.definition.specs.Tree.{Pos}
@@ -13,6 +13,7 @@ use Rattle.definition.specs.Emit as def
 use Rattle.definition.specs.Emit.{Call, createLabel, refused, act, emitterAt}
 use Rattle.emit.specs.declared.Emitter.{Emitter}
 use Rattle.emit.specs.Book.{bookSize}
+use Rattle.emit.specs.Pool.{Held}
 use Rattle.emit.specs.View.{World, world, state, standing, view}
 use Rattle.emit.specs.Steps.{Step, Did, Fine, Ready, Bare, Booked, Created, Pooled, Coded, Filled, Begun}
 use Rattle.emit.proofs.Kept.{kept-then}
@@ -97,7 +98,7 @@ module _ {e r : Emitter} {code book pool : List ℕ} (w : Ready (world e code bo
   coded-filled b = record { ready = record { fine = b .fine; room = b .room; slots = b .slots; long = w .long }; kept = b .kept pool; did = b .did pool }
 
 -- the first state of a call
-pub begun-ready : {p : Pos} {r : Emitter} {code book pool : List ℕ} → Begun p r → length code ≡ maxCode → length book ≡ bookSize → length pool ≡ maxConstants → Ready (world r code book pool)
+pub begun-ready : {p : Pos} {r : Emitter} {code book pool : List ℕ} → Begun p r → length code ≡ maxCode → length book ≡ bookSize → Held pool → Ready (world r code book pool)
 begun-ready b room slots long = record { fine = b .fine; room = room; slots = slots; long = long }
 
 -- ---- what the view is
@@ -127,5 +128,5 @@ patches-fit h = omega (arith, h .patches, h .size)
 pub size-of : {e : Emitter} (code : List ℕ) → Fine e → length code ≡ maxCode → length (take (e .size) code) ≡ e .size
 size-of {e} code h room = length-take-le (e .size) code (omega (arith, h .size))
 
-pub count-of : {e : Emitter} (pool : List ℕ) → Fine e → length pool ≡ maxConstants → length (take (e .constants) pool) ≡ e .constants
-count-of {e} pool h long = length-take-le (e .constants) pool (omega (arith, h .constants))
+pub count-of : {e : Emitter} (pool : List ℕ) → Fine e → Held pool → length (take (e .constants) pool) ≡ e .constants
+count-of {e} pool h held = length-take-le (e .constants) pool (omega (arith, h .constants, held .size))

@@ -1,4 +1,5 @@
 pub mod Book
+pub mod Pool
 pub mod View
 pub mod Steps
 pub mod Load

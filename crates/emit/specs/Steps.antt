@@ -2,7 +2,7 @@
 use Prim.Native.Nat.{ℕ, _+_, _*_, _≤_, _<_}
 use mathlib.Core.Path.{_≡_}
 use mathlib.Core.List.{List}
-use lib.ListN.{length, drop}
+use lib.ListN.{length, take, drop}
 use Rattle.definition.specs.Limits.{maxCode, maxLabels, maxBranches, maxLines, maxConstants, entrySize}
 use Rattle.definition.specs.Res.{Res, ok, _>>=_}
 use Rattle.definition.specs.Opcode.{Sheet}
@@ -14,6 +14,7 @@ use Rattle.emit.specs.declared.Emitter.{Emitter}
 use Rattle.emit.specs.declared.Last.{Last}
 use Rattle.emit.specs.declared.Last.the-variants.{Other, Loaded, Stored}
 use Rattle.emit.specs.Book.{labelSize, patchSize, labelBase, patchBase, lineBase, bookSize, row}
+use Rattle.emit.specs.Pool.{Held}
 use Rattle.emit.specs.View.{World, world, view}
 
 abbrev pub Step : Type 0
@@ -53,12 +54,12 @@ pub record Fine (e : Emitter) : Type 0 where
   -- a place comes with a refusal
   pub place : e .refused ≡ 0 → e .place ≡ 0
 
--- what is lent is exactly as long as its limit
+-- what is lent is exactly as long as its limit, and what the pool's table says is so
 pub record Ready (w : World) : Type 0 where
   pub fine : Fine (w .e)
   pub room : length (w .code) ≡ maxCode
   pub slots : length (w .book) ≡ bookSize
-  pub long : length (w .pool) ≡ maxConstants
+  pub long : Held (w .pool)
 
 -- ---- what no state shows
 
@@ -79,12 +80,12 @@ pub record Tails (r : Emitter) (book book′ : List ℕ) : Type 0 where
   pub patches : (i : ℕ) → r .patches ≤ i → i < maxBranches → row patchBase patchSize book′ i ≡ row patchBase patchSize book i
   pub lines : (i : ℕ) → r .lines ≤ i → i < maxLines → row lineBase entrySize book′ i ≡ row lineBase entrySize book i
 
--- what lies past the counts stays as it is; and all of it, once there is a refusal
+-- what lies past the counts stays as it is, but for the pool's table; and all of it, once there is a refusal
 pub record Kept (w v : World) : Type 0 where
   pub grown : Grown (w .e) (v .e)
   pub code : drop (v .e .size) (v .code) ≡ drop (v .e .size) (w .code)
   pub book : Tails (v .e) (w .book) (v .book)
-  pub pool : drop (v .e .constants) (v .pool) ≡ drop (v .e .constants) (w .pool)
+  pub pool : drop (v .e .constants) (take maxConstants (v .pool)) ≡ drop (v .e .constants) (take maxConstants (w .pool))
   pub sticky : (w .e .refused ≡ 0 → ⊥) → v ≡ w
 
 -- ---- what a method does, by what is lent to it: whatever is not lent stays as it is, whatever that is
@@ -113,7 +114,7 @@ pub record Created (e : Emitter) (book : List ℕ) (r : Emitter) (book′ : List
 -- the pool
 pub record Pooled (c : Call) (e : Emitter) (pool : List ℕ) (r : Emitter) (pool′ : List ℕ) : Type 0 where
   pub fine : Fine r
-  pub long : length pool′ ≡ maxConstants
+  pub long : Held pool′
   pub kept : (code book : List ℕ) → Kept (world e code book pool) (world r code book pool′)
   pub did : (s : Sheet) (code book : List ℕ) → Did (act s c) (world e code book pool) (world r code book pool′)
 

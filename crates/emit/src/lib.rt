@@ -1,13 +1,13 @@
 // The emitter (emit.rs, and the pool of compile.rs): counts, the last instruction, depths, position and refusal by value; its tables are lent.
 //
-// Lent are the code (MAX_CODE bytes), the book (BOOK_SIZE numbers: labels, patches and line entries) and the pool (MAX_CONSTANTS constants), each exactly as
+// Lent are the code (MAX_CODE bytes), the book (BOOK_SIZE numbers: labels, patches and line entries) and the pool (POOL_SIZE constants), each exactly as
 // long. A method has only those that its call can change. Its contract names the `act` of the definition's call that it is, in every state: a refusal is
 // sticky, and a refused emitter comes back as it was, with what is lent.
 ghost use mathlib.Core.Path.{_≡_};
 ghost use Prim.Native.Nat.{_≤_, _<_, _+_, max};
 ghost use mathlib.Core.List.{[]};
 ghost use lib.ListN.{length};
-ghost use Rattle.definition.specs.Limits.{maxCode, maxConstants};
+ghost use Rattle.definition.specs.Limits.{maxCode};
 ghost use Rattle.definition.specs.Opcode.{shift, effect, cmpBr};
 ghost use Rattle.definition.specs.Emit.{branch, foldStore, standsAt, lastEntry, act, le16, bindLabel, storeVariable, loadConstant, addConstant, emitOpcode, emitJmp, emitJmpIfNot, emitCmpBr, resetStackDepth, setPosition, refused};
 ghost use Rattle.definition.specs.Compile.{boundLabel};
@@ -15,6 +15,7 @@ ghost use Rattle.opcode.specs.View.{roleView, compareView};
 ghost use Rattle.opcode.specs.Table.{sheetIn};
 ghost use Rattle.line_map.specs.View.{posView};
 ghost use Rattle.emit.specs.Book.{bookSize, labelsIn, linesIn};
+ghost use Rattle.emit.specs.Pool.{Held};
 ghost use Rattle.emit.specs.View.{world, patchView};
 ghost use Rattle.emit.specs.Steps.{LastAt, Fine, Ready, Bare, Booked, Created, Pooled, Coded, Filled, Begun};
 ghost use Rattle.emit.specs.Load.{Loads};
@@ -40,10 +41,13 @@ pub mod book; // book.rt: the book's tables, written and read back
 pub mod bytes; // bytes.rt: operands, and a byte put before the store that ends the code
 pub mod load; // load.rt: how a load is emitted, and what it did
 pub mod patch; // patch.rt: pending patches
-mod pool; // pool.rt: the pool's lookup
+mod pool; // pool.rt: the pool's lookup, and the table behind the constants
 
 // A constant's bits. The pool's width is this type.
 pub type Constant = u32;
+
+// Elements of a pool: the constants, and a table that finds them.
+pub const POOL_SIZE: usize = pool::SIZE;
 
 // Bytes of a store, which a load may fold into.
 const STORE_SIZE: usize = 3;
@@ -440,7 +444,7 @@ impl Emitter {
     // Equal constants share an index, new ones are appended (`intern_i32_constant`, 13).
     fn intern_constant(self, pool: &mut [Constant], k: Constant) -> Interned
         requires { ⌜ Fine self ⌝ }
-        requires { ⌜ length (now pool) ≡ maxConstants ⌝ }
+        requires { ⌜ Held (now pool) ⌝ }
         ensures { λ r. ⌜ Interns k self (now (pool .entry)) r (now (pool .exit)) ⌝ }
     {
         if self.refused != 0 {
@@ -464,7 +468,7 @@ impl Emitter {
                 index: 0,
             };
         }
-        pool[n] = k;
+        pool::append(pool, n, k);
         let mut e = self;
         e.constants = n + 1;
         Interned {
@@ -476,7 +480,7 @@ impl Emitter {
     // A constant that enters the pool before the instruction that names it.
     pub fn add_constant(self, pool: &mut [Constant], k: Constant) -> Emitter
         requires { ⌜ Fine self ⌝ }
-        requires { ⌜ length (now pool) ≡ maxConstants ⌝ }
+        requires { ⌜ Held (now pool) ⌝ }
         ensures { λ r. ⌜ Pooled (addConstant k) self (now (pool .entry)) r (now (pool .exit)) ⌝ }
     {
         let interned = self.intern_constant(pool, k);

@@ -15,7 +15,7 @@ use Rattle.definition.specs.Rewrite.{movedTo}
 use Rattle.rewrite.specs.View.{isMark, slotCount, Clear}
 use Rattle.definition.specs.Limits.{maxCode}
 use Rattle.store.specs.Fill.{zeroedFrom}
-use Rattle.store.proofs.Fills.{zeros-replicate, length-zeros, zero-all}
+use Rattle.store.proofs.Fills.{replicate-none, zeros-replicate, length-zeros, zero-all}
 use Rattle.field.proofs.Lists.{has-here}
 use Rattle.rewrite.proofs.Marked.{has-past, has-where, has-marked}
 use Rattle.rewrite.proofs.Pass.{moved-here, moved-past}
@@ -120,11 +120,6 @@ module _ (f : ℕ → ℕ) (list₀ : List ℕ) where
   move-ends list i m h = sym (rw (drop-of-length-le list h, take-all i list h, append-nil) at (m .left))
 
 -- ---- a table that is made empty
-
-pub replicate-none : (n x : ℕ) → _≡_ {A = ℕ} (getD (replicate n 0) x 0) 0
-replicate-none zero x = refl
-replicate-none (suc n) zero = refl
-replicate-none (suc n) (suc x) = replicate-none n x
 
 -- the part of it that code of m bytes needs
 part-none : (k n x : ℕ) → _≡_ {A = ℕ} (getD (take k (replicate n 0)) x 0) 0

@@ -5,7 +5,6 @@ use mathlib.Core.Option.{Option, some, none}
 use mathlib.Core.List.{List}
 use Prim.Native.Nat.{ℕ}
 use lib.ListN.{length}
-use Rattle.definition.specs.Limits.{maxConstants}
 use Rattle.definition.specs.Opcode.{Sheet, CompareOp, Add}
 use Rattle.definition.specs.Opcode as role
 use Rattle.definition.specs.Tree.{Expr}
@@ -17,6 +16,7 @@ use Rattle.definition.specs.Stmt.{branchUnless, branchUnlessBy, endTestBy}
 use Rattle.program.specs.declared.Cursor.{Cursor}
 use Rattle.program.specs.Walk.{Skipped}
 use Rattle.emit.specs.declared.Emitter.{Emitter}
+use Rattle.emit.specs.Pool.{Held}
 use Rattle.emit.specs.View.{World, world}
 use Rattle.emit.specs.Steps.{run, Ready, Fine, Booked, Created, Coded, Pooled, Filled}
 use Rattle.emit.proofs.Calls.{seq-filled, said-filled, fresh-filled}
@@ -107,6 +107,6 @@ pub pools : (x : Expr) (f : ClassifiedCmp) {e r : Emitter} {pool pool′ : List 
 unfolding poolFirst
 pools x f is-f a = rw (← is-f) (record { fine = a .fine; long = a .long; did = λ s code book q u y d. seq-filled s _ _ (said-filled s _ (pooled-on y s a)) d })
 
-pub pools-none : (x : Expr) {e : Emitter} {pool : List ℕ} → none ≡ classify x → Fine e → length pool ≡ maxConstants → PoolsFirst (classify x) e pool e pool
+pub pools-none : (x : Expr) {e : Emitter} {pool : List ℕ} → none ≡ classify x → Fine e → Held pool → PoolsFirst (classify x) e pool e pool
 unfolding poolFirst
 pools-none x is-f fine long = rw (← is-f) (record { fine = fine; long = long; did = λ s code book q u y d. d })

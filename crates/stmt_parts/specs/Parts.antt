@@ -7,7 +7,7 @@ use mathlib.Core.List.{List, [], _∷_}
 use Prim.Native.Nat.{ℕ}
 use lib.ListN.{length}
 use lib.Dec.{eqb}
-use Rattle.definition.specs.Limits.{maxConstants, noLoop}
+use Rattle.definition.specs.Limits.{noLoop}
 use Rattle.definition.specs.Opcode.{Sheet, Add}
 use Rattle.definition.specs.Opcode as role
 use Rattle.definition.specs.Tree.{Expr, CaseLabel}
@@ -22,6 +22,7 @@ use Rattle.program.specs.declared.Cursor.{Cursor}
 use Rattle.program.specs.Walk.{Skipped}
 use Rattle.emit.specs.declared.Emitter.{Emitter}
 use Rattle.emit.specs.Book.{bookSize}
+use Rattle.emit.specs.Pool.{Held}
 use Rattle.emit.specs.View.{World, world}
 use Rattle.emit.specs.Steps.{run, Ready, Fine, Coded, Filled}
 use Rattle.expr.specs.declared.Walked.{Walked}
@@ -96,7 +97,7 @@ poolFirst none k = k
 
 pub record PoolsFirst (o : Option ClassifiedCmp) (e : Emitter) (pool : List ℕ) (r : Emitter) (pool′ : List ℕ) : Type 0 where
   pub fine : Fine r
-  pub long : length pool′ ≡ maxConstants
+  pub long : Held pool′
   pub did : (s : Sheet) (code book : List ℕ) (k : Calls) (u : World) → Ready (world e code book pool) → Filled (run s k) (world r code book pool′) u → Filled (run s (poolFirst o k)) (world e code book pool) u
 
 -- the label of a loop's CONTINUEs was bound, if one leads there

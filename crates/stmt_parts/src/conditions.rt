@@ -2,14 +2,14 @@
 ghost use mathlib.Core.Path.{_≡_};
 ghost use mathlib.Core.Option.{none};
 ghost use Prim.Native.Nat.{_≤_};
-ghost use lib.ListN.{length};
-ghost use Rattle.definition.specs.Limits.{maxNesting, maxConstants};
+ghost use Rattle.definition.specs.Limits.{maxNesting};
 ghost use Rattle.definition.specs.CompileExpr.{constantOf, classify};
 ghost use Rattle.definition.specs.Stmt.{branchUnless, endTestBy, bound, countsDown};
 ghost use Rattle.opcode.specs.Table.{sheetIn};
 ghost use Rattle.opcode.specs.View.{compareView};
 ghost use Rattle.program.specs.Walk.{cursorOf, Near};
 ghost use Rattle.program_shape.specs.Shape.{Sided};
+ghost use Rattle.emit.specs.Pool.{Held};
 ghost use Rattle.emit.specs.View.{world};
 ghost use Rattle.emit.specs.Steps.{run, Ready, Fine, Filled};
 ghost use Rattle.expr.specs.Went.{Went};
@@ -278,7 +278,7 @@ pub fn pool_first(
 ) -> Emitter
     requires { ⌜ Near (now text) (c .at) (c .row) ⌝ }
     requires { ⌜ Fine e ⌝ }
-    requires { ⌜ length (now pool) ≡ maxConstants ⌝ }
+    requires { ⌜ Held (now pool) ⌝ }
     ensures { λ r. ⌜ PoolsFirst (classify (exprIn ctx (now (text .entry)) (cursorOf c) .0)) e (now (pool .entry)) r (now (pool .exit)) ⌝ }
 {
     let condition = program_shape::classify(text, ctx.variables, ctx.left, c);

@@ -11,6 +11,11 @@ use Rattle.store.specs.Fill.{setFrom, zeroedFrom, fitted}
 
 -- ---- zeros
 
+pub replicate-none : (n x : ℕ) → _≡_ {A = ℕ} (getD (replicate n 0) x 0) 0
+replicate-none zero x = refl
+replicate-none (suc n) zero = refl
+replicate-none (suc n) (suc x) = replicate-none n x
+
 pub zeros-replicate : (n : ℕ) → replicate n 0 ≡ zeros n
 unfolding zeros
 zeros-replicate zero = refl

@@ -1,28 +1,17 @@
 -- Made by `answers` from crates/emit/answers/pool/index_of.txt: edit that file, not this one.
 use native.Mathlib.Omega.{arith}
-use Prim.Native.Nat.{_-_}
-use Rattle.emit.proofs.Constants.{Before, index-begins, index-on, index-found, index-none}
+use mathlib.Core.Path.{_≡_}
+use Rattle.emit.proofs.Chains.{covered}
+use borrow.Author.Needs.{needs}
 use Rattle.emit.proofs.pool.index_of.Statement.{statement}
 use Rattle.emit.proofs.pool.index_of.Tie as tie
-use borrow.Author.Needs.{needs}
-
-abbrev Inv-loop : tie.InvT-loop
-Inv-loop pool n k i₀ i = Before pool k i n
-
-abbrev μ-loop : tie.MeasureT-loop
-μ-loop pool n k i₀ i = n - i
 
 pub index-of-spec : {M : Type 1} → statement M
 index-of-spec =
     tie.close
     (tie.spec
-    Inv-loop
-    μ-loop
-    (λ c. index-begins _ _ _)  -- loop-holds
-    (λ c. search needs)  -- mul-if1
-    (λ c. search needs)  -- shared-slice-read-if1
-    (λ c. index-found _ _ _ (c .before .before .before .loop .inv) (c .before .before .loop-test .taken) (c .before .before .before .before .pre) (c .if1 .taken))  -- returns
-    (λ c. search needs)  -- add-i
-    (λ c. search needs)  -- loop-less
-    (λ c. index-on _ _ _ (c .before .before .before .loop .inv) (c .before .before .loop-test .taken) (c .if1 .left))  -- loop-again
-    (λ c. index-none _ _ _ (c .before .loop .inv) (c .loop-test .left) (c .before .before .pre)))  -- returns-2
+    (λ c κs. c .before .pre .0 .size)  -- covers-requires
+    (λ c κs. (c .before .before .before .pre .0 .size, covered (c .before .before .before .pre .0) (c .before .covers .ensures) (c .if1 .taken)))  -- search-requires
+    (λ c. search needs)  -- returns
+    (λ c κs. omega (arith, c .before .before .before .pre .0 .size, c .before .before .before .pre .1))  -- scan-requires
+    (λ c. search needs))  -- returns-2

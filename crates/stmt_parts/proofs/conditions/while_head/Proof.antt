@@ -24,9 +24,9 @@ while-head-spec =
     (λ c κs. (c .before .before .before .before .before .before .before .before .before .emit-expr .ensures .ready .fine, (c .before .before .before .before .before .before .before .before .before .emit-expr .ensures .ready .room, c .before .before .before .before .before .before .before .before .before .emit-expr .ensures .ready .slots)))  -- emit-jmp-if-not-requires
     (λ c. c .before .before .before .before .before .before .before .before .before .before .emit-classified-cmp-br .ensures .ready .room ∙ sym (c .before .before .before .before .before .before .before .before .before .before .before .before .before .before .before .before .before .before .before .before .before .before .before .before .before .before .before .before .before .before .before .before .before .pre .1 .0 .room))  -- same-length
     (λ c. c .before .before .bind-label .ensures .slots ∙ sym (c .before .before .before .before .before .before .before .before .before .before .before .before .before .before .before .before .before .before .before .before .before .before .before .before .before .before .before .before .before .before .before .before .before .pre .1 .0 .slots))  -- same-length-2
-    (λ c. c .before .before .before .before .before .before .before .before .before .before .emit-classified-cmp-br .ensures .ready .long ∙ sym (c .before .before .before .before .before .before .before .before .before .before .before .before .before .before .before .before .before .before .before .before .before .before .before .before .before .before .before .before .before .before .before .before .before .pre .1 .0 .long))  -- same-length-3
+    (λ c. c .before .before .before .before .before .before .before .before .before .before .emit-classified-cmp-br .ensures .ready .long .size ∙ sym (c .before .before .before .before .before .before .before .before .before .before .before .before .before .before .before .before .before .before .before .before .before .before .before .before .before .before .before .before .before .before .before .before .before .pre .1 .0 .long .size))  -- same-length-3
     (λ c. head-fused _ _ _ _ (sym (ap classified (c .before .before .before .before .before .before .before .before .before .before .before .before .before .before .before .before .before .before .before .before .before .before .before .before .before .condition .given .1)) ∙ (c .before .before .before .before .before .before .before .before .before .before .before .before .before .before .before .before .before .before .before .before .before .before .before .before .before .before .before .classify) .ensures) (c .before .before .before .before .before .before .before .before .before .before .before .before .before .before .before .before .before .before .before .before .before .before .before .before .before .before .before .before .before .before .before .before .before .pre .1 .0) (c .before .before .before .before .before .before .before .before .before .before .before .before .before .before .before .before .before .before .before .before .before .before .add-constant .ensures) (c .before .before .before .before .before .before .before .before .before .before .before .before .before .before .before .before .before .before .create-label .ensures) (c .before .before .before .before .before .before .before .before .before .before .emit-classified-cmp-br .ensures) (c .before .before .bind-label .ensures))  -- returns
     (λ c. c .before .before .before .before .emit-jmp-if-not .ensures .room ∙ sym (c .before .before .before .before .before .before .before .before .before .before .before .before .before .before .before .before .before .before .before .before .before .before .before .before .before .before .before .before .before .before .before .before .before .before .before .before .pre .1 .0 .room))  -- same-length-4
     (λ c. c .before .before .before .before .emit-jmp-if-not .ensures .slots ∙ sym (c .before .before .before .before .before .before .before .before .before .before .before .before .before .before .before .before .before .before .before .before .before .before .before .before .before .before .before .before .before .before .before .before .before .before .before .before .pre .1 .0 .slots))  -- same-length-5
-    (λ c. c .before .before .before .before .before .before .before .before .before .before .before .before .before .before .emit-expr .ensures .ready .long ∙ sym (c .before .before .before .before .before .before .before .before .before .before .before .before .before .before .before .before .before .before .before .before .before .before .before .before .before .before .before .before .before .before .before .before .before .before .before .before .pre .1 .0 .long))  -- same-length-6
+    (λ c. c .before .before .before .before .before .before .before .before .before .before .before .before .before .before .emit-expr .ensures .ready .long .size ∙ sym (c .before .before .before .before .before .before .before .before .before .before .before .before .before .before .before .before .before .before .before .before .before .before .before .before .before .before .before .before .before .before .before .before .before .before .before .before .pre .1 .0 .long .size))  -- same-length-6
     (λ c. head-tested _ _ _ (sym (ap classified (c .before .before .before .before .before .before .before .before .before .before .before .before .before .before .before .before .before .before .before .before .before .before .before .before .before .before .before .before .enum-told .given .1)) ∙ (c .before .before .before .before .before .before .before .before .before .before .before .before .before .before .before .before .before .before .before .before .before .before .before .before .before .before .before .before .before .before .classify) .ensures) (c .before .before .before .before .before .before .before .before .before .before .before .before .before .before .before .before .before .before .before .before .before .before .before .before .before .before .before .before .before .before .before .before .before .before .before .before .pre .1 .0) (c .before .before .before .before .before .before .before .before .before .before .before .before .before .before .before .before .before .before .before .before .before .before .before .before .before .before .create-label2 .ensures) (c .before .before .before .before .before .before .before .before .before .before .before .before .before .before .before .before .before .before .before .before .bind-label2 .ensures) (c .before .before .before .before .before .before .before .before .before .before .before .before .before .before .emit-expr .ensures) (c .before .before .before .before .emit-jmp-if-not .ensures)))  -- returns-2
