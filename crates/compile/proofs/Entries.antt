@@ -5,7 +5,7 @@ use mathlib.Core.List.{List, _++_}
 use Prim.Native.Nat.{ℕ, _+_, _-_, _≤_}
 use native.Mathlib.Omega.{arith}
 use lib.ListN.{length, take, drop, length-append, length-drop}
-use lib.Seq.{take-append-le}
+use lib.Seq.{length-take-le, take-append-le}
 use Rattle.definition.specs.Limits.{maxCode, maxConstants, maxNesting, badSheet, outputShort}
 use Rattle.definition.specs.Res.{Res, ok, refuse, _>>=_, _>>_, demand, given}
 use Rattle.definition.specs.Opcode.{Sheet}
@@ -34,8 +34,11 @@ use Rattle.program.specs.Check.{checkedView, checked, programOf}
 use Rattle.program.proofs.Check as read
 use Rattle.program_shape.specs.Shape.{blockAt}
 use Rattle.emit.specs.declared.Emitter.{Emitter}
+use Rattle.emit.specs.Pool as pools
 use Rattle.emit.specs.View.{World, world, state, standing, view}
-use Rattle.emit.specs.Steps.{Ready, Begun, Did, run}
+use Rattle.emit.specs.Steps.{Fine, Ready, Begun, Did, run}
+use Rattle.store.specs.Fill.{fitted}
+use Rattle.store.proofs.Fills.{fitted-is, front, length-filled}
 use Rattle.optimize.proofs.Entry.{place-by, rules-read, rules-bad}
 use Rattle.runs.proofs.Safe.{compiled-safe}
 use Rattle.compile.specs.declared.call.Outcome.{Outcome}
@@ -84,13 +87,24 @@ module _ (s : Sheet) (rs : List Rule) (text : List ℕ) (r : Checked) (is : chec
 pub front-long : (xs ys : List ℕ) (n : ℕ) → length xs ≡ n → n ≤ length ys → length (xs ++ drop n ys) ≡ length ys
 front-long xs ys n e h = rw (length-append, e, length-drop) (omega arith)
 
-pub lent-roomy : (c k code constants lines : List ℕ) → length c ≡ maxCode → length k ≡ maxConstants → Roomy (room code constants lines) → Roomy (room (c ++ drop maxCode code) (k ++ drop maxConstants constants) lines)
-lent-roomy c k code constants lines ec ek r =
-    record { code = rw (front-long c code maxCode ec (r .code)) (r .code); constants = rw (front-long k constants maxConstants ek (r .constants)) (r .constants); lines = r .lines }
+-- the constants copied from a pool k
+pub record Copied (e : Emitter) (k constants constants′ : List ℕ) : Type 0 where
+  pub same : take (e .constants) constants′ ≡ take (e .constants) k
+  pub long : length constants′ ≡ length constants
 
-pub whole-view : {e : Emitter} {c b k : List ℕ} (code constants : List ℕ) → Ready (world e c b k) → view (world e (c ++ code) b (k ++ constants)) ≡ view (world e c b k)
-whole-view {e} {c} {b} {k} code constants r =
-    rw (take-append-le (e .size) c code (omega (arith, r .fine .size, r .room)), take-append-le (e .constants) k constants (omega (arith, r .fine .constants, r .long)))
+pub copied : {k constants′ : List ℕ} (e : Emitter) (constants : List ℕ) → Fine e → pools.Held k → maxConstants ≤ length constants → constants′ ≡ fitted (length constants) (take (e .constants) k) → Copied e k constants constants′
+copied {k} {constants′} e constants fine held room is =
+    let many : length (take (e .constants) k) ≡ e .constants = length-take-le (e .constants) k (omega (arith, fine .constants, held .size)) in
+    let fits : length (take (e .constants) k) ≤ length constants = omega (arith, fine .constants) in
+    let f = fitted-is (length constants) (take (e .constants) k) fits is in
+    record { same = rw f (front (length constants) (take (e .constants) k) (e .constants) many); long = ap length f ∙ length-filled (length constants) (take (e .constants) k) fits }
+
+pub lent-roomy : {e : Emitter} {k constants′ : List ℕ} (c code constants lines : List ℕ) → length c ≡ maxCode → Copied e k constants constants′ → Roomy (room code constants lines) → Roomy (room (c ++ drop maxCode code) constants′ lines)
+lent-roomy c code constants lines ec copy r =
+    record { code = rw (front-long c code maxCode ec (r .code)) (r .code); constants = rw (copy .long) (r .constants); lines = r .lines }
+
+pub whole-view : {e : Emitter} {c b k constants constants′ : List ℕ} (code : List ℕ) → Ready (world e c b k) → Copied e k constants constants′ → view (world e (c ++ code) b constants′) ≡ view (world e c b k)
+whole-view {e} {c} code r copy = rw (take-append-le (e .size) c code (omega (arith, r .fine .size, r .room)), copy .same)
 
 module _ (s : Sheet) (text : List ℕ) (h : Header) (next : ℕ) (there : program.Accepts text h next) {e₀ : Emitter} {v : World} (code book pool : List ℕ) (b : Begun (h .pos) e₀)
     (d : Did (run s (emitStmts (blockAt maxNesting (h .variables) text (h .statements) (record { at = next; row = 2 }) .0))) (world e₀ code book pool) v) where
@@ -98,21 +112,21 @@ module _ (s : Sheet) (text : List ℕ) (h : Header) (next : ℕ) (there : progra
   unfolding topStmts
   emission = emitted s (programOf text h) code book pool b (rw (there .top) at d)
 
-  module _ {e : Emitter} {c b′ k : List ℕ} (rest more : List ℕ) (is : v ≡ world e c b′ k) (ready : Ready v) where
-    whole : view (world e (c ++ rest) b′ (k ++ more)) ≡ emitProgram s (programOf text h)
-    whole = whole-view rest more (rw is at ready) ∙ (rw is at emission)
+  module _ {e : Emitter} {c b′ k more : List ℕ} (rest : List ℕ) {constants : List ℕ} (is : v ≡ world e c b′ k) (ready : Ready v) (copy : Copied e k constants more) where
+    whole : view (world e (c ++ rest) b′ more) ≡ emitProgram s (programOf text h)
+    whole = whole-view rest (rw is at ready) copy ∙ (rw is at emission)
 
     -- what `finish` is lent can be patched
-    pub lent-patchable : (rs : List Rule) → Good s → FromFile rs → e .refused ≡ 0 → Patchable s rs (state (world e (c ++ rest) b′ (k ++ more)))
+    pub lent-patchable : (rs : List Rule) → Good s → FromFile rs → e .refused ≡ 0 → Patchable s rs (state (world e (c ++ rest) b′ more))
     unfolding standing
-    lent-patchable rs g f on = patchable (f .file) s rs g (f .is) (programOf text h) (state (world e (c ++ rest) b′ (k ++ more))) (sym whole ∙ rw on)
+    lent-patchable rs g f on = patchable (f .file) s rs g (f .is) (programOf text h) (state (world e (c ++ rest) b′ more)) (sym whole ∙ rw on)
 
-    pub ends-emitted : (rs : List Rule) (code₀ constants₀ : List ℕ) {lines d n l : List ℕ} {o : Outcome} → length (c ++ rest) ≡ length code₀ → length (k ++ more) ≡ length constants₀
-        → Ends (finishing s rs (view (world e (c ++ rest) b′ (k ++ more)))) (c ++ rest) (k ++ more) lines d n l o → Ends (compileProgram s rs (programOf text h)) code₀ constants₀ lines d n l o
+    pub ends-emitted : (rs : List Rule) (code₀ : List ℕ) {lines d n l : List ℕ} {o : Outcome} → length (c ++ rest) ≡ length code₀
+        → Ends (finishing s rs (view (world e (c ++ rest) b′ more))) (c ++ rest) more lines d n l o → Ends (compileProgram s rs (programOf text h)) code₀ constants lines d n l o
     unfolding compileProgram
-    ends-emitted rs code₀ constants₀ eb ek ends = record {
+    ends-emitted rs code₀ eb ends = record {
       is = rw whole at (ends .is);
-      held = λ f q. (let g = ends .held f (rw whole q) in record { code = rw eb at (g .code); constants = rw ek at (g .constants); lines = g .lines });
+      held = λ f q. (let g = ends .held f (rw whole q) in record { code = rw eb at (g .code); constants = rw (copy .long) at (g .constants); lines = g .lines });
     }
 
 -- ---- 14, 7, and the rest

@@ -14,7 +14,6 @@ use crate::call;
 use crate::call::Answer;
 use crate::call::Outcome;
 use definition::MAX_CODE;
-use definition::MAX_CONSTANTS;
 use definition::OUTPUT_SHORT;
 use emit::Constant;
 use emit::Emitter;
@@ -47,6 +46,7 @@ fn compile_accepted(
     ensures { λ r. ⌜ Ends (compileProgram (sheetIn (now (sheet .entry))) (rulesIn (now (rules .entry)) count) (programOf (now (text .entry)) (record { variables = variables; statements = statements; pos = posView pos }))) (now (code .entry)) (now (constants .entry)) (now (lines .entry)) (now (code .exit)) (now (constants .exit)) (now (lines .exit)) r ⌝ }
 {
     let mut book = [0u16; book::BOOK_SIZE];
+    let mut pool = [0u32; emit::POOL_SIZE];
     let begun = Emitter::new(pos);
     let top = Cursor { at: next, row: 2 };
     let walked = stmt::emit_stmts(
@@ -54,13 +54,15 @@ fn compile_accepted(
         sheet,
         &mut code[..MAX_CODE],
         &mut book,
-        &mut constants[..MAX_CONSTANTS],
+        &mut pool,
         variables,
         numbers::wide(statements),
         begun,
         top,
     );
     let e = walked.emitter;
+    let n = e.constants;
+    store::fill_words(&pool[..n], constants);
     call::finish(sheet, rules, count, e, &book, code, constants, lines)
 }
 

@@ -16,11 +16,12 @@ ghost use Rattle.expr.specs.Went.{Went};
 ghost use Rattle.line_run.specs.Run.{entriesIn, kept, over};
 use definition::ENTRY_SIZE;
 use definition::MAX_CODE;
-use definition::MAX_CONSTANTS;
 use definition::MAX_PROGRAM;
 use emit::Constant;
 use emit::Emitter;
 use emit::Label;
+use emit::POOL_SIZE;
+use emit::POOL_SIZE;
 use emit::book;
 use emit::book::BOOK_SIZE;
 use lent_emitter::Lent;
@@ -260,7 +261,7 @@ fn loop_statement(
 fn by_steps(sheet: &[u8]) {
     let mut code = [0u8; MAX_CODE];
     let mut book = [0u16; BOOK_SIZE];
-    let mut pool = [0u32; MAX_CONSTANTS];
+    let mut pool = [0u32; POOL_SIZE];
     let lent = Lent { emitter: start() };
     let done = loop_statement(lent, sheet, &mut code, &mut book, &mut pool);
     print_emitted(done.emitter, &code, &book);
@@ -274,7 +275,7 @@ fn by_reference(sheet: &[u8], text: &[u8], n: usize) {
     }
     let mut code = [0u8; MAX_CODE];
     let mut book = [0u16; BOOK_SIZE];
-    let mut pool = [0u32; MAX_CONSTANTS];
+    let mut pool = [0u32; POOL_SIZE];
     let top = Cursor { at: 0, row: 1 };
     let lent = Lent { emitter: start() };
     let w = statements(
@@ -298,7 +299,7 @@ fn by_value(sheet: &[u8], text: &[u8], n: usize) {
     }
     let mut code = [0u8; MAX_CODE];
     let mut book = [0u16; BOOK_SIZE];
-    let mut pool = [0u32; MAX_CONSTANTS];
+    let mut pool = [0u32; POOL_SIZE];
     let top = Cursor { at: 0, row: 1 };
     let w = stmt::emit_stmts(
         text,

@@ -12,7 +12,7 @@ use Rattle.rewrite.proofs.apply_peephole.Tie as tie
 use borrow.Author.Needs.{needs}
 
 abbrev Inv-loop : tie.InvT-loop
-Inv-loop sheet rules count pass marks code₀ moves₀ index at₀ to₀ next₀ code moves at to next = Going (sheetIn sheet) (matcher rules count pass) (marked marks) code₀ code moves at to (nextView next)
+Inv-loop sheet rules count pass marks code₀ moves₀ index at₀ to₀ next₀ code moves at to next = Going (sheetIn sheet) (matcher rules count pass) (marked marks) code₀ (length moves₀) code moves at to (nextView next)
 
 abbrev μ-loop : tie.MeasureT-loop
 μ-loop sheet rules count pass marks code₀ moves₀ index at₀ to₀ next₀ code moves at to next = length code₀ - at
@@ -29,12 +29,12 @@ apply-peephole-spec =
     (λ c κs. (still-ready (c .before .before .before .before .before .before .before .before .before .pre .0) (c .before .before .loop .inv .room), (c .before .before .before .make-index .ensures, c .before .before .loop .inv .later)))  -- decide-requires
     (λ c κs. omega (arith, c .before .before .before .loop .inv .behind, c .before .before .before .loop .inv .within, c .before .before .before .loop .inv .room, c .before .before .before .before .before .before .before .before .before .before .pre .0 .small))  -- narrow-requires
     (λ c. omega (arith, c .before .before .before .before .loop .inv .within, c .before .before .before .before .loop .inv .room, c .before .before .before .before .before .before .before .before .before .before .before .pre .0 .small))  -- mul-moves
-    (λ c. omega (arith, c .before .before .before .before .loop .inv .within, c .before .before .before .before .loop .inv .room, c .before .before .before .before .loop .inv .slots, c .before .before .before .before .before .before .before .before .before .before .before .pre .0 .small))  -- slice-write-moves
+    (λ c. omega (arith, c .before .before .before .before .loop .inv .within, c .before .before .before .before .loop .inv .room, c .before .before .before .before .loop .inv .long, c .before .before .before .before .loop .inv .slots))  -- slice-write-moves
     (λ c κs. search needs)  -- zero-bytes-requires
     (λ c. c .before .before .zero-bytes .kept .0 ∙ (c .before .before .before .before .before .before .before .before .before .loop) .inv .room)  -- same-length
-    (λ c. simp length-set (c .before .before .before .before .before .before .before .before .before .loop .inv .slots ∙ sym (c .before .before .before .before .before .before .before .before .before .before .before .before .before .before .before .before .pre .1 .slots)))  -- same-length-2
-    (λ c. finishes (c .before .before .before .before .before .before .before .before .before .loop .inv) (c .before .before .before .before .before .before .decide .ensures) (c .before .before .before .before .before .narrow .ensures) (c .before .before .before .before .before .before .before .before .before .before .before .before .before .before .before .before .pre .0 .small) (c .before .before .before .before .if1 .taken) (c .before .before .zero-bytes .ensures))  -- returns
+    (λ c. simp length-set (c .before .before .before .before .before .before .before .before .before .loop .inv .long))  -- same-length-2
+    (λ c. finishes (c .before .before .before .before .before .before .before .before .before .loop .inv) (c .before .before .before .before .before .before .decide .ensures) (c .before .before .before .before .before .narrow .ensures) (c .before .before .before .before .if1 .taken) (c .before .before .zero-bytes .ensures))  -- returns
     (λ c κs. ((c .before .before .before .before .before .before .loop .inv .behind, turn-within (c .before .before .before .decide .ensures) (c .before .if1 .left)), c .before .before .before .decide .ensures .fits))  -- apply-requires
     (λ c. omega (arith, turn-within (c .before .before .before .before .before .before .decide .ensures) (c .before .before .before .before .if1 .left), c .before .before .before .before .before .before .before .before .before .loop .inv .room, c .before .before .before .before .before .before .before .before .before .before .before .before .before .before .before .before .pre .0 .small))  -- add-at
     (λ c. omega (arith, turn-within (c .before .before .before .before .before .before .decide .ensures) (c .before .before .before .before .if1 .left), c .before .before .before .before .before .before .before .before .before .loop .inv .room, c .before .before .before .before .if1 .left))  -- loop-less
-    (λ c. turns (c .before .before .before .before .before .before .before .before .before .loop .inv) (c .before .before .before .before .before .before .decide .ensures) (c .before .before .before .before .before .narrow .ensures) (c .before .before .before .before .before .before .before .before .before .before .before .before .before .before .before .before .pre .0 .small) (c .before .before .before .before .if1 .left) (c .before .before .apply .ensures)))  -- loop-again
+    (λ c. turns (c .before .before .before .before .before .before .before .before .before .loop .inv) (c .before .before .before .before .before .before .decide .ensures) (c .before .before .before .before .before .narrow .ensures) (c .before .before .before .before .if1 .left) (c .before .before .apply .ensures)))  -- loop-again
