@@ -1,4 +1,4 @@
--- One walk for the functions of one signature: `Lent::emit_load_var`, `Lent::emit_store_var`, `Lent::emit_jmp`. The steps are those of `tools/thin`.
+-- The walk of `Lent::emit_load_var` and every function of its signature, as one. The steps are those of `tools/thin`.
 use mathlib.Core.Path.{_≡_, refl, ap, subst}
 use Prim.Native.Nat.{ℕ, _<_, _^_}
 use mathlib.Core.List.{[], _∷_, List}
