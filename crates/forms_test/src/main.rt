@@ -21,7 +21,6 @@ use emit::Constant;
 use emit::Emitter;
 use emit::Label;
 use emit::POOL_SIZE;
-use emit::POOL_SIZE;
 use emit::book;
 use emit::book::BOOK_SIZE;
 use lent_emitter::Lent;
