@@ -13,5 +13,5 @@ conditional-exit-spec =
     (λ c κs. (c .before .before .before .before .before .jmp .ensures .fine, c .before .before .before .before .before .jmp .ensures .slots))  -- bind-label-requires
     (λ c. c .before .before .before .before .before .before .before .before .jmp .ensures .room ∙ sym (c .before .before .before .before .before .before .before .before .before .before .before .before .before .before .before .before .before .before .before .before .before .before .before .before .before .before .before .before .before .before .pre .room))  -- same-length
     (λ c. c .before .before .bind-label .ensures .slots ∙ sym (c .before .before .before .before .before .before .before .before .before .before .before .before .before .before .before .before .before .before .before .before .before .before .before .before .before .before .before .before .before .before .pre .slots))  -- same-length-2
-    (λ c. c .before .before .before .before .before .before .before .before .before .before .before .before .before .before .before .before .before .cmp-br .ensures .ready .long ∙ sym (c .before .before .before .before .before .before .before .before .before .before .before .before .before .before .before .before .before .before .before .before .before .before .before .before .before .before .before .before .before .before .pre .long))  -- same-length-3
+    (λ c. c .before .before .before .before .before .before .before .before .before .before .before .before .before .before .before .before .before .cmp-br .ensures .ready .long .size ∙ sym (c .before .before .before .before .before .before .before .before .before .before .before .before .before .before .before .before .before .before .before .before .before .before .before .before .before .before .before .before .before .before .pre .long .size))  -- same-length-3
     (λ c. record { fine = c .before .before .bind-label .ensures .fine; room = c .before .before .before .before .before .before .before .before .jmp .ensures .room; slots = c .before .before .bind-label .ensures .slots; long = c .before .before .before .before .before .before .before .before .before .before .before .before .before .before .before .before .before .cmp-br .ensures .ready .long }))  -- returns

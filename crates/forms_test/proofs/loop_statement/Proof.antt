@@ -17,5 +17,5 @@ loop-statement-spec =
     (λ c κs. (c .before .before .before .before .before .jmp .ensures .fine, c .before .before .before .before .before .jmp .ensures .slots))  -- bind-label-requires-2
     (λ c. c .before .before .before .before .before .before .before .before .jmp .ensures .room ∙ sym (c .before .before .before .before .before .before .before .before .before .before .before .before .before .before .before .before .before .before .before .before .before .before .before .before .before .before .before .before .before .before .before .before .before .before .before .before .before .before .before .before .before .before .before .before .before .before .before .before .before .before .before .pre .room))  -- same-length
     (λ c. c .before .before .bind-label2 .ensures .slots ∙ sym (c .before .before .before .before .before .before .before .before .before .before .before .before .before .before .before .before .before .before .before .before .before .before .before .before .before .before .before .before .before .before .before .before .before .before .before .before .before .before .before .before .before .before .before .before .before .before .before .before .before .before .before .pre .slots))  -- same-length-2
-    (λ c. c .before .before .before .before .before .before .before .before .before .before .before .before .before .before .before .before .before .conditional-exit .ensures .long ∙ sym (c .before .before .before .before .before .before .before .before .before .before .before .before .before .before .before .before .before .before .before .before .before .before .before .before .before .before .before .before .before .before .before .before .before .before .before .before .before .before .before .before .before .before .before .before .before .before .before .before .before .before .before .pre .long))  -- same-length-3
+    (λ c. c .before .before .before .before .before .before .before .before .before .before .before .before .before .before .before .before .before .conditional-exit .ensures .long .size ∙ sym (c .before .before .before .before .before .before .before .before .before .before .before .before .before .before .before .before .before .before .before .before .before .before .before .before .before .before .before .before .before .before .before .before .before .before .before .before .before .before .before .before .before .before .before .before .before .before .before .before .before .before .before .pre .long .size))  -- same-length-3
     (λ c. record { fine = c .before .before .bind-label2 .ensures .fine; room = c .before .before .before .before .before .before .before .before .jmp .ensures .room; slots = c .before .before .bind-label2 .ensures .slots; long = c .before .before .before .before .before .before .before .before .before .before .before .before .before .before .before .before .before .conditional-exit .ensures .long }))  -- returns
