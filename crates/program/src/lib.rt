@@ -301,7 +301,8 @@ fn noteworthy(heed: bool, left: usize, p: Parts, b: Walk, c: Walk) -> bool
     fits(left, p.first, b, c)
 }
 
-// Of the bodies of a level in the part that is skipped now the longest is kept: the others together are walked again but a few times.
+// Is the body from start to end noted in place of the one that is? Of a level's bodies in the part that is skipped now the longest stays: to skip it
+// again would cost most.
 fn replaces(ends: &[u16], left: usize, start: usize, end: usize) -> bool
     requires { ⌜ length (now ends) ≡ endsSize ⌝ }
     requires { ⌜ left < maxNesting ⌝ }
