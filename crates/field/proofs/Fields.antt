@@ -1,51 +1,98 @@
 -- The fields of a text, walked with one look at each byte: a field ends at its comma or with its line.
 use mathlib.Core.Path.{_≡_, refl, ap, sym, _∙_}
 use mathlib.Core.Bool.{Bool, true, false}
+use mathlib.Core.Option.{none}
 use mathlib.Core.List.{List, [], _∷_}
-use Prim.Native.Nat.{ℕ, suc, _+_, _-_, _≤_, _<_}
+use Prim.Native.Nat.{ℕ, suc, _+_, _-_, _^_, _≤_, _<_}
 use native.Mathlib.Decide.{decLt, ℕ-discrete}
 use native.Mathlib.Omega.{arith}
-use borrow.Author.Tests.{eqb-true, lt-ltb, le-ltb}
+use borrow.Author.Tests.{eqb-true, lt-ltb, le-ltb, ne-eqb}
 use lib.Dec.{eqb, ltb}
-use lib.ListN.{length, getD, drop, length-drop, List·getD-eq-default}
+use lib.ListN.{length, getD, drop, length-drop}
 use lib.Seq.{drop-drop, getD-drop}
 use Rattle.definition.specs.Field as def
-use Rattle.definition.specs.Field.{lf, comma, onto, split, firstLine, naturalWithin, field, upTo}
+use Rattle.definition.specs.Field.{lf, comma, onto, split, firstLine, natural, naturalWithin, negative, field, upTo, below, value}
 use Rattle.field.specs.declared.Number.{Number}
-use Rattle.field.specs.declared.Number.the-variants.{Empty}
-use Rattle.field.specs.View.{cap, numberOf, longer, until, separates, firstField, Reads, lineEnd, lineFields, separator}
-use Rattle.field.proofs.Numbers.{after, natural-after, up-to-is}
-use Rattle.field.proofs.Parts.{Finding, finds-start, finds-next, finds-here, finds-end, until-next, until-here, until-end, split-sep, split-other, Some, some-part, split-some}
+use Rattle.field.specs.declared.Number.the-variants.{Empty, Malformed, Is}
+use Rattle.field.specs.View.{cap, capped, numberOf, isDigit, withDigit, longer, after, until, separates, firstField, Stops, Counts, Reads, lineEnd, lineFields, separator}
+use Rattle.field.proofs.Lists.{first-left, there, no-bytes}
+use Rattle.field.proofs.Numbers.{digit-low, digit-high, longer-digit, after-malformed, natural-after, up-to-is, below-is, value-plain, value-minus}
+use Rattle.field.proofs.Parts.{Finding, finds-start, finds-next, finds-rest, until-next, until-here, until-end, until-first, split-sep, split-other, Some, some-part, split-some}
 
--- ---- one field, byte by byte: what is left makes of the number so far what all of it makes of none
-pub record Scanning (text : List ℕ) (at : ℕ) (n : Number) (i : ℕ) : Type 0 where
+-- ---- one field, byte by byte: what is left makes of the number so far what all of it makes of the first
+pub record Scanning (first : Number) (text : List ℕ) (at : ℕ) (n : Number) (i : ℕ) : Type 0 where
   pub finding : Finding separates text at i
-  pub makes : after Empty (firstField (drop at text)) ≡ after n (firstField (drop i text))
+  pub makes : after first (firstField (drop at text)) ≡ after n (firstField (drop i text))
 
-pub scans-start : (text : List ℕ) (at : ℕ) → Scanning text at Empty at
-scans-start text at = record { finding = finds-start separates text at; makes = refl }
+pub scans-start : (first : Number) (text : List ℕ) (at : ℕ) → Scanning first text at first at
+scans-start first text at = record { finding = finds-start separates text at; makes = refl }
 
-module _ {text : List ℕ} {at i : ℕ} {n : Number} (s : Scanning text at n i) where
-  pub scans-next : i < length text → false ≡ separates (getD text i 0) → {m : Number} → m ≡ longer n (getD text i 0) → Scanning text at m (i + 1)
+digit-inside : (b : ℕ) → true ≡ isDigit b → separates b ≡ false
+digit-inside b e = rw (ne-eqb b comma (λ c. omega (arith, digit-low b e)), ne-eqb b lf (λ c. omega (arith, digit-low b e)))
+
+module _ {first n : Number} {text : List ℕ} {at i : ℕ} (s : Scanning first text at n i) where
+  pub scans-next : i < length text → true ≡ isDigit (getD text i 0) → {m : Number} → m ≡ longer n (getD text i 0) → Scanning first text at m (i + 1)
   unfolding after
   scans-next h e q = record {
-    finding = finds-next (s .finding) h (sym e);
-    makes = rw q (s .makes ∙ ap (after n) (until-next separates text i h (sym e)));
+    finding = finds-next (s .finding) h (digit-inside (getD text i 0) e);
+    makes = rw q (s .makes ∙ ap (after n) (until-next separates text i h (digit-inside (getD text i 0) e)));
   }
 
-  -- what the number is once nothing of the field is left
-  module _ (max : ℕ) (low : max + 1 ≤ cap) {x : def.Read} (w : x ≡ naturalWithin (λ k. ltb k (max + 1)) (numberOf n)) where
-    held : firstField (drop i text) ≡ [] → x ≡ field (upTo max) (firstField (drop at text))
-    unfolding after
-    held none =
-        let all : after Empty (firstField (drop at text)) ≡ n = s .makes ∙ ap (after n) none in
-        up-to-is (firstField (drop at text)) (ap numberOf (sym all) ∙ natural-after (firstField (drop at text))) max low w
+  pub scans-rest : {m : Number} {end stop : ℕ} → Counts n text i m end stop → Counts first text at m end stop
+  scans-rest c = record { makes = c .makes ∙ ap numberOf (sym (s .makes)); stops = record { ends = finds-rest (s .finding) (c .stops .ends); byte = c .stops .byte } }
 
-    pub scans-here : i < length text → true ≡ separates (getD text i 0) → Reads (upTo max) text at x i (getD text i 0)
-    scans-here h e = record { holds = held (until-here separates text i h (sym e)); ends = finds-here (s .finding) h (sym e); stops = refl }
+-- a field whose first byte is this digit
+pub scans-digit : {text : List ℕ} {at b d : ℕ} {m : Number} {end stop : ℕ} → true ≡ isDigit b → b ≡ getD text at 0 → d ≡ b - 48 → Counts (Is d) text (at + 1) m end stop → Counts Empty text at m end stop
+unfolding withDigit
+scans-digit {text} {at} {b} {d} e h q c =
+    let there-is : at < length text = there text at (λ z. omega (arith, h, digit-low b e)) in
+    scans-rest (scans-next (scans-start Empty text at) there-is (rw (← h) e) (rw (← h, q) (longer-digit Empty (digit-low b e) (digit-high b e) refl))) c
 
-    pub scans-end : length text ≤ i → Reads (upTo max) text at x i 0
-    scans-end h = record { holds = held (until-end separates text i h); ends = finds-end (s .finding) h; stops = sym (List·getD-eq-default text 0 h) }
+-- ---- where no digit goes on
+module _ (n : Number) {text : List ℕ} {i end stop : ℕ} (s : Stops text i end stop) where
+  pub closes-here : end ≡ i → Counts n text i n end stop
+  unfolding after
+  closes-here e =
+      let none-left : firstField (drop i text) ≡ [] = no-bytes _ (omega (arith, s .ends .is)) in
+      record { makes = ap (λ (l : List ℕ). numberOf (after n l)) (sym none-left); stops = s }
+
+  pub closes-past : longer n (getD text i 0) ≡ Malformed → (end ≡ i → ⊥) → Counts n text i Malformed end stop
+  unfolding after
+  closes-past m h = record { makes = go (decLt i (length text)) (separates (getD text i 0)) refl; stops = s }
+    where
+      go : Dec (i < length text) → (b : Bool) → separates (getD text i 0) ≡ b → none ≡ numberOf (after n (firstField (drop i text)))
+      go (no l) b e = absurd (h (omega (arith, s .ends .is, ap length (until-end separates text i (omega arith)))))
+      go (yes l) true e = absurd (h (omega (arith, s .ends .is, ap length (until-here separates text i l e))))
+      go (yes l) false e =
+          let more = firstField (drop (i + 1) text) in
+          sym (ap (λ (k : List ℕ). numberOf (after n k)) (until-next separates text i l e) ∙ ap (λ (k : Number). numberOf (after k more)) m ∙ after-malformed more)
+
+-- ---- what a field holds, from its number
+counted : {text : List ℕ} {at end stop : ℕ} {n : Number} → Counts Empty text at n end stop → numberOf n ≡ capped (natural (firstField (drop at text)))
+counted c = c .makes ∙ natural-after _
+
+module _ {text : List ℕ} {at end stop : ℕ} {n : Number} where
+  module _ (c : Counts Empty text at n end stop) where
+    pub reads-up-to : {x : def.Read} (max : ℕ) → max + 1 ≤ cap → x ≡ naturalWithin (λ k. ltb k (max + 1)) (numberOf n) → Reads (upTo max) text at x end stop
+    reads-up-to max low w = record { holds = up-to-is _ (counted c) max low w; ends = c .stops .ends; stops = c .stops .byte }
+
+    pub reads-below : {x : def.Read} (limit : ℕ) → limit ≤ cap → x ≡ naturalWithin (λ k. ltb k limit) (numberOf n) → Reads (below limit) text at x end stop
+    reads-below limit low w = record { holds = below-is _ (counted c) limit low w; ends = c .stops .ends; stops = c .stops .byte }
+
+    pub reads-plain : {x : def.Read} (w : ℕ) → 2 ^ (w - 1) < cap → (getD text at 0 ≡ 45 → ⊥) → x ≡ naturalWithin (λ k. ltb k (2 ^ (w - 1))) (numberOf n) → Reads (value w) text at x end stop
+    reads-plain w low h e = record { holds = value-plain w _ low (counted c) (λ z. h (sym (first-left at text 0) ∙ sym (until-first separates (drop at text) (there (firstField (drop at text)) 0 (λ y. omega (arith, y, z)))) ∙ z)) e; ends = c .stops .ends; stops = c .stops .byte }
+
+  -- behind a minus
+  pub reads-minus : {x : def.Read} → Counts Empty text (at + 1) n end stop → (w : ℕ) → 2 ^ (w - 1) < cap → getD text at 0 ≡ 45 → x ≡ negative w (numberOf n) → Reads (value w) text at x end stop
+  reads-minus c w low h e =
+      let inside : at < length text = there text at (λ z. omega arith) in
+      let goes : separates (getD text at 0) ≡ false = rw h refl in
+      let all : firstField (drop at text) ≡ getD text at 0 ∷ firstField (drop (at + 1) text) = until-next separates text at inside goes in
+      record {
+        holds = rw all (value-minus w (getD text at 0 ∷ firstField (drop (at + 1) text)) low (counted c) h e);
+        ends = finds-rest (finds-next (finds-start separates text at) inside goes) (c .stops .ends);
+        stops = c .stops .byte;
+      }
 
 -- ---- a field and its line
 
@@ -94,17 +141,17 @@ stays (b ∷ bs) = go (eqb b comma) (eqb b lf) refl refl (stays bs)
         let m = more (rw (field-on b bs p q) at e) in
         rw (field-on b bs p q, line-on b bs q) (split-other comma b (firstLine bs) p ∙ ap (onto b) (m .0), ap suc (m .1), λ h. omega (arith, m .2 h))
 
-module _ {f : def.Field} {text : List ℕ} {at end stop : ℕ} {x : def.Read} (r : Reads f text at x end stop) where
+-- the end of a field that was read
+pub read-stops : {f : def.Field} {text : List ℕ} {at end stop : ℕ} {x : def.Read} → Reads f text at x end stop → Stops text at end stop
+read-stops r = record { ends = r .ends; byte = r .stops }
+
+module _ {text : List ℕ} {at end stop : ℕ} (r : Stops text at end stop) where
   here : getD (drop at text) (length (firstField (drop at text))) 0 ≡ stop
-  here = getD-drop at text (length (firstField (drop at text))) 0 ∙ ap (λ (i : ℕ). getD text i 0) (sym (r .ends .is)) ∙ sym (r .stops)
+  here = getD-drop at text (length (firstField (drop at text))) 0 ∙ ap (λ (i : ℕ). getD text i 0) (sym (r .ends .is)) ∙ sym (r .byte)
 
   -- a byte that is there, and not the 0 for the text's end
   pub stop-inside : (stop ≡ 0 → ⊥) → end < length text
-  stop-inside n = go (decLt end (length text))
-    where
-      go : Dec (end < length text) → end < length text
-      go (yes h) = h
-      go (no h) = absurd (n (r .stops ∙ List·getD-eq-default text 0 (omega arith)))
+  stop-inside n = there text end (λ e. n (r .byte ∙ e))
 
   module _ (c : stop ≡ comma) where
     behind : drop (suc (length (firstField (drop at text)))) (drop at text) ≡ drop (end + 1) text
@@ -112,7 +159,7 @@ module _ {f : def.Field} {text : List ℕ} {at end stop : ℕ} {x : def.Read} (r
         let far : at + suc (length (firstField (drop at text))) ≡ end + 1 = omega (arith, r .ends .is) in
         drop-drop (suc (length (firstField (drop at text)))) at text ∙ ap (λ (k : ℕ). drop k text) far
 
-    comma-fields : lineFields text at ≡ firstField (drop at text) ∷ lineFields text (end + 1)
+    pub comma-fields : lineFields text at ≡ firstField (drop at text) ∷ lineFields text (end + 1)
     unfolding Goes
     comma-fields = rw (← behind) (goes (drop at text) (here ∙ c) .0)
 
@@ -121,7 +168,7 @@ module _ {f : def.Field} {text : List ℕ} {at end stop : ℕ} {x : def.Read} (r
     comma-line = omega (arith, r .ends .is, rw behind at (goes (drop at text) (here ∙ c) .1))
 
   module _ (c : stop ≡ comma → ⊥) where
-    last-field : lineFields text at ≡ firstField (drop at text) ∷ []
+    pub last-field : lineFields text at ≡ firstField (drop at text) ∷ []
     unfolding Stays
     last-field = stays (drop at text) (λ e. c (sym here ∙ e)) .0
 
@@ -156,27 +203,26 @@ module _ {text : List ℕ} {from k at : ℕ} (w : Walk text from k at) where
       where
         by : {more : List (List ℕ)} → lineFields text at ≡ firstField (drop at text) ∷ more → x ≡ field f (getD (lineFields text from) k [])
         by e =
-            let z : k + 0 ≡ k = omega arith in
-            let q : getD (lineFields text from) k [] ≡ firstField (drop at text) = rw z at (sym (getD-drop k (lineFields text from) 0 []) ∙ ap (λ (l : List (List ℕ)). getD l 0 []) (w .rest ∙ e)) in
+            let q : getD (lineFields text from) k [] ≡ firstField (drop at text) = sym (first-left k (lineFields text from) []) ∙ ap (λ (l : List (List ℕ)). getD l 0 []) (w .rest ∙ e) in
             r .holds ∙ ap (field f) (sym q)
 
         go : Dec (stop ≡ comma) → x ≡ field f (getD (lineFields text from) k [])
-        go (yes c) = by (comma-fields r c)
-        go (no c) = by (last-field r c)
+        go (yes c) = by (comma-fields (read-stops r) c)
+        go (no c) = by (last-field (read-stops r) c)
 
     module _ (c : stop ≡ comma) where
       pub walk-next : Walk text from (k + 1) (end + 1)
       walk-next = record {
-        rest = sym (drop-drop 1 k (lineFields text from)) ∙ ap (drop 1) (w .rest ∙ comma-fields r c);
-        same = w .same ∙ comma-line r c;
+        rest = sym (drop-drop 1 k (lineFields text from)) ∙ ap (drop 1) (w .rest ∙ comma-fields (read-stops r) c);
+        same = w .same ∙ comma-line (read-stops r) c;
       }
 
     module _ (c : stop ≡ comma → ⊥) where
       pub walk-last : length (lineFields text from) ≡ k + 1
-      walk-last = omega (arith, walk-inside, length-drop k (lineFields text from), ap length (w .rest ∙ last-field r c))
+      walk-last = omega (arith, walk-inside, length-drop k (lineFields text from), ap length (w .rest ∙ last-field (read-stops r) c))
 
       pub walk-end : lineEnd text from ≡ end
-      walk-end = w .same ∙ last-line r c
+      walk-end = w .same ∙ last-line (read-stops r) c
 
 -- ---- a whole line, whose last field is `last`
 
@@ -218,11 +264,11 @@ module _ {text : List ℕ} {from last k at : ℕ} (w : Walked text from last k a
           let line : stop ≡ lf = e ∙ separator-line k last (omega arith) in
           let other : stop ≡ comma → ⊥ = λ c. omega (arith, line) in
           let end-is = walk-end (w .going h) r other in
-          let whole : Whole text from (last + 1) = record { many = omega (arith, walk-last (w .going h) r other); ended = omega (arith, end-is, stop-inside r (λ z. omega (arith, line))) } in
+          let whole : Whole text from (last + 1) = record { many = omega (arith, walk-last (w .going h) r other); ended = omega (arith, end-is, stop-inside (read-stops r) (λ z. omega (arith, line))) } in
           record { low = omega arith; going = λ m. absurd (omega arith); done = λ m. (whole, omega (arith, end-is)) }
 
   pub walked-inside : stop ≡ separator k last → end < length text
-  walked-inside e = stop-inside r (λ z. separator-there k last (sym e ∙ z))
+  walked-inside e = stop-inside (read-stops r) (λ z. separator-there k last (sym e ∙ z))
 
   pub walked-off : (stop ≡ separator k last → ⊥) → Whole text from (last + 1) → ⊥
   walked-off n whole = go (ℕ-discrete stop comma) (decLt k last)
@@ -231,4 +277,4 @@ module _ {text : List ℕ} {from last k at : ℕ} (w : Walked text from last k a
       go (yes c) (yes l) = n (c ∙ sym (separator-comma k last l))
       go (yes c) (no l) = omega (arith, walk-inside (walk-next (w .going h) r c), whole .many)
       go (no c) (yes l) = omega (arith, walk-last (w .going h) r c, whole .many)
-      go (no c) (no l) = omega (arith, last-end r c (λ z. n (z ∙ sym (separator-line k last (omega arith)))), walk-end (w .going h) r c, whole .ended)
+      go (no c) (no l) = omega (arith, last-end (read-stops r) c (λ z. n (z ∙ sym (separator-line k last (omega arith)))), walk-end (w .going h) r c, whole .ended)

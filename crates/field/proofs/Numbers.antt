@@ -9,8 +9,8 @@ use native.Mathlib.Nat.{le-of-lt}
 use native.Mathlib.Omega.{arith, min-cases}
 use borrow.Author.Tests.{le-leb, lt-leb, lt-ltb, le-ltb, eq-eqb, ne-eqb, leb-true, eqb-true, eqb-false}
 use lib.Dec.{leb, ltb, eqb, leb·suc-suc}
-use lib.ListN.{length, getD, take, drop, length-drop, drop-of-length-le}
-use lib.Seq.{drop-cons, take-all}
+use lib.ListN.{length, getD, drop, drop-of-length-le, List·getD-eq-default}
+use lib.Seq.{drop-cons}
 use Rattle.definition.specs.Field as def
 use Rattle.definition.specs.Field.{digit0, digit9, digits, natural, within, naturalWithin, negative, signed, field, upTo, below, value, malformed, outside, is}
 use Rattle.field.specs.declared.Read.{Read}
@@ -19,7 +19,7 @@ use Rattle.field.specs.declared.Number.{Number}
 use Rattle.field.specs.declared.Number.the-variants as counted
 use Rattle.field.specs.declared.Number.the-variants.{Empty, Malformed}
 use Rattle.field.proofs.Tests.{and-left, and-right}
-use Rattle.field.specs.View.{readOf, cap, capped, numberOf, withDigit, longer}
+use Rattle.field.specs.View.{readOf, cap, capped, numberOf, isDigit, withDigit, longer, after}
 
 -- ---- counting
 
@@ -61,12 +61,25 @@ module _ (n : Number) {b : ℕ} where
   unfolding longer
   longer-digit l h e = rw (longer, le-leb digit0 b l, le-leb b digit9 h) e
 
--- after all of some bytes
-unfoldable pub after : Number → List ℕ → Number
-after n [] = n
-after n (b ∷ bs) = after (longer n b) bs
+-- a byte that is a digit, and one that is not
+pub digit-low : (b : ℕ) → true ≡ isDigit b → 48 ≤ b
+digit-low b e = leb-true digit0 b (and-left (leb digit0 b) _ (sym e))
 
-after-malformed : (bs : List ℕ) → numberOf (after Malformed bs) ≡ none
+pub digit-high : (b : ℕ) → true ≡ isDigit b → b ≤ 57
+digit-high b e = leb-true b digit9 (and-right (leb digit0 b) _ (sym e))
+
+pub longer-other : (n : Number) (b : ℕ) → false ≡ isDigit b → longer n b ≡ Malformed
+unfolding longer
+longer-other n b e = rw (longer, ← e)
+
+pub longer-past : (n : Number) (text : List ℕ) {i : ℕ} → length text ≤ i → longer n (getD text i 0) ≡ Malformed
+longer-past n text h = rw (List·getD-eq-default text 0 h) (longer-other n 0 refl)
+
+pub longer-zero : (b : ℕ) → longer (counted.Is 0) b ≡ Malformed
+unfolding longer withDigit
+longer-zero b = elim (isDigit b) as (λ t. elim t [ true ↦ Malformed | false ↦ Malformed ] ≡ Malformed) [ true ↦ refl | false ↦ refl ]
+
+pub after-malformed : (bs : List ℕ) → numberOf (after Malformed bs) ≡ none
 unfolding after longer withDigit
 after-malformed [] = refl
 after-malformed (b ∷ bs) =
@@ -83,6 +96,9 @@ pub digit-more : (n d : ℕ) → 0 < n → withDigit (counted.Is n) d ≡ counte
 unfolding withDigit
 digit-more zero d h = absurd (omega arith)
 digit-more (suc n) d h = refl
+
+pub grows : (n b : ℕ) {m : ℕ} → 0 < n → true ≡ isDigit b → m ≡ min (n * 10 + (b - 48)) cap → counted.Is m ≡ longer (counted.Is n) b
+grows n b low e q = rw q (longer-digit (counted.Is n) (digit-low b e) (digit-high b e) (sym (digit-more n (b - 48) low)))
 
 after-counted : (n : ℕ) (bs : List ℕ) → 0 < n → numberOf (after (counted.Is n) bs) ≡ count n bs
 unfolding after longer count
@@ -220,20 +236,14 @@ unfolding signed
 signed-minus w [] h = absurd (omega arith)
 signed-minus w (b ∷ bs) h = rw (signed, eq-eqb _ _ h)
 
-pub no-minus : (bs : List ℕ) → length bs ≤ 0 → getD bs 0 0 ≡ 45 → ⊥
-no-minus [] h e = omega arith
-no-minus (b ∷ bs) h e = omega arith
-
 module _ (w : ℕ) (bs : List ℕ) {o : Option ℕ} (low : 2 ^ (w - 1) < cap) {x : def.Read} where
   pub value-plain : o ≡ capped (natural bs) → (getD bs 0 0 ≡ 45 → ⊥) → x ≡ naturalWithin (λ n. ltb n (2 ^ (w - 1))) o → x ≡ field (value w) bs
   unfolding field
   value-plain is-o h e = e ∙ ap (naturalWithin (λ n. ltb n (2 ^ (w - 1)))) is-o ∙ capped-within (2 ^ (w - 1)) (le-of-lt low) (natural bs) ∙ sym (signed-plain w bs h)
 
-  pub value-minus : o ≡ capped (natural (take (length bs - 1) (drop 1 bs))) → getD bs 0 0 ≡ 45 → x ≡ negative w o → x ≡ field (value w) bs
+  pub value-minus : o ≡ capped (natural (drop 1 bs)) → getD bs 0 0 ≡ 45 → x ≡ negative w o → x ≡ field (value w) bs
   unfolding field
-  value-minus is-o h e =
-      let all : take (length bs - 1) (drop 1 bs) ≡ drop 1 bs = take-all (length bs - 1) (drop 1 bs) (omega (arith, length-drop 1 bs)) in
-      e ∙ ap (negative w) (is-o ∙ ap (λ (l : List ℕ). capped (natural l)) all) ∙ capped-negative w low (natural (drop 1 bs)) ∙ sym (signed-minus w bs h)
+  value-minus is-o h e = e ∙ ap (negative w) is-o ∙ capped-negative w low (natural (drop 1 bs)) ∙ sym (signed-minus w bs h)
 
 -- ---- a field's number is within its bound
 

@@ -34,6 +34,14 @@ module _ (stops : ℕ → Bool) where
       elim (stops b) as (λ t. take (length {A = ℕ} (elim t [ true ↦ [] | false ↦ b ∷ until stops bs ])) (b ∷ bs) ≡ elim t [ true ↦ [] | false ↦ b ∷ until stops bs ])
       [ true ↦ refl | false ↦ ap (λ (l : List ℕ). b ∷ l) (until-take bs) ]
 
+  -- its first byte, if it has one
+  pub until-first : (bs : List ℕ) → 0 < length (until stops bs) → getD (until stops bs) 0 0 ≡ getD bs 0 0
+  unfolding until
+  until-first [] = λ h. refl
+  until-first (b ∷ bs) =
+      elim (stops b) as (λ t. 0 < length {A = ℕ} (elim t [ true ↦ [] | false ↦ b ∷ until stops bs ]) → getD {A = ℕ} (elim t [ true ↦ [] | false ↦ b ∷ until stops bs ]) 0 0 ≡ b)
+      [ true ↦ λ h. absurd (omega arith) | false ↦ λ h. refl ]
+
   -- byte by byte
   module _ (bytes : List ℕ) (i : ℕ) where
     pub until-next : i < length bytes → stops (getD bytes i 0) ≡ false → until stops (drop i bytes) ≡ getD bytes i 0 ∷ until stops (drop (i + 1) bytes)
@@ -157,3 +165,7 @@ module _ {stops : ℕ → Bool} {bytes : List ℕ} {at i : ℕ} (f : Finding sto
 
   pub finds-end : length bytes ≤ i → Ends (until stops) bytes at i
   finds-end h = finds-none (until-end stops bytes i h)
+
+  -- where the rest ends, all of it does
+  pub finds-rest : {r : ℕ} → Ends (until stops) bytes i r → Ends (until stops) bytes at r
+  finds-rest e = record { is = omega (arith, f .more, e .is); low = omega (arith, f .low, e .low); high = omega (arith, f .low, f .high, e .high) }

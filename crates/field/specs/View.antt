@@ -38,9 +38,17 @@ withDigit counted.Malformed d = counted.Malformed
 withDigit (counted.Is zero) d = counted.Malformed
 withDigit (counted.Is (suc n)) d = counted.Is (min (suc n * 10 + d) cap)
 
+abbrev pub isDigit : ℕ → Bool
+isDigit b = leb def.digit0 b && leb b def.digit9
+
 -- one byte more
 unfoldable pub longer : number.Number → ℕ → number.Number
-longer n b = elim (leb def.digit0 b && leb b def.digit9) [ true ↦ withDigit n (b - def.digit0) | false ↦ counted.Malformed ]
+longer n b = elim (isDigit b) [ true ↦ withDigit n (b - def.digit0) | false ↦ counted.Malformed ]
+
+-- all of some bytes more
+unfoldable pub after : number.Number → List ℕ → number.Number
+after n [] = n
+after n (b ∷ bs) = after (longer n b) bs
 
 -- the bytes before the first that stops, or all of them
 unfoldable pub until : (ℕ → Bool) → List ℕ → List ℕ
@@ -63,6 +71,16 @@ pub record Ends (part : List ℕ → List ℕ) (bytes : List ℕ) (at r : ℕ) :
   pub is : r ≡ at + length (part (drop at bytes))
   pub low : at ≤ r
   pub high : r ≤ at + (length bytes - at)
+
+-- the field of a text that starts at `at`: where it ends, and the byte that it ends at
+pub record Stops (text : List ℕ) (at end stop : ℕ) : Type 0 where
+  pub ends : Ends firstField text at end
+  pub byte : stop ≡ getD text end 0
+
+-- a field's number from byte i of the text on, after bytes that made n
+pub record Counts (n : number.Number) (text : List ℕ) (i : ℕ) (m : number.Number) (end stop : ℕ) : Type 0 where
+  pub makes : numberOf m ≡ numberOf (after n (firstField (drop i text)))
+  pub stops : Stops text i end stop
 
 -- the field of a text that starts at `at`: what it holds, where it ends, and the byte that it ends at
 pub record Reads (f : def.Field) (text : List ℕ) (at : ℕ) (read : def.Read) (end stop : ℕ) : Type 0 where

@@ -1,12 +1,13 @@
 // Lines, fields and decimal numbers of lent bytes. A number of any length is one: it is counted up to a cap above every bound, so that nothing wraps
 // and what is malformed is told apart from what is out of its range.
 ghost use mathlib.Core.Path.{_≡_};
-ghost use Prim.Native.Nat.{_≤_, _+_, _*_, _^_, min};
+ghost use Prim.Native.Nat.{_≤_, _<_, _+_, _*_, _^_, min};
 ghost use lib.Dec.{ltb};
 ghost use lib.ListN.{getD};
 ghost use Rattle.definition.specs.Limits.{width};
 ghost use Rattle.definition.specs.Field.{comma, firstLine, natural, naturalWithin, negative, field, upTo, below, value};
-ghost use Rattle.field.specs.View.{readOf, numberOf, longer, separates, capped, cap, before, Ends, Reads, separator};
+ghost use Rattle.field.specs.declared.Number.the-variants.{Empty, Malformed, Is};
+ghost use Rattle.field.specs.View.{readOf, numberOf, isDigit, longer, separates, capped, cap, before, Ends, Stops, Counts, Reads, separator};
 use definition::WIDTH;
 
 // A field as it is read; a value is its two's complement bits.
@@ -23,11 +24,24 @@ pub struct Next {
     pub stop: u8,
 }
 
+// Where a field of a text ends, and the byte that it ends at.
+pub struct End {
+    pub end: usize,
+    pub stop: u8,
+}
+
 // A number with no sign, after some of its bytes, counted up to the cap. With a leading zero it is malformed from its second digit on.
 enum Number {
     Empty,
     Malformed,
     Is(u64),
+}
+
+// The number of a field of a text, where it ends, and the byte that it ends at.
+struct Counted {
+    number: Number,
+    end: usize,
+    stop: u8,
 }
 
 // Where counting stops: above every value, of 64 bits too, and a power of ten, so that one test of the number before a digit decides.
@@ -138,25 +152,6 @@ pub fn up_to(bytes: &[u8], max: u32) -> Read
     within(natural(bytes), max as u64 + 1)
 }
 
-// A field of 0 to below `limit`.
-pub fn below(bytes: &[u8], limit: u32) -> Read
-    ensures { λ r. ⌜ readOf r ≡ field (below limit) (now (bytes .entry)) ⌝ }
-{
-    within(natural(bytes), limit as u64)
-}
-
-// A value, which may have a minus.
-pub fn value(bytes: &[u8]) -> Read
-    ensures { λ r. ⌜ readOf r ≡ field (value width) (now (bytes .entry)) ⌝ }
-{
-    if bytes.len() > 0 {
-        if bytes[0] == b'-' {
-            return negative(natural(&bytes[1..]));
-        }
-    }
-    within(natural(bytes), NEGATIVES)
-}
-
 // Where the part that starts at `at` and ends before `sep` ends.
 fn part_end(bytes: &[u8], at: usize, sep: u8) -> usize
     ensures { λ r. ⌜ Ends (before sep) (now (bytes .entry)) at r ⌝ }
@@ -195,28 +190,129 @@ fn is_separator(b: u8) -> bool
     b == b'\n'
 }
 
-// The field of 0 to `max` that starts at `at` of a text, and where it ends: all of it by one look at each byte.
-pub fn next_up_to(text: &[u8], at: usize, max: u32) -> Next
-    ensures { λ r. ⌜ Reads (upTo max) (now (text .entry)) at (readOf (r .read)) (r .end) (r .stop) ⌝ }
+fn is_digit(b: u8) -> bool
+    ensures { λ r. ⌜ r ≡ isDigit b ⌝ }
 {
-    let mut number = Number::Empty;
+    if b < b'0' {
+        return false;
+    }
+    b <= b'9'
+}
+
+// Where the field that starts at `at` of a text ends, and the byte that it ends at.
+pub fn next_end(text: &[u8], at: usize) -> End
+    ensures { λ r. ⌜ Stops (now (text .entry)) at (r .end) (r .stop) ⌝ }
+{
     let mut i = at;
     while i < text.len() {
         let b = text[i];
         if is_separator(b) {
-            return Next {
-                read: within(number, max as u64 + 1),
-                end: i,
-                stop: b,
-            };
+            return End { end: i, stop: b };
         }
-        number = add_byte(number, b);
         i += 1;
     }
+    End { end: i, stop: 0 }
+}
+
+// A number that the byte at `i` cannot go on: its field ends there, or is malformed.
+fn close(text: &[u8], i: usize, number: Number) -> Counted
+    requires { ⌜ longer number (getD (now text) i 0) ≡ Malformed ⌝ }
+    ensures { λ r. ⌜ Counts number (now (text .entry)) i (r .number) (r .end) (r .stop) ⌝ }
+{
+    let e = next_end(text, i);
+    if e.end == i {
+        Counted {
+            number: number,
+            end: e.end,
+            stop: e.stop,
+        }
+    } else {
+        Counted {
+            number: Number::Malformed,
+            end: e.end,
+            stop: e.stop,
+        }
+    }
+}
+
+// The rest of a field's number, after a first digit that is not 0.
+fn count_on(text: &[u8], from: usize, first: u64) -> Counted
+    requires { ⌜ 0 < first ⌝ }
+    ensures { λ r. ⌜ Counts (Is first) (now (text .entry)) from (r .number) (r .end) (r .stop) ⌝ }
+{
+    let mut n = first;
+    let mut i = from;
+    while i < text.len() {
+        let b = text[i];
+        if is_digit(b) {
+            n = add_digit(n, b - b'0');
+            i += 1;
+        } else {
+            return close(text, i, Number::Is(n));
+        }
+    }
+    close(text, i, Number::Is(n))
+}
+
+// The number of the field that starts at `at` of a text: all of it by one look at each byte.
+fn count(text: &[u8], at: usize) -> Counted
+    ensures { λ r. ⌜ Counts Empty (now (text .entry)) at (r .number) (r .end) (r .stop) ⌝ }
+{
+    let b = byte_or(text, at, 0);
+    if is_digit(b) {
+        if b == b'0' {
+            return close(text, at + 1, Number::Is(0));
+        }
+        return count_on(text, at + 1, (b - b'0') as u64);
+    }
+    close(text, at, Number::Empty)
+}
+
+// The field of 0 to `max` that starts at `at` of a text, and where it ends.
+pub fn next_up_to(text: &[u8], at: usize, max: u32) -> Next
+    ensures { λ r. ⌜ Reads (upTo max) (now (text .entry)) at (readOf (r .read)) (r .end) (r .stop) ⌝ }
+{
+    let c = count(text, at);
+    let number = c.number;
     Next {
         read: within(number, max as u64 + 1),
-        end: i,
-        stop: 0,
+        end: c.end,
+        stop: c.stop,
+    }
+}
+
+// The one of 0 to below `limit`.
+pub fn next_below(text: &[u8], at: usize, limit: u32) -> Next
+    ensures { λ r. ⌜ Reads (below limit) (now (text .entry)) at (readOf (r .read)) (r .end) (r .stop) ⌝ }
+{
+    let c = count(text, at);
+    let number = c.number;
+    Next {
+        read: within(number, limit as u64),
+        end: c.end,
+        stop: c.stop,
+    }
+}
+
+// The one that is a value, which may have a minus.
+pub fn next_value(text: &[u8], at: usize) -> Next
+    ensures { λ r. ⌜ Reads (value width) (now (text .entry)) at (readOf (r .read)) (r .end) (r .stop) ⌝ }
+{
+    if byte_or(text, at, 0) == b'-' {
+        let c = count(text, at + 1);
+        let number = c.number;
+        return Next {
+            read: negative(number),
+            end: c.end,
+            stop: c.stop,
+        };
+    }
+    let c = count(text, at);
+    let number = c.number;
+    Next {
+        read: within(number, NEGATIVES),
+        end: c.end,
+        stop: c.stop,
     }
 }
 
