@@ -1,98 +1,109 @@
 -- The fields of a text, walked with one look at each byte: a field ends at its comma or with its line.
 use mathlib.Core.Path.{_≡_, refl, ap, sym, _∙_}
 use mathlib.Core.Bool.{Bool, true, false}
-use mathlib.Core.Option.{none}
+use mathlib.Core.Option.{Option, none}
 use mathlib.Core.List.{List, [], _∷_}
-use Prim.Native.Nat.{ℕ, suc, _+_, _-_, _^_, _≤_, _<_}
+use Prim.Native.Nat.{ℕ, suc, zero, _+_, _-_, _*_, _^_, _≤_, _<_, min}
 use native.Mathlib.Decide.{decLt, ℕ-discrete}
 use native.Mathlib.Omega.{arith}
-use borrow.Author.Tests.{eqb-true, lt-ltb, le-ltb, ne-eqb}
+use borrow.Author.Tests.{eqb-true, eqb-false, lt-ltb, le-ltb, ne-eqb}
 use lib.Dec.{eqb, ltb}
 use lib.ListN.{length, getD, drop, length-drop}
 use lib.Seq.{drop-drop, getD-drop}
 use Rattle.definition.specs.Field as def
-use Rattle.definition.specs.Field.{lf, comma, onto, split, firstLine, natural, naturalWithin, negative, field, upTo, below, value}
-use Rattle.field.specs.declared.Number.{Number}
-use Rattle.field.specs.declared.Number.the-variants.{Empty, Malformed, Is}
-use Rattle.field.specs.View.{cap, capped, numberOf, isDigit, withDigit, longer, after, until, separates, firstField, Stops, Counts, Reads, lineEnd, lineFields, separator}
+use Rattle.definition.specs.Field.{lf, comma, minus, onto, split, firstLine, naturalWithin, negative, field, upTo, below, value}
+use Rattle.field.specs.View.{cap, isDigit, count, spelt, signs, past, decided, Capped, until, separates, firstField, Sums, Stops, Counts, Reads, lineEnd, lineFields, separator}
 use Rattle.field.proofs.Lists.{first-left, there, no-bytes}
-use Rattle.field.proofs.Numbers.{digit-low, digit-high, longer-digit, after-malformed, natural-after, up-to-is, below-is, value-plain, value-minus}
-use Rattle.field.proofs.Parts.{Finding, finds-start, finds-next, finds-rest, until-next, until-here, until-end, until-first, split-sep, split-other, Some, some-part, split-some}
+use Rattle.field.proofs.Numbers.{digit-low, count-digit, count-other, natural-some, natural-none, up-to-is, below-is, value-plain, value-minus}
+use Rattle.field.proofs.Results.{never}
+use Rattle.field.proofs.Parts.{finds-start, finds-next, finds-rest, until-next, until-here, until-end, until-first, split-sep, split-other, Some, some-part, split-some}
 
--- ---- one field, byte by byte: what is left makes of the number so far what all of it makes of the first
-pub record Scanning (first : Number) (text : List ℕ) (at : ℕ) (n : Number) (i : ℕ) : Type 0 where
-  pub finding : Finding separates text at i
-  pub makes : after first (firstField (drop at text)) ≡ after n (firstField (drop i text))
-
-pub scans-start : (first : Number) (text : List ℕ) (at : ℕ) → Scanning first text at first at
-scans-start first text at = record { finding = finds-start separates text at; makes = refl }
+-- ---- the digits of a field, byte by byte
 
 digit-inside : (b : ℕ) → true ≡ isDigit b → separates b ≡ false
 digit-inside b e = rw (ne-eqb b comma (λ c. omega (arith, digit-low b e)), ne-eqb b lf (λ c. omega (arith, digit-low b e)))
 
-module _ {first n : Number} {text : List ℕ} {at i : ℕ} (s : Scanning first text at n i) where
-  pub scans-next : i < length text → true ≡ isDigit (getD text i 0) → {m : Number} → m ≡ longer n (getD text i 0) → Scanning first text at m (i + 1)
-  unfolding after
-  scans-next h e q = record {
-    finding = finds-next (s .finding) h (digit-inside (getD text i 0) e);
-    makes = rw q (s .makes ∙ ap (after n) (until-next separates text i h (digit-inside (getD text i 0) e)));
-  }
+-- no digit is no number, whatever its first byte
+by-first : (b n : ℕ) (bs : List ℕ) → (0 < length bs → b ≡ getD bs 0 0) → spelt b (length bs) n ≡ spelt (getD bs 0 0) (length bs) n
+unfolding spelt
+by-first b n [] h = refl
+by-first b n (c ∷ bs) h = ap (λ (k : ℕ). spelt k (length (c ∷ bs)) n) (h (omega arith))
 
-  pub scans-rest : {m : Number} {end stop : ℕ} → Counts n text i m end stop → Counts first text at m end stop
-  scans-rest c = record { makes = c .makes ∙ ap numberOf (sym (s .makes)); stops = record { ends = finds-rest (s .finding) (c .stops .ends); byte = c .stops .byte } }
+pub sums-start : (text : List ℕ) (at : ℕ) → Sums text at 0 at
+sums-start text at = record { finding = finds-start separates text at; makes = refl }
 
--- a field whose first byte is this digit
-pub scans-digit : {text : List ℕ} {at b d : ℕ} {m : Number} {end stop : ℕ} → true ≡ isDigit b → b ≡ getD text at 0 → d ≡ b - 48 → Counts (Is d) text (at + 1) m end stop → Counts Empty text at m end stop
-unfolding withDigit
-scans-digit {text} {at} {b} {d} e h q c =
-    let there-is : at < length text = there text at (λ z. omega (arith, h, digit-low b e)) in
-    scans-rest (scans-next (scans-start Empty text at) there-is (rw (← h) e) (rw (← h, q) (longer-digit Empty (digit-low b e) (digit-high b e) refl))) c
+module _ {text : List ℕ} {at n i : ℕ} (s : Sums text at n i) where
+  pub sums-next : i < length text → true ≡ isDigit (getD text i 0) → {m : ℕ} → m ≡ min (n * 10 + (getD text i 0 - 48)) cap → Sums text at m (i + 1)
+  sums-next h e q =
+      let goes = digit-inside (getD text i 0) e in
+      record {
+        finding = finds-next (s .finding) h goes;
+        makes = rw q (s .makes ∙ ap (count n) (until-next separates text i h goes) ∙ count-digit n _ _ e);
+      }
 
--- ---- where no digit goes on
-module _ (n : Number) {text : List ℕ} {i end stop : ℕ} (s : Stops text i end stop) where
-  pub closes-here : end ≡ i → Counts n text i n end stop
-  unfolding after
-  closes-here e =
-      let none-left : firstField (drop i text) ≡ [] = no-bytes _ (omega (arith, s .ends .is)) in
-      record { makes = ap (λ (l : List ℕ). numberOf (after n l)) (sym none-left); stops = s }
+  -- where they end the field does, or it is malformed
+  module _ {end stop : ℕ} (e : Stops text i end stop) where
+    ends-there : Stops text at end stop
+    ends-there = record { ends = finds-rest (s .finding) (e .ends); byte = e .byte }
 
-  pub closes-past : longer n (getD text i 0) ≡ Malformed → (end ≡ i → ⊥) → Counts n text i Malformed end stop
-  unfolding after
-  closes-past m h = record { makes = go (decLt i (length text)) (separates (getD text i 0)) refl; stops = s }
-    where
-      go : Dec (i < length text) → (b : Bool) → separates (getD text i 0) ≡ b → none ≡ numberOf (after n (firstField (drop i text)))
-      go (no l) b e = absurd (h (omega (arith, s .ends .is, ap length (until-end separates text i (omega arith)))))
-      go (yes l) true e = absurd (h (omega (arith, s .ends .is, ap length (until-here separates text i l e))))
-      go (yes l) false e =
-          let more = firstField (drop (i + 1) text) in
-          sym (ap (λ (k : List ℕ). numberOf (after n k)) (until-next separates text i l e) ∙ ap (λ (k : Number). numberOf (after k more)) m ∙ after-malformed more)
+    pub sums-whole : end ≡ i → {o : Option ℕ} → o ≡ spelt (getD text at 0) (i - at) n → Counts text at o end stop
+    unfolding count
+    sums-whole h {o} q =
+        let bs = firstField (drop at text) in
+        let none-left : firstField (drop i text) ≡ [] = no-bytes _ (omega (arith, e .ends .is)) in
+        let long : i - at ≡ length bs = omega (arith, s .finding .more, ap length none-left) in
+        record { makes = q ∙ ap (λ (k : ℕ). spelt (getD text at 0) k n) long ∙ by-first (getD text at 0) n bs (λ l. sym (first-left at text 0) ∙ sym (until-first separates (drop at text) l)) ∙ natural-some bs (s .makes ∙ ap (count n) none-left); stops = ends-there }
+
+    pub sums-broken : (end ≡ i → ⊥) → false ≡ isDigit (getD text i 0) → Counts text at none end stop
+    sums-broken h d = record { makes = natural-none _ (s .makes ∙ go (decLt i (length text)) (separates (getD text i 0)) refl); stops = ends-there }
+      where
+        go : Dec (i < length text) → (b : Bool) → separates (getD text i 0) ≡ b → count n (firstField (drop i text)) ≡ none
+        go (no l) b q = absurd (h (omega (arith, e .ends .is, ap length (until-end separates text i (omega arith)))))
+        go (yes l) true q = absurd (h (omega (arith, e .ends .is, ap length (until-here separates text i l q))))
+        go (yes l) false q = ap (count n) (until-next separates text i l q) ∙ count-other n _ _ d
 
 -- ---- what a field holds, from its number
-counted : {text : List ℕ} {at end stop : ℕ} {n : Number} → Counts Empty text at n end stop → numberOf n ≡ capped (natural (firstField (drop at text)))
-counted c = c .makes ∙ natural-after _
+module _ {text : List ℕ} {at end stop : ℕ} {o : Option ℕ} {x : def.Read} where
+  holding : {f : def.Field} → Counts text at o end stop → x ≡ field f (firstField (drop at text)) → Reads f text at x end stop
+  holding c h = record { holds = h; ends = c .stops .ends; stops = c .stops .byte }
 
-module _ {text : List ℕ} {at end stop : ℕ} {n : Number} where
-  module _ (c : Counts Empty text at n end stop) where
-    pub reads-up-to : {x : def.Read} (max : ℕ) → max + 1 ≤ cap → x ≡ naturalWithin (λ k. ltb k (max + 1)) (numberOf n) → Reads (upTo max) text at x end stop
-    reads-up-to max low w = record { holds = up-to-is _ (counted c) max low w; ends = c .stops .ends; stops = c .stops .byte }
+  module _ (w : ℕ) (low : 2 ^ (w - 1) < cap) where
+    plain : Counts text at o end stop → (getD text at 0 ≡ 45 → ⊥) → x ≡ naturalWithin (λ k. ltb k (2 ^ (w - 1))) o → Reads (value w) text at x end stop
+    plain c h e =
+        let bs = firstField (drop at text) in
+        let other : getD bs 0 0 ≡ 45 → ⊥ = λ z. h (sym (first-left at text 0) ∙ sym (until-first separates (drop at text) (there bs 0 (λ y. omega (arith, y, z)))) ∙ z) in
+        holding c (value-plain w bs low (c .makes) other e)
 
-    pub reads-below : {x : def.Read} (limit : ℕ) → limit ≤ cap → x ≡ naturalWithin (λ k. ltb k limit) (numberOf n) → Reads (below limit) text at x end stop
-    reads-below limit low w = record { holds = below-is _ (counted c) limit low w; ends = c .stops .ends; stops = c .stops .byte }
+    behind-minus : Counts text (at + 1) o end stop → getD text at 0 ≡ 45 → x ≡ negative w o → Reads (value w) text at x end stop
+    behind-minus c h e =
+        let inside : at < length text = there text at (λ z. omega arith) in
+        let goes : separates (getD text at 0) ≡ false = rw h refl in
+        let all : firstField (drop at text) ≡ getD text at 0 ∷ firstField (drop (at + 1) text) = until-next separates text at inside goes in
+        record {
+          holds = rw all (value-minus w (getD text at 0 ∷ firstField (drop (at + 1) text)) low (c .makes) h e);
+          ends = finds-rest (finds-next (finds-start separates text at) inside goes) (c .stops .ends);
+          stops = c .stops .byte;
+        }
 
-    pub reads-plain : {x : def.Read} (w : ℕ) → 2 ^ (w - 1) < cap → (getD text at 0 ≡ 45 → ⊥) → x ≡ naturalWithin (λ k. ltb k (2 ^ (w - 1))) (numberOf n) → Reads (value w) text at x end stop
-    reads-plain w low h e = record { holds = value-plain w _ low (counted c) (λ z. h (sym (first-left at text 0) ∙ sym (until-first separates (drop at text) (there (firstField (drop at text)) 0 (λ y. omega (arith, y, z)))) ∙ z)) e; ends = c .stops .ends; stops = c .stops .byte }
+  reads-by : (f : def.Field) → Counts text (past (signs f (getD text at 0)) at) o end stop → Capped f → x ≡ decided f (signs f (getD text at 0)) o → Reads f text at x end stop
+  unfolding signs past decided
+  reads-by (upTo m) c low e = holding c (up-to-is _ (c .makes) m low e)
+  reads-by (below m) c low e = holding c (below-is _ (c .makes) m low e)
+  reads-by (value w) c low e = go (eqb (getD text at 0) minus) refl c e
+    where
+      go : (t : Bool) → eqb (getD text at 0) minus ≡ t → Counts text (past t at) o end stop → x ≡ decided (value w) t o → Reads (value w) text at x end stop
+      go true q c e = behind-minus w low c (eqb-true _ _ q) e
+      go false q c e = plain w low c (eqb-false _ _ q) e
 
-  -- behind a minus
-  pub reads-minus : {x : def.Read} → Counts Empty text (at + 1) n end stop → (w : ℕ) → 2 ^ (w - 1) < cap → getD text at 0 ≡ 45 → x ≡ negative w (numberOf n) → Reads (value w) text at x end stop
-  reads-minus c w low h e =
-      let inside : at < length text = there text at (λ z. omega arith) in
-      let goes : separates (getD text at 0) ≡ false = rw h refl in
-      let all : firstField (drop at text) ≡ getD text at 0 ∷ firstField (drop (at + 1) text) = until-next separates text at inside goes in
-      record {
-        holds = rw all (value-minus w (getD text at 0 ∷ firstField (drop (at + 1) text)) low (counted c) h e);
-        ends = finds-rest (finds-next (finds-start separates text at) inside goes) (c .stops .ends);
-        stops = c .stops .byte;
-      }
+  pub reads-next : (f : def.Field) {s : Bool} {from : ℕ} → s ≡ signs f (getD text at 0) → from ≡ past s at → Counts text from o end stop → Capped f → x ≡ decided f s o → Reads f text at x end stop
+  reads-next f h q c low e = reads-by f (rw (← h, ← q) c) low (rw (← h) e)
+
+-- a sign is there
+pub sign-there : (f : def.Field) (text : List ℕ) (at : ℕ) → signs f (getD text at 0) ≡ true → at < length text
+unfolding signs
+sign-there (upTo m) text at e = never (cc)
+sign-there (below m) text at e = never (cc)
+sign-there (value w) text at e = there text at (λ z. omega (arith, z, eqb-true (getD text at 0) minus e))
 
 -- ---- a field and its line
 

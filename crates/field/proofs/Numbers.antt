@@ -9,7 +9,7 @@ use native.Mathlib.Nat.{le-of-lt}
 use native.Mathlib.Omega.{arith, min-cases}
 use borrow.Author.Tests.{le-leb, lt-leb, lt-ltb, le-ltb, eq-eqb, ne-eqb, leb-true, eqb-true, eqb-false}
 use lib.Dec.{leb, ltb, eqb, leb·suc-suc}
-use lib.ListN.{length, getD, drop, drop-of-length-le, List·getD-eq-default}
+use lib.ListN.{length, getD, drop, drop-of-length-le}
 use lib.Seq.{drop-cons}
 use Rattle.definition.specs.Field as def
 use Rattle.definition.specs.Field.{digit0, digit9, digits, natural, within, naturalWithin, negative, signed, field, upTo, below, value, malformed, outside, is}
@@ -19,14 +19,9 @@ use Rattle.field.specs.declared.Number.{Number}
 use Rattle.field.specs.declared.Number.the-variants as counted
 use Rattle.field.specs.declared.Number.the-variants.{Empty, Malformed}
 use Rattle.field.proofs.Tests.{and-left, and-right}
-use Rattle.field.specs.View.{readOf, cap, capped, numberOf, isDigit, withDigit, longer, after}
+use Rattle.field.specs.View.{readOf, cap, capped, numberOf, isDigit, count, spelt, withDigit, longer}
 
 -- ---- counting
-
--- `digits`, counted up to the cap
-unfoldable pub count : ℕ → List ℕ → Option ℕ
-count n [] = some n
-count n (b ∷ bs) = elim (leb digit0 b && leb b digit9) [ true ↦ count (min (n * 10 + (b - digit0)) cap) bs | false ↦ none ]
 
 step : (m d : ℕ) → min (min m cap * 10 + d) cap ≡ min (m * 10 + d) cap
 step m d = omega arith
@@ -46,6 +41,67 @@ digit-first b bs e =
     let same : min (0 * 10 + (b - digit0)) cap ≡ b - digit0 = omega arith in
     rw (count, e, same)
 
+-- one digit more, and a byte that is none
+pub digit-low : (b : ℕ) → true ≡ isDigit b → 48 ≤ b
+digit-low b e = leb-true digit0 b (and-left (leb digit0 b) _ (sym e))
+
+pub digit-high : (b : ℕ) → true ≡ isDigit b → b ≤ 57
+digit-high b e = leb-true b digit9 (and-right (leb digit0 b) _ (sym e))
+
+module _ (n b : ℕ) (bs : List ℕ) where
+  pub count-digit : true ≡ isDigit b → count n (b ∷ bs) ≡ count (min (n * 10 + (b - 48)) cap) bs
+  unfolding count
+  count-digit e = rw (count, ← e)
+
+  pub count-other : false ≡ isDigit b → count n (b ∷ bs) ≡ none
+  unfolding count
+  count-other e = rw (count, ← e)
+
+-- so many digits that make n
+module _ (b n : ℕ) where
+  pub spelt-none : (k : ℕ) → k ≡ 0 → none ≡ spelt b k n
+  unfolding spelt
+  spelt-none zero h = refl
+  spelt-none (suc k) h = absurd (omega arith)
+
+  pub spelt-one : (k : ℕ) → (k ≡ 0 → ⊥) → k ≤ 1 → some n ≡ spelt b k n
+  unfolding spelt
+  spelt-one zero h l = absurd (h refl)
+  spelt-one (suc zero) h l = refl
+  spelt-one (suc (suc k)) h l = absurd (omega arith)
+
+  pub spelt-zero : (k : ℕ) → 1 < k → b ≡ 48 → none ≡ spelt b k n
+  unfolding spelt
+  spelt-zero zero l h = absurd (omega arith)
+  spelt-zero (suc zero) l h = absurd (omega arith)
+  spelt-zero (suc (suc k)) l h = rw (spelt, eq-eqb b 48 h)
+
+  pub spelt-more : (k : ℕ) → 1 < k → (b ≡ 48 → ⊥) → some n ≡ spelt b k n
+  unfolding spelt
+  spelt-more zero l h = absurd (omega arith)
+  spelt-more (suc zero) l h = absurd (omega arith)
+  spelt-more (suc (suc k)) l h = rw (spelt, ne-eqb b 48 h)
+
+-- a field's number from what its digits make
+capped-count : (bs : List ℕ) → capped (digits 0 bs) ≡ count 0 bs
+capped-count bs = sym (count-digits 0 bs)
+
+pub natural-some : (bs : List ℕ) {n : ℕ} → count 0 bs ≡ some n → spelt (getD bs 0 0) (length bs) n ≡ capped (natural bs)
+unfolding natural capped spelt
+natural-some [] e = refl
+natural-some (b ∷ []) e = sym (capped-count (b ∷ []) ∙ e)
+natural-some (b ∷ c ∷ bs) {n} e =
+    elim (eqb b digit0) as (λ t. _≡_ {A = Option ℕ} (elim t [ true ↦ none | false ↦ some n ]) (capped (elim t [ true ↦ none | false ↦ digits 0 (b ∷ c ∷ bs) ])))
+    [ true ↦ refl | false ↦ sym (capped-count (b ∷ c ∷ bs) ∙ e) ]
+
+pub natural-none : (bs : List ℕ) → count 0 bs ≡ none → none ≡ capped (natural bs)
+unfolding natural capped
+natural-none [] e = refl
+natural-none (b ∷ []) e = sym (capped-count (b ∷ []) ∙ e)
+natural-none (b ∷ c ∷ bs) e =
+    elim (eqb b digit0) as (λ t. _≡_ {A = Option ℕ} none (capped (elim t [ true ↦ none | false ↦ digits 0 (b ∷ c ∷ bs) ])))
+    [ true ↦ refl | false ↦ sym (capped-count (b ∷ c ∷ bs) ∙ e) ]
+
 -- ---- a number byte by byte
 
 module _ (n : Number) {b : ℕ} where
@@ -61,25 +117,12 @@ module _ (n : Number) {b : ℕ} where
   unfolding longer
   longer-digit l h e = rw (longer, le-leb digit0 b l, le-leb b digit9 h) e
 
--- a byte that is a digit, and one that is not
-pub digit-low : (b : ℕ) → true ≡ isDigit b → 48 ≤ b
-digit-low b e = leb-true digit0 b (and-left (leb digit0 b) _ (sym e))
+-- after all of some bytes
+unfoldable pub after : Number → List ℕ → Number
+after n [] = n
+after n (b ∷ bs) = after (longer n b) bs
 
-pub digit-high : (b : ℕ) → true ≡ isDigit b → b ≤ 57
-digit-high b e = leb-true b digit9 (and-right (leb digit0 b) _ (sym e))
-
-pub longer-other : (n : Number) (b : ℕ) → false ≡ isDigit b → longer n b ≡ Malformed
-unfolding longer
-longer-other n b e = rw (longer, ← e)
-
-pub longer-past : (n : Number) (text : List ℕ) {i : ℕ} → length text ≤ i → longer n (getD text i 0) ≡ Malformed
-longer-past n text h = rw (List·getD-eq-default text 0 h) (longer-other n 0 refl)
-
-pub longer-zero : (b : ℕ) → longer (counted.Is 0) b ≡ Malformed
-unfolding longer withDigit
-longer-zero b = elim (isDigit b) as (λ t. elim t [ true ↦ Malformed | false ↦ Malformed ] ≡ Malformed) [ true ↦ refl | false ↦ refl ]
-
-pub after-malformed : (bs : List ℕ) → numberOf (after Malformed bs) ≡ none
+after-malformed : (bs : List ℕ) → numberOf (after Malformed bs) ≡ none
 unfolding after longer withDigit
 after-malformed [] = refl
 after-malformed (b ∷ bs) =
@@ -96,9 +139,6 @@ pub digit-more : (n d : ℕ) → 0 < n → withDigit (counted.Is n) d ≡ counte
 unfolding withDigit
 digit-more zero d h = absurd (omega arith)
 digit-more (suc n) d h = refl
-
-pub grows : (n b : ℕ) {m : ℕ} → 0 < n → true ≡ isDigit b → m ≡ min (n * 10 + (b - 48)) cap → counted.Is m ≡ longer (counted.Is n) b
-grows n b low e q = rw q (longer-digit (counted.Is n) (digit-low b e) (digit-high b e) (sym (digit-more n (b - 48) low)))
 
 after-counted : (n : ℕ) (bs : List ℕ) → 0 < n → numberOf (after (counted.Is n) bs) ≡ count n bs
 unfolding after longer count

@@ -9,7 +9,7 @@ use lib.Dec.{eqb}
 use lib.ListN.{length, getD, take, drop, length-drop, drop-of-length-le}
 use lib.Seq.{drop-cons, drop-drop}
 use Rattle.definition.specs.Field.{lf, onto, split, firstLine}
-use Rattle.field.specs.View.{until, before, Ends, lineEnd}
+use Rattle.field.specs.View.{until, before, Ends, Finding, lineEnd}
 
 pub before-lf : (bs : List ℕ) → before lf bs ≡ firstLine bs
 unfolding until firstLine
@@ -142,12 +142,7 @@ split-is sep bs = go (split-some sep bs)
     go : {ps : List (List ℕ)} → Some ps → (x : List ℕ) × (xs : List (List ℕ)) × (ps ≡ x ∷ xs)
     go (some-part {x = x} {xs = xs}) = (x, xs, refl)
 
--- ---- finding an end, byte by byte: nothing stops before i
-pub record Finding (stops : ℕ → Bool) (bytes : List ℕ) (at i : ℕ) : Type 0 where
-  pub low : at ≤ i
-  pub high : i ≤ at + (length bytes - at)
-  pub more : at + length (until stops (drop at bytes)) ≡ i + length (until stops (drop i bytes))
-
+-- ---- finding an end, byte by byte
 pub finds-start : (stops : ℕ → Bool) (bytes : List ℕ) (at : ℕ) → Finding stops bytes at at
 finds-start stops bytes at = record { low = omega arith; high = omega arith; more = refl }
 

@@ -1,14 +1,21 @@
 // Lines, fields and decimal numbers of lent bytes. A number of any length is one: it is counted up to a cap above every bound, so that nothing wraps
 // and what is malformed is told apart from what is out of its range.
 ghost use mathlib.Core.Path.{_≡_};
-ghost use Prim.Native.Nat.{_≤_, _<_, _+_, _*_, _^_, min};
+ghost use mathlib.Core.Bool.{true, false};
+ghost use Prim.Native.Nat.{_≤_, _<_, _+_, _-_, _*_, _^_, min};
 ghost use lib.Dec.{ltb};
-ghost use lib.ListN.{getD};
+ghost use lib.ListN.{length, getD};
 ghost use Rattle.definition.specs.Limits.{width};
 ghost use Rattle.definition.specs.Field.{comma, firstLine, natural, naturalWithin, negative, field, upTo, below, value};
-ghost use Rattle.field.specs.declared.Number.the-variants.{Empty, Malformed, Is};
-ghost use Rattle.field.specs.View.{readOf, numberOf, isDigit, longer, separates, capped, cap, before, Ends, Stops, Counts, Reads, separator};
+ghost use Rattle.field.specs.View.{readOf, kindOf, numberOf, isDigit, longer, separates, capped, cap, spelt, signs, past, decided, Capped, before, Ends, Stops, Sums, Counts, Reads, separator};
 use definition::WIDTH;
+
+// What a field may hold: 0 to a number, 0 to below one, or a value, which may have a minus.
+pub enum Kind {
+    UpTo(u32),
+    Below(u32),
+    Value,
+}
 
 // A field as it is read; a value is its two's complement bits.
 pub enum Read {
@@ -35,6 +42,12 @@ enum Number {
     Empty,
     Malformed,
     Is(u64),
+}
+
+// What digits make, and where they end.
+struct Run {
+    n: u64,
+    end: usize,
 }
 
 // The number of a field of a text, where it ends, and the byte that it ends at.
@@ -214,106 +227,115 @@ pub fn next_end(text: &[u8], at: usize) -> End
     End { end: i, stop: 0 }
 }
 
-// A number that the byte at `i` cannot go on: its field ends there, or is malformed.
-fn close(text: &[u8], i: usize, number: Number) -> Counted
-    requires { ⌜ longer number (getD (now text) i 0) ≡ Malformed ⌝ }
-    ensures { λ r. ⌜ Counts number (now (text .entry)) i (r .number) (r .end) (r .stop) ⌝ }
+// The digits from `at` on, up to the first byte that is none.
+fn digits(text: &[u8], at: usize) -> Run
+    ensures { λ r. ⌜ Sums (now (text .entry)) at (r .n) (r .end) × (false ≡ isDigit (getD (now (text .entry)) (r .end) 0)) ⌝ }
 {
-    let e = next_end(text, i);
-    if e.end == i {
-        Counted {
-            number: number,
-            end: e.end,
-            stop: e.stop,
-        }
-    } else {
-        Counted {
-            number: Number::Malformed,
-            end: e.end,
-            stop: e.stop,
-        }
-    }
-}
-
-// The rest of a field's number, after a first digit that is not 0.
-fn count_on(text: &[u8], from: usize, first: u64) -> Counted
-    requires { ⌜ 0 < first ⌝ }
-    ensures { λ r. ⌜ Counts (Is first) (now (text .entry)) from (r .number) (r .end) (r .stop) ⌝ }
-{
-    let mut n = first;
-    let mut i = from;
+    let mut n = 0;
+    let mut i = at;
     while i < text.len() {
         let b = text[i];
         if is_digit(b) {
             n = add_digit(n, b - b'0');
             i += 1;
         } else {
-            return close(text, i, Number::Is(n));
+            return Run { n: n, end: i };
         }
     }
-    close(text, i, Number::Is(n))
+    Run { n: n, end: i }
 }
 
-// The number of the field that starts at `at` of a text: all of it by one look at each byte.
-fn count(text: &[u8], at: usize) -> Counted
-    ensures { λ r. ⌜ Counts Empty (now (text .entry)) at (r .number) (r .end) (r .stop) ⌝ }
+// The number of a field that is digits alone, which make `n`: none if there are none, or a zero leads others.
+fn spell(text: &[u8], at: usize, end: usize, n: u64) -> Number
+    requires { ⌜ at ≤ end ⌝ }
+    requires { ⌜ end ≤ at + (length (now text) - at) ⌝ }
+    ensures { λ r. ⌜ numberOf r ≡ spelt (getD (now (text .entry)) at 0) (end - at) n ⌝ }
 {
-    let b = byte_or(text, at, 0);
-    if is_digit(b) {
-        if b == b'0' {
-            return close(text, at + 1, Number::Is(0));
-        }
-        return count_on(text, at + 1, (b - b'0') as u64);
+    if end == at {
+        return Number::Empty;
     }
-    close(text, at, Number::Empty)
+    if end - at > 1 {
+        if text[at] == b'0' {
+            return Number::Malformed;
+        }
+    }
+    Number::Is(n)
 }
 
-// The field of 0 to `max` that starts at `at` of a text, and where it ends.
+// The number of the field that starts at `at` of a text.
+fn count(text: &[u8], at: usize) -> Counted
+    ensures { λ r. ⌜ Counts (now (text .entry)) at (numberOf (r .number)) (r .end) (r .stop) ⌝ }
+{
+    let d = digits(text, at);
+    let e = next_end(text, d.end);
+    if e.end == d.end {
+        return Counted {
+            number: spell(text, at, d.end, d.n),
+            end: e.end,
+            stop: e.stop,
+        };
+    }
+    Counted {
+        number: Number::Malformed,
+        end: e.end,
+        stop: e.stop,
+    }
+}
+
+// Does a field of this kind that starts at `at` have a minus?
+fn has_minus(text: &[u8], at: usize, kind: Kind) -> bool
+    ensures { λ r. ⌜ r ≡ signs (kindOf kind) (getD (now (text .entry)) at 0) ⌝ }
+{
+    match kind {
+        Kind::UpTo(_) => false,
+        Kind::Below(_) => false,
+        Kind::Value => byte_or(text, at, 0) == b'-',
+    }
+}
+
+// Where its digits start.
+fn behind_minus(text: &[u8], at: usize, minus: bool) -> usize
+    requires { ⌜ (minus ≡ true → at < length (now text)) ⌝ }
+    ensures { λ r. ⌜ r ≡ past minus at ⌝ }
+{
+    if minus { at + 1 } else { at }
+}
+
+// The field that this number makes.
+fn decide(kind: Kind, minus: bool, number: Number) -> Read
+    ensures { λ r. ⌜ (readOf r ≡ decided (kindOf kind) minus (numberOf number)) × Capped (kindOf kind) ⌝ }
+{
+    match kind {
+        Kind::UpTo(max) => within(number, max as u64 + 1),
+        Kind::Below(limit) => within(number, limit as u64),
+        Kind::Value => {
+            if minus {
+                return negative(number);
+            }
+            within(number, NEGATIVES)
+        }
+    }
+}
+
+// The field that starts at `at` of a text, and where it ends: all of it by one look at each byte.
+pub fn next_field(text: &[u8], at: usize, kind: Kind) -> Next
+    ensures { λ r. ⌜ Reads (kindOf kind) (now (text .entry)) at (readOf (r .read)) (r .end) (r .stop) ⌝ }
+{
+    let minus = has_minus(text, at, kind);
+    let c = count(text, behind_minus(text, at, minus));
+    let number = c.number;
+    Next {
+        read: decide(kind, minus, number),
+        end: c.end,
+        stop: c.stop,
+    }
+}
+
+// The one of 0 to `max`.
 pub fn next_up_to(text: &[u8], at: usize, max: u32) -> Next
     ensures { λ r. ⌜ Reads (upTo max) (now (text .entry)) at (readOf (r .read)) (r .end) (r .stop) ⌝ }
 {
-    let c = count(text, at);
-    let number = c.number;
-    Next {
-        read: within(number, max as u64 + 1),
-        end: c.end,
-        stop: c.stop,
-    }
-}
-
-// The one of 0 to below `limit`.
-pub fn next_below(text: &[u8], at: usize, limit: u32) -> Next
-    ensures { λ r. ⌜ Reads (below limit) (now (text .entry)) at (readOf (r .read)) (r .end) (r .stop) ⌝ }
-{
-    let c = count(text, at);
-    let number = c.number;
-    Next {
-        read: within(number, limit as u64),
-        end: c.end,
-        stop: c.stop,
-    }
-}
-
-// The one that is a value, which may have a minus.
-pub fn next_value(text: &[u8], at: usize) -> Next
-    ensures { λ r. ⌜ Reads (value width) (now (text .entry)) at (readOf (r .read)) (r .end) (r .stop) ⌝ }
-{
-    if byte_or(text, at, 0) == b'-' {
-        let c = count(text, at + 1);
-        let number = c.number;
-        return Next {
-            read: negative(number),
-            end: c.end,
-            stop: c.stop,
-        };
-    }
-    let c = count(text, at);
-    let number = c.number;
-    Next {
-        read: within(number, NEGATIVES),
-        end: c.end,
-        stop: c.stop,
-    }
+    next_field(text, at, Kind::UpTo(max))
 }
 
 // The byte that field `k` of a line ends at, whose last field is `last`.

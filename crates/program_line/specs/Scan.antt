@@ -5,7 +5,7 @@ use mathlib.Core.List.{List, [], _∷_, _++_}
 use mathlib.Core.Bool.{Bool, true, false}
 use lib.Dec.{eqb}
 use lib.ListN.{length}
-use Rattle.definition.specs.Limits.{width, badForm, badRange}
+use Rattle.definition.specs.Limits.{badForm, badRange}
 use Rattle.definition.specs.Field as def
 use Rattle.definition.specs.Field.{comma, Field, Read, malformed, outside, Numbers, wrong, far, are, numbers}
 use Rattle.definition.specs.Tree.{posNumbers}
@@ -15,14 +15,7 @@ use Rattle.line_map.specs.declared.Pos.{Pos}
 use Rattle.line_map.specs.View.{posView}
 use Rattle.program_line.specs.declared.Verdict.{Verdict}
 use Rattle.program_line.specs.declared.Verdict.the-variants.{Good, Far, Wrong}
-use Rattle.program_line.specs.declared.Kind.{Kind}
-use Rattle.program_line.specs.declared.Kind.the-variants.{UpTo, Below, Value}
 use Rattle.program_line.specs.declared.Scan.{Scan}
-
-abbrev pub kindOf : Kind → Field
-kindOf (UpTo m) = def.upTo m
-kindOf (Below m) = def.below m
-kindOf Value = def.value width
 
 -- the fields from a place on
 unfoldable pub restFrom : Bool → ℕ → List ℕ → List (List ℕ)

@@ -7,17 +7,17 @@ ghost use Rattle.definition.specs.Limits.{maxField};
 ghost use Rattle.definition.specs.Field.{upTo, below};
 ghost use Rattle.definition.specs.Opcode.{Add, Arithmetic, binaryOps, Neg, BoolNot, Eq, Ne, Lt, Le, Gt, Ge, AndThen, OrElse};
 ghost use Rattle.definition.specs.Program.{lineAt, lineOf, byLetter, headerForms, stmtForms, exprForms, armForms, labelForms};
-ghost use Rattle.field.specs.View.{readOf, lineFields, Reads};
+ghost use Rattle.field.specs.View.{kindOf, readOf, lineFields};
 ghost use Rattle.opcode.specs.View.{binaryView, unaryView, compareView, shortCircuitView};
 ghost use Rattle.program_line.specs.View.{headerLine, stmtLine, exprLine, armLine, labelLine};
-ghost use Rattle.program_line.specs.Scan.{kindOf, rest, behind, worse, numberIn, refusalAt, Opened, Fresh, Took, TookPos};
+ghost use Rattle.program_line.specs.Scan.{rest, behind, worse, numberIn, refusalAt, Opened, Fresh, Took, TookPos};
 use definition::BAD_FORM;
 use definition::BAD_RANGE;
 use definition::MAX_FIELD;
 use definition::MAX_VARIABLES;
 use definition::TOO_DEEP;
 use definition::WRONG_LINES;
-use field::Next;
+use field::Kind;
 use field::Read;
 use line_map::Pos;
 use opcode::ArithmeticOp;
@@ -125,13 +125,6 @@ pub struct Scan {
     pub verdict: Verdict,
 }
 
-// What a field may hold.
-pub enum Kind {
-    UpTo(u16),
-    Below(u16),
-    Value,
-}
-
 // A number that was read, 0 where there is none, and the place behind its field.
 pub struct Number {
     pub n: u32,
@@ -196,16 +189,6 @@ fn take_letter(text: &[u8], at: usize) -> Letter
     }
 }
 
-fn next_field(text: &[u8], at: usize, kind: Kind) -> Next
-    ensures { λ r. ⌜ Reads (kindOf kind) (now (text .entry)) at (readOf (r .read)) (r .end) (r .stop) ⌝ }
-{
-    match kind {
-        Kind::UpTo(max) => field::next_up_to(text, at, max as u32),
-        Kind::Below(limit) => field::next_below(text, at, limit as u32),
-        Kind::Value => field::next_value(text, at),
-    }
-}
-
 fn worse(verdict: Verdict, read: Read) -> Verdict
     ensures { λ r. ⌜ r ≡ worse verdict (readOf read) ⌝ }
 {
@@ -238,7 +221,7 @@ fn take_number(text: &[u8], s: Scan, kind: Kind) -> Number
     let at = s.at;
     let verdict = s.verdict;
     if s.more {
-        let next = next_field(text, at, kind);
+        let next = field::next_field(text, at, kind);
         let read = next.read;
         let worst = worse(verdict, read);
         return Number {
@@ -261,7 +244,7 @@ fn up_to(text: &[u8], s: Scan, max: u16) -> Short
     requires { ⌜ s .at ≤ length (now text) ⌝ }
     ensures { λ r. ⌜ Took (upTo max) (now (text .entry)) s (r .n) (r .scan) ⌝ }
 {
-    let r = take_number(text, s, Kind::UpTo(max));
+    let r = take_number(text, s, Kind::UpTo(max as u32));
     let scan = r.scan;
     Short {
         n: r.n as u16,
@@ -274,7 +257,7 @@ fn index(text: &[u8], s: Scan, variables: u16) -> Short
     requires { ⌜ s .at ≤ length (now text) ⌝ }
     ensures { λ r. ⌜ Took (below variables) (now (text .entry)) s (r .n) (r .scan) ⌝ }
 {
-    let r = take_number(text, s, Kind::Below(variables));
+    let r = take_number(text, s, Kind::Below(variables as u32));
     let scan = r.scan;
     Short {
         n: r.n as u16,

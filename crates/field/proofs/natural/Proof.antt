@@ -3,8 +3,8 @@ use Prim.Native.Nat.{_≤_, _-_}
 use mathlib.Core.Path.{_≡_, refl, _∙_, sym, ap}
 use lib.ListN.{length, drop}
 use Rattle.field.specs.declared.Number.the-variants.{Empty}
-use Rattle.field.specs.View.{numberOf, after}
-use Rattle.field.proofs.Numbers.{after-next, after-end, natural-after}
+use Rattle.field.specs.View.{numberOf}
+use Rattle.field.proofs.Numbers.{after, after-next, after-end, natural-after}
 use Rattle.field.proofs.natural.Statement.{statement}
 use Rattle.field.proofs.natural.Tie as tie
 use borrow.Author.Needs.{needs}

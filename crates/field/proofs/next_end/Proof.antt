@@ -2,8 +2,8 @@
 use Prim.Native.Nat.{_-_}
 use mathlib.Core.Path.{refl, sym, _∙_}
 use lib.ListN.{length, List·getD-eq-default}
-use Rattle.field.specs.View.{separates}
-use Rattle.field.proofs.Parts.{Finding, finds-start, finds-next, finds-here, finds-end}
+use Rattle.field.specs.View.{separates, Finding}
+use Rattle.field.proofs.Parts.{finds-start, finds-next, finds-here, finds-end}
 use Rattle.field.proofs.next_end.Statement.{statement}
 use Rattle.field.proofs.next_end.Tie as tie
 use borrow.Author.Needs.{needs}
