@@ -24,6 +24,22 @@ inside [] i d e h = absurd (omega arith)
 inside (x ∷ l) zero d e h = refl
 inside (x ∷ l) (suc i) d e h = inside l i d e (omega arith)
 
+-- the first that is left
+pub first-left : {A : Type 0} (i : ℕ) (l : List A) (d : A) → getD (drop i l) 0 d ≡ getD l i d
+first-left zero l d = refl
+first-left (suc i) [] d = refl
+first-left (suc i) (x ∷ l) d = first-left i l d
+
+-- a byte that is not the one read past the end
+pub there : (l : List ℕ) (i : ℕ) → (getD l i 0 ≡ 0 → ⊥) → i < length l
+there [] i n = absurd (n refl)
+there (x ∷ l) zero n = omega arith
+there (x ∷ l) (suc i) n = omega (arith, there l i n)
+
+pub no-bytes : (l : List ℕ) → length l ≡ 0 → l ≡ []
+no-bytes [] h = refl
+no-bytes (x ∷ l) h = absurd (omega arith)
+
 pub has-here : (y : ℕ) (ys : List ℕ) → has (y ∷ ys) y ≡ true
 unfolding has
 has-here y ys = rw (eq-eqb y y refl, has)

@@ -9,8 +9,8 @@ use native.Mathlib.Nat.{le-of-lt}
 use native.Mathlib.Omega.{arith, min-cases}
 use borrow.Author.Tests.{le-leb, lt-leb, lt-ltb, le-ltb, eq-eqb, ne-eqb, leb-true, eqb-true, eqb-false}
 use lib.Dec.{leb, ltb, eqb, leb·suc-suc}
-use lib.ListN.{length, getD, take, drop, length-drop, drop-of-length-le}
-use lib.Seq.{drop-cons, take-all}
+use lib.ListN.{length, getD, drop, drop-of-length-le}
+use lib.Seq.{drop-cons}
 use Rattle.definition.specs.Field as def
 use Rattle.definition.specs.Field.{digit0, digit9, digits, natural, within, naturalWithin, negative, signed, field, upTo, below, value, malformed, outside, is}
 use Rattle.field.specs.declared.Read.{Read}
@@ -19,14 +19,9 @@ use Rattle.field.specs.declared.Number.{Number}
 use Rattle.field.specs.declared.Number.the-variants as counted
 use Rattle.field.specs.declared.Number.the-variants.{Empty, Malformed}
 use Rattle.field.proofs.Tests.{and-left, and-right}
-use Rattle.field.specs.View.{readOf, cap, capped, numberOf, withDigit, longer}
+use Rattle.field.specs.View.{readOf, cap, capped, numberOf, isDigit, count, spelt, withDigit, longer}
 
 -- ---- counting
-
--- `digits`, counted up to the cap
-unfoldable pub count : ℕ → List ℕ → Option ℕ
-count n [] = some n
-count n (b ∷ bs) = elim (leb digit0 b && leb b digit9) [ true ↦ count (min (n * 10 + (b - digit0)) cap) bs | false ↦ none ]
 
 step : (m d : ℕ) → min (min m cap * 10 + d) cap ≡ min (m * 10 + d) cap
 step m d = omega arith
@@ -45,6 +40,67 @@ digit-first b bs e =
     let small : b ≤ digit9 = leb-true b digit9 (and-right (leb digit0 b) _ e) in
     let same : min (0 * 10 + (b - digit0)) cap ≡ b - digit0 = omega arith in
     rw (count, e, same)
+
+-- one digit more, and a byte that is none
+pub digit-low : (b : ℕ) → true ≡ isDigit b → 48 ≤ b
+digit-low b e = leb-true digit0 b (and-left (leb digit0 b) _ (sym e))
+
+pub digit-high : (b : ℕ) → true ≡ isDigit b → b ≤ 57
+digit-high b e = leb-true b digit9 (and-right (leb digit0 b) _ (sym e))
+
+module _ (n b : ℕ) (bs : List ℕ) where
+  pub count-digit : true ≡ isDigit b → count n (b ∷ bs) ≡ count (min (n * 10 + (b - 48)) cap) bs
+  unfolding count
+  count-digit e = rw (count, ← e)
+
+  pub count-other : false ≡ isDigit b → count n (b ∷ bs) ≡ none
+  unfolding count
+  count-other e = rw (count, ← e)
+
+-- so many digits that make n
+module _ (b n : ℕ) where
+  pub spelt-none : (k : ℕ) → k ≡ 0 → none ≡ spelt b k n
+  unfolding spelt
+  spelt-none zero h = refl
+  spelt-none (suc k) h = absurd (omega arith)
+
+  pub spelt-one : (k : ℕ) → (k ≡ 0 → ⊥) → k ≤ 1 → some n ≡ spelt b k n
+  unfolding spelt
+  spelt-one zero h l = absurd (h refl)
+  spelt-one (suc zero) h l = refl
+  spelt-one (suc (suc k)) h l = absurd (omega arith)
+
+  pub spelt-zero : (k : ℕ) → 1 < k → b ≡ 48 → none ≡ spelt b k n
+  unfolding spelt
+  spelt-zero zero l h = absurd (omega arith)
+  spelt-zero (suc zero) l h = absurd (omega arith)
+  spelt-zero (suc (suc k)) l h = rw (spelt, eq-eqb b 48 h)
+
+  pub spelt-more : (k : ℕ) → 1 < k → (b ≡ 48 → ⊥) → some n ≡ spelt b k n
+  unfolding spelt
+  spelt-more zero l h = absurd (omega arith)
+  spelt-more (suc zero) l h = absurd (omega arith)
+  spelt-more (suc (suc k)) l h = rw (spelt, ne-eqb b 48 h)
+
+-- a field's number from what its digits make
+capped-count : (bs : List ℕ) → capped (digits 0 bs) ≡ count 0 bs
+capped-count bs = sym (count-digits 0 bs)
+
+pub natural-some : (bs : List ℕ) {n : ℕ} → count 0 bs ≡ some n → spelt (getD bs 0 0) (length bs) n ≡ capped (natural bs)
+unfolding natural capped spelt
+natural-some [] e = refl
+natural-some (b ∷ []) e = sym (capped-count (b ∷ []) ∙ e)
+natural-some (b ∷ c ∷ bs) {n} e =
+    elim (eqb b digit0) as (λ t. _≡_ {A = Option ℕ} (elim t [ true ↦ none | false ↦ some n ]) (capped (elim t [ true ↦ none | false ↦ digits 0 (b ∷ c ∷ bs) ])))
+    [ true ↦ refl | false ↦ sym (capped-count (b ∷ c ∷ bs) ∙ e) ]
+
+pub natural-none : (bs : List ℕ) → count 0 bs ≡ none → none ≡ capped (natural bs)
+unfolding natural capped
+natural-none [] e = refl
+natural-none (b ∷ []) e = sym (capped-count (b ∷ []) ∙ e)
+natural-none (b ∷ c ∷ bs) e =
+    elim (eqb b digit0) as (λ t. _≡_ {A = Option ℕ} none (capped (elim t [ true ↦ none | false ↦ digits 0 (b ∷ c ∷ bs) ])))
+    [ true ↦ refl | false ↦ sym (capped-count (b ∷ c ∷ bs) ∙ e) ]
 
 -- ---- a number byte by byte
 
@@ -220,20 +276,14 @@ unfolding signed
 signed-minus w [] h = absurd (omega arith)
 signed-minus w (b ∷ bs) h = rw (signed, eq-eqb _ _ h)
 
-pub no-minus : (bs : List ℕ) → length bs ≤ 0 → getD bs 0 0 ≡ 45 → ⊥
-no-minus [] h e = omega arith
-no-minus (b ∷ bs) h e = omega arith
-
 module _ (w : ℕ) (bs : List ℕ) {o : Option ℕ} (low : 2 ^ (w - 1) < cap) {x : def.Read} where
   pub value-plain : o ≡ capped (natural bs) → (getD bs 0 0 ≡ 45 → ⊥) → x ≡ naturalWithin (λ n. ltb n (2 ^ (w - 1))) o → x ≡ field (value w) bs
   unfolding field
   value-plain is-o h e = e ∙ ap (naturalWithin (λ n. ltb n (2 ^ (w - 1)))) is-o ∙ capped-within (2 ^ (w - 1)) (le-of-lt low) (natural bs) ∙ sym (signed-plain w bs h)
 
-  pub value-minus : o ≡ capped (natural (take (length bs - 1) (drop 1 bs))) → getD bs 0 0 ≡ 45 → x ≡ negative w o → x ≡ field (value w) bs
+  pub value-minus : o ≡ capped (natural (drop 1 bs)) → getD bs 0 0 ≡ 45 → x ≡ negative w o → x ≡ field (value w) bs
   unfolding field
-  value-minus is-o h e =
-      let all : take (length bs - 1) (drop 1 bs) ≡ drop 1 bs = take-all (length bs - 1) (drop 1 bs) (omega (arith, length-drop 1 bs)) in
-      e ∙ ap (negative w) (is-o ∙ ap (λ (l : List ℕ). capped (natural l)) all) ∙ capped-negative w low (natural (drop 1 bs)) ∙ sym (signed-minus w bs h)
+  value-minus is-o h e = e ∙ ap (negative w) is-o ∙ capped-negative w low (natural (drop 1 bs)) ∙ sym (signed-minus w bs h)
 
 -- ---- a field's number is within its bound
 

@@ -9,7 +9,7 @@ use lib.Dec.{eqb}
 use lib.ListN.{length, getD, take, drop, length-drop, drop-of-length-le}
 use lib.Seq.{drop-cons, drop-drop}
 use Rattle.definition.specs.Field.{lf, onto, split, firstLine}
-use Rattle.field.specs.View.{until, before, Ends, lineEnd}
+use Rattle.field.specs.View.{until, before, Ends, Finding, lineEnd}
 
 pub before-lf : (bs : List ℕ) → before lf bs ≡ firstLine bs
 unfolding until firstLine
@@ -33,6 +33,14 @@ module _ (stops : ℕ → Bool) where
   until-take (b ∷ bs) =
       elim (stops b) as (λ t. take (length {A = ℕ} (elim t [ true ↦ [] | false ↦ b ∷ until stops bs ])) (b ∷ bs) ≡ elim t [ true ↦ [] | false ↦ b ∷ until stops bs ])
       [ true ↦ refl | false ↦ ap (λ (l : List ℕ). b ∷ l) (until-take bs) ]
+
+  -- its first byte, if it has one
+  pub until-first : (bs : List ℕ) → 0 < length (until stops bs) → getD (until stops bs) 0 0 ≡ getD bs 0 0
+  unfolding until
+  until-first [] = λ h. refl
+  until-first (b ∷ bs) =
+      elim (stops b) as (λ t. 0 < length {A = ℕ} (elim t [ true ↦ [] | false ↦ b ∷ until stops bs ]) → getD {A = ℕ} (elim t [ true ↦ [] | false ↦ b ∷ until stops bs ]) 0 0 ≡ b)
+      [ true ↦ λ h. absurd (omega arith) | false ↦ λ h. refl ]
 
   -- byte by byte
   module _ (bytes : List ℕ) (i : ℕ) where
@@ -134,12 +142,7 @@ split-is sep bs = go (split-some sep bs)
     go : {ps : List (List ℕ)} → Some ps → (x : List ℕ) × (xs : List (List ℕ)) × (ps ≡ x ∷ xs)
     go (some-part {x = x} {xs = xs}) = (x, xs, refl)
 
--- ---- finding an end, byte by byte: nothing stops before i
-pub record Finding (stops : ℕ → Bool) (bytes : List ℕ) (at i : ℕ) : Type 0 where
-  pub low : at ≤ i
-  pub high : i ≤ at + (length bytes - at)
-  pub more : at + length (until stops (drop at bytes)) ≡ i + length (until stops (drop i bytes))
-
+-- ---- finding an end, byte by byte
 pub finds-start : (stops : ℕ → Bool) (bytes : List ℕ) (at : ℕ) → Finding stops bytes at at
 finds-start stops bytes at = record { low = omega arith; high = omega arith; more = refl }
 
@@ -157,3 +160,7 @@ module _ {stops : ℕ → Bool} {bytes : List ℕ} {at i : ℕ} (f : Finding sto
 
   pub finds-end : length bytes ≤ i → Ends (until stops) bytes at i
   finds-end h = finds-none (until-end stops bytes i h)
+
+  -- where the rest ends, all of it does
+  pub finds-rest : {r : ℕ} → Ends (until stops) bytes i r → Ends (until stops) bytes at r
+  finds-rest e = record { is = omega (arith, f .more, e .is); low = omega (arith, f .low, e .low); high = omega (arith, f .low, f .high, e .high) }

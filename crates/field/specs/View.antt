@@ -3,14 +3,22 @@ use mathlib.Core.Bool.{Bool, true, false, _&&_, _||_}
 use mathlib.Core.Path.{_≡_}
 use mathlib.Core.Option.{Option, some, none}
 use mathlib.Core.List.{List, [], _∷_}
-use Prim.Native.Nat.{ℕ, zero, suc, _+_, _-_, _*_, _≤_, min}
+use Prim.Native.Nat.{ℕ, zero, suc, _+_, _-_, _*_, _^_, _≤_, min}
 use lib.Dec.{eqb, leb, ltb}
 use lib.ListN.{length, getD, drop}
 use Rattle.definition.specs.Field as def
+use Rattle.definition.specs.Limits.{width}
+use Rattle.field.specs.declared.Kind.{Kind}
+use Rattle.field.specs.declared.Kind.the-variants.{UpTo, Below, Value}
 use Rattle.field.specs.declared.Read.{Read}
 use Rattle.field.specs.declared.Read.the-variants.{Malformed, Outside, Is}
 use Rattle.field.specs.declared.Number as number
 use Rattle.field.specs.declared.Number.the-variants as counted
+
+abbrev pub kindOf : Kind → def.Field
+kindOf (UpTo m) = def.upTo m
+kindOf (Below m) = def.below m
+kindOf Value = def.value width
 
 abbrev pub readOf : Read → def.Read
 readOf Malformed = def.malformed
@@ -38,9 +46,47 @@ withDigit counted.Malformed d = counted.Malformed
 withDigit (counted.Is zero) d = counted.Malformed
 withDigit (counted.Is (suc n)) d = counted.Is (min (suc n * 10 + d) cap)
 
+abbrev pub isDigit : ℕ → Bool
+isDigit b = leb def.digit0 b && leb b def.digit9
+
 -- one byte more
 unfoldable pub longer : number.Number → ℕ → number.Number
-longer n b = elim (leb def.digit0 b && leb b def.digit9) [ true ↦ withDigit n (b - def.digit0) | false ↦ counted.Malformed ]
+longer n b = elim (isDigit b) [ true ↦ withDigit n (b - def.digit0) | false ↦ counted.Malformed ]
+
+-- digits after those that make n, counted up to the cap
+unfoldable pub count : ℕ → List ℕ → Option ℕ
+count n [] = some n
+count n (b ∷ bs) = elim (isDigit b) [ true ↦ count (min (n * 10 + (b - def.digit0)) cap) bs | false ↦ none ]
+
+-- the number of so many digits that make n, by the first of them: a zero leads no others
+unfoldable pub spelt : ℕ → ℕ → ℕ → Option ℕ
+spelt b zero n = none
+spelt b (suc zero) n = some n
+spelt b (suc (suc k)) n = elim (eqb b def.digit0) [ true ↦ none | false ↦ some n ]
+
+-- does a field's first byte sign it?
+unfoldable pub signs : def.Field → ℕ → Bool
+signs (def.upTo m) b = false
+signs (def.below m) b = false
+signs (def.value w) b = eqb b def.minus
+
+-- behind a sign, if there is one
+unfoldable pub past : Bool → ℕ → ℕ
+past true at = at + 1
+past false at = at
+
+-- what a field holds, by its sign and its number
+unfoldable pub decided : def.Field → Bool → Option ℕ → def.Read
+decided (def.upTo m) s o = def.naturalWithin (λ n. ltb n (m + 1)) o
+decided (def.below m) s o = def.naturalWithin (λ n. ltb n m) o
+decided (def.value w) true o = def.negative w o
+decided (def.value w) false o = def.naturalWithin (λ n. ltb n (2 ^ (w - 1))) o
+
+-- counting up to the cap decides it
+abbrev pub Capped : def.Field → Type 0
+Capped (def.upTo m) = m + 1 ≤ cap
+Capped (def.below m) = m ≤ cap
+Capped (def.value w) = suc (2 ^ (w - 1)) ≤ cap
 
 -- the bytes before the first that stops, or all of them
 unfoldable pub until : (ℕ → Bool) → List ℕ → List ℕ
@@ -63,6 +109,27 @@ pub record Ends (part : List ℕ → List ℕ) (bytes : List ℕ) (at r : ℕ) :
   pub is : r ≡ at + length (part (drop at bytes))
   pub low : at ≤ r
   pub high : r ≤ at + (length bytes - at)
+
+-- an end is looked for from `at` on, and nothing stops before i
+pub record Finding (stops : ℕ → Bool) (bytes : List ℕ) (at i : ℕ) : Type 0 where
+  pub low : at ≤ i
+  pub high : i ≤ at + (length bytes - at)
+  pub more : at + length (until stops (drop at bytes)) ≡ i + length (until stops (drop i bytes))
+
+-- the bytes of a field from `at` to i are digits that make n
+pub record Sums (text : List ℕ) (at n i : ℕ) : Type 0 where
+  pub finding : Finding separates text at i
+  pub makes : count 0 (firstField (drop at text)) ≡ count n (firstField (drop i text))
+
+-- the field of a text that starts at `at`: where it ends, and the byte that it ends at
+pub record Stops (text : List ℕ) (at end stop : ℕ) : Type 0 where
+  pub ends : Ends firstField text at end
+  pub byte : stop ≡ getD text end 0
+
+-- the same, and its number
+pub record Counts (text : List ℕ) (at : ℕ) (o : Option ℕ) (end stop : ℕ) : Type 0 where
+  pub makes : o ≡ capped (def.natural (firstField (drop at text)))
+  pub stops : Stops text at end stop
 
 -- the field of a text that starts at `at`: what it holds, where it ends, and the byte that it ends at
 pub record Reads (f : def.Field) (text : List ℕ) (at : ℕ) (read : def.Read) (end stop : ℕ) : Type 0 where

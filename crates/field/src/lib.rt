@@ -1,13 +1,21 @@
 // Lines, fields and decimal numbers of lent bytes. A number of any length is one: it is counted up to a cap above every bound, so that nothing wraps
 // and what is malformed is told apart from what is out of its range.
 ghost use mathlib.Core.Path.{_≡_};
-ghost use Prim.Native.Nat.{_≤_, _+_, _*_, _^_, min};
+ghost use mathlib.Core.Bool.{true, false};
+ghost use Prim.Native.Nat.{_≤_, _<_, _+_, _-_, _*_, _^_, min};
 ghost use lib.Dec.{ltb};
-ghost use lib.ListN.{getD};
+ghost use lib.ListN.{length, getD};
 ghost use Rattle.definition.specs.Limits.{width};
 ghost use Rattle.definition.specs.Field.{comma, firstLine, natural, naturalWithin, negative, field, upTo, below, value};
-ghost use Rattle.field.specs.View.{readOf, numberOf, longer, separates, capped, cap, before, Ends, Reads, separator};
+ghost use Rattle.field.specs.View.{readOf, kindOf, numberOf, isDigit, longer, separates, capped, cap, spelt, signs, past, decided, Capped, before, Ends, Stops, Sums, Counts, Reads, separator};
 use definition::WIDTH;
+
+// What a field may hold: 0 to a number, 0 to below one, or a value, which may have a minus.
+pub enum Kind {
+    UpTo(u32),
+    Below(u32),
+    Value,
+}
 
 // A field as it is read; a value is its two's complement bits.
 pub enum Read {
@@ -23,11 +31,30 @@ pub struct Next {
     pub stop: u8,
 }
 
+// Where a field of a text ends, and the byte that it ends at.
+pub struct End {
+    pub end: usize,
+    pub stop: u8,
+}
+
 // A number with no sign, after some of its bytes, counted up to the cap. With a leading zero it is malformed from its second digit on.
 enum Number {
     Empty,
     Malformed,
     Is(u64),
+}
+
+// What digits make, and where they end.
+struct Run {
+    n: u64,
+    end: usize,
+}
+
+// The number of a field of a text, where it ends, and the byte that it ends at.
+struct Counted {
+    number: Number,
+    end: usize,
+    stop: u8,
 }
 
 // Where counting stops: above every value, of 64 bits too, and a power of ten, so that one test of the number before a digit decides.
@@ -138,25 +165,6 @@ pub fn up_to(bytes: &[u8], max: u32) -> Read
     within(natural(bytes), max as u64 + 1)
 }
 
-// A field of 0 to below `limit`.
-pub fn below(bytes: &[u8], limit: u32) -> Read
-    ensures { λ r. ⌜ readOf r ≡ field (below limit) (now (bytes .entry)) ⌝ }
-{
-    within(natural(bytes), limit as u64)
-}
-
-// A value, which may have a minus.
-pub fn value(bytes: &[u8]) -> Read
-    ensures { λ r. ⌜ readOf r ≡ field (value width) (now (bytes .entry)) ⌝ }
-{
-    if bytes.len() > 0 {
-        if bytes[0] == b'-' {
-            return negative(natural(&bytes[1..]));
-        }
-    }
-    within(natural(bytes), NEGATIVES)
-}
-
 // Where the part that starts at `at` and ends before `sep` ends.
 fn part_end(bytes: &[u8], at: usize, sep: u8) -> usize
     ensures { λ r. ⌜ Ends (before sep) (now (bytes .entry)) at r ⌝ }
@@ -195,29 +203,139 @@ fn is_separator(b: u8) -> bool
     b == b'\n'
 }
 
-// The field of 0 to `max` that starts at `at` of a text, and where it ends: all of it by one look at each byte.
-pub fn next_up_to(text: &[u8], at: usize, max: u32) -> Next
-    ensures { λ r. ⌜ Reads (upTo max) (now (text .entry)) at (readOf (r .read)) (r .end) (r .stop) ⌝ }
+fn is_digit(b: u8) -> bool
+    ensures { λ r. ⌜ r ≡ isDigit b ⌝ }
 {
-    let mut number = Number::Empty;
+    if b < b'0' {
+        return false;
+    }
+    b <= b'9'
+}
+
+// Where the field that starts at `at` of a text ends, and the byte that it ends at.
+pub fn next_end(text: &[u8], at: usize) -> End
+    ensures { λ r. ⌜ Stops (now (text .entry)) at (r .end) (r .stop) ⌝ }
+{
     let mut i = at;
     while i < text.len() {
         let b = text[i];
         if is_separator(b) {
-            return Next {
-                read: within(number, max as u64 + 1),
-                end: i,
-                stop: b,
-            };
+            return End { end: i, stop: b };
         }
-        number = add_byte(number, b);
         i += 1;
     }
-    Next {
-        read: within(number, max as u64 + 1),
-        end: i,
-        stop: 0,
+    End { end: i, stop: 0 }
+}
+
+// The digits from `at` on, up to the first byte that is none.
+fn digits(text: &[u8], at: usize) -> Run
+    ensures { λ r. ⌜ Sums (now (text .entry)) at (r .n) (r .end) × (false ≡ isDigit (getD (now (text .entry)) (r .end) 0)) ⌝ }
+{
+    let mut n = 0;
+    let mut i = at;
+    while i < text.len() {
+        let b = text[i];
+        if is_digit(b) {
+            n = add_digit(n, b - b'0');
+            i += 1;
+        } else {
+            return Run { n: n, end: i };
+        }
     }
+    Run { n: n, end: i }
+}
+
+// The number of a field that is digits alone, which make `n`: none if there are none, or a zero leads others.
+fn spell(text: &[u8], at: usize, end: usize, n: u64) -> Number
+    requires { ⌜ at ≤ end ⌝ }
+    requires { ⌜ end ≤ at + (length (now text) - at) ⌝ }
+    ensures { λ r. ⌜ numberOf r ≡ spelt (getD (now (text .entry)) at 0) (end - at) n ⌝ }
+{
+    if end == at {
+        return Number::Empty;
+    }
+    if end - at > 1 {
+        if text[at] == b'0' {
+            return Number::Malformed;
+        }
+    }
+    Number::Is(n)
+}
+
+// The number of the field that starts at `at` of a text.
+fn count(text: &[u8], at: usize) -> Counted
+    ensures { λ r. ⌜ Counts (now (text .entry)) at (numberOf (r .number)) (r .end) (r .stop) ⌝ }
+{
+    let d = digits(text, at);
+    let e = next_end(text, d.end);
+    if e.end == d.end {
+        return Counted {
+            number: spell(text, at, d.end, d.n),
+            end: e.end,
+            stop: e.stop,
+        };
+    }
+    Counted {
+        number: Number::Malformed,
+        end: e.end,
+        stop: e.stop,
+    }
+}
+
+// Does a field of this kind that starts at `at` have a minus?
+fn has_minus(text: &[u8], at: usize, kind: Kind) -> bool
+    ensures { λ r. ⌜ r ≡ signs (kindOf kind) (getD (now (text .entry)) at 0) ⌝ }
+{
+    match kind {
+        Kind::UpTo(_) => false,
+        Kind::Below(_) => false,
+        Kind::Value => byte_or(text, at, 0) == b'-',
+    }
+}
+
+// Where its digits start.
+fn behind_minus(text: &[u8], at: usize, minus: bool) -> usize
+    requires { ⌜ (minus ≡ true → at < length (now text)) ⌝ }
+    ensures { λ r. ⌜ r ≡ past minus at ⌝ }
+{
+    if minus { at + 1 } else { at }
+}
+
+// The field that this number makes.
+fn decide(kind: Kind, minus: bool, number: Number) -> Read
+    ensures { λ r. ⌜ (readOf r ≡ decided (kindOf kind) minus (numberOf number)) × Capped (kindOf kind) ⌝ }
+{
+    match kind {
+        Kind::UpTo(max) => within(number, max as u64 + 1),
+        Kind::Below(limit) => within(number, limit as u64),
+        Kind::Value => {
+            if minus {
+                return negative(number);
+            }
+            within(number, NEGATIVES)
+        }
+    }
+}
+
+// The field that starts at `at` of a text, and where it ends: all of it by one look at each byte.
+pub fn next_field(text: &[u8], at: usize, kind: Kind) -> Next
+    ensures { λ r. ⌜ Reads (kindOf kind) (now (text .entry)) at (readOf (r .read)) (r .end) (r .stop) ⌝ }
+{
+    let minus = has_minus(text, at, kind);
+    let c = count(text, behind_minus(text, at, minus));
+    let number = c.number;
+    Next {
+        read: decide(kind, minus, number),
+        end: c.end,
+        stop: c.stop,
+    }
+}
+
+// The one of 0 to `max`.
+pub fn next_up_to(text: &[u8], at: usize, max: u32) -> Next
+    ensures { λ r. ⌜ Reads (upTo max) (now (text .entry)) at (readOf (r .read)) (r .end) (r .stop) ⌝ }
+{
+    next_field(text, at, Kind::UpTo(max))
 }
 
 // The byte that field `k` of a line ends at, whose last field is `last`.

@@ -3,19 +3,20 @@ use mathlib.Core.Path.{_≡_, refl, ap, sym, _∙_}
 use mathlib.Core.Bool.{Bool, true, false}
 use mathlib.Core.Option.{Option, some, none}
 use mathlib.Core.List.{List, [], _∷_, _++_}
-use Prim.Native.Nat.{ℕ, zero, suc, _-_, _≤_, _<_}
-use native.Mathlib.Nat.{sub-zero}
+use Prim.Native.Nat.{ℕ, suc, _+_, _≤_, _<_}
 use native.Mathlib.Omega.{arith}
-use borrow.Author.Tests.{lt-ltb, le-ltb, ltb-true, ltb-false, leb-true, ne-eqb}
-use lib.Dec.{leb, ltb}
-use lib.ListN.{length, getD, take, drop}
+use borrow.Author.Tests.{lt-ltb, le-ltb, ltb-true, leb-true, eqb-true, eqb-false, ne-eqb}
+use lib.Dec.{leb, ltb, eqb}
+use lib.ListN.{length, getD, drop}
 use Rattle.definition.specs.Limits.{maxField, badForm, badRange, tooDeep, wrongLines}
 use Rattle.definition.specs.Field as def
-use Rattle.definition.specs.Field.{comma, split, firstLine, Field, upTo, below, value, Read, malformed, outside, field, natural, naturalWithin, within, Numbers, wrong, far, are, andThese, numbers}
+use Rattle.definition.specs.Field.{comma, firstLine, Field, upTo, below, value, Read, malformed, outside, field, natural, naturalWithin, within, Numbers, wrong, far, are, andThese, numbers}
 use Rattle.definition.specs.Tree.{posNumbers}
 use Rattle.definition.specs.Program.{Form, is, not, made, byLetter, lineOf, lineAt, posFields}
-use Rattle.field.specs.View.{before, Ends}
-use Rattle.field.proofs.Parts.{parts-last, parts-more, line-is, Some, some-part, split-some}
+use Rattle.field.specs.View.{separates, firstField, lineFields, Stops, Reads}
+use Rattle.field.proofs.Lists.{first-left}
+use Rattle.field.proofs.Parts.{until-first, Some, some-part, split-some}
+use Rattle.field.proofs.Fields.{read-stops, stop-inside, comma-fields, last-field}
 use Rattle.line_map.specs.declared.Pos.{Pos}
 use Rattle.line_map.specs.View.{posView}
 use Rattle.program_line.specs.declared.Verdict.{Verdict}
@@ -25,32 +26,31 @@ use Rattle.program_line.specs.Scan.{restFrom, rest, behindIf, behind, fa
 
 -- ---- one field
 
--- the fields from a place on: the one that ends at `end`, and those behind it
-module _ {line : List ℕ} {at end : ℕ} (e : Ends (before comma) line at end) (v : Verdict) where
-  pub field-and-rest : split comma (drop at line) ≡ take (end - at) (drop at line) ∷ rest line (behind line end v)
+-- the fields from a place on: the one that ends here, and those behind it
+module _ {text : List ℕ} {at end stop : ℕ} (e : Stops text at end stop) (v : Verdict) where
+  field-and-rest : lineFields text at ≡ firstField (drop at text) ∷ rest text (behind end stop v)
   unfolding behindIf restFrom
-  field-and-rest = go (ltb end (length line)) refl
+  field-and-rest = go (eqb stop comma) refl
     where
-      go : (b : Bool) → ltb end (length line) ≡ b
-          → split comma (drop at line) ≡ take (end - at) (drop at line) ∷ restFrom (behindIf b end v .more) (behindIf b end v .at) line
-      go true h = parts-more comma e (ltb-true _ _ h)
-      go false h = parts-last comma e (ltb-false _ _ h)
+      go : (b : Bool) → eqb stop comma ≡ b → lineFields text at ≡ firstField (drop at text) ∷ restFrom (behindIf b end v .more) (behindIf b end v .at) text
+      go true h = comma-fields e (eqb-true _ _ h)
+      go false h = last-field e (eqb-false _ _ h)
 
-  pub behind-within : at ≤ length line → behind line end v .at ≤ length line
+  behind-within : at ≤ length text → behind end stop v .at ≤ length text
   unfolding behindIf
-  behind-within low = go (ltb end (length line)) refl
+  behind-within low = go (eqb stop comma) refl
     where
-      go : (b : Bool) → ltb end (length line) ≡ b → behindIf b end v .at ≤ length line
-      go true h = omega (arith, ltb-true end (length line) h)
-      go false h = omega (arith, e .high)
+      go : (b : Bool) → eqb stop comma ≡ b → behindIf b end v .at ≤ length text
+      go true h = omega (arith, stop-inside e (λ z. omega (arith, eqb-true stop comma h)))
+      go false h = omega (arith, e .ends .high)
 
-  behind-verdict : behind line end v .verdict ≡ v
-  unfolding behindIf
-  behind-verdict = go (ltb end (length line))
-    where
-      go : (b : Bool) → behindIf b end v .verdict ≡ v
-      go true = refl
-      go false = refl
+behind-verdict : (end stop : ℕ) (v : Verdict) → behind end stop v .verdict ≡ v
+unfolding behindIf
+behind-verdict end stop v = go (eqb stop comma)
+  where
+    go : (b : Bool) → behindIf b end v .verdict ≡ v
+    go true = refl
+    go false = refl
 
 -- what one number does to those behind it
 held-these : (v : Verdict) (r : Read) (x : Numbers) → held v (andThese r x) ≡ push (numberIn r) (held (worse v r) x)
@@ -99,21 +99,22 @@ zero-bounded (upTo m) = omega arith
 zero-bounded (below m) = omega arith
 zero-bounded (value w) = tt
 
-module _ {line : List ℕ} {s : Scan} (f : Field) (low : s .at ≤ length line) where
-  pub took : {end : ℕ} (r : Read) → Ends (before comma) line (s .at) end → s .more ≡ true → r ≡ field f (take (end - s .at) (drop (s .at) line))
-      → Took f line s (numberIn r) (behind line end (worse (s .verdict) r))
+module _ {text : List ℕ} {s : Scan} (f : Field) (low : s .at ≤ length text) where
+  pub took : {end stop : ℕ} (r : Read) → Reads f text (s .at) r end stop → s .more ≡ true → Took f text s (numberIn r) (behind end stop (worse (s .verdict) r))
   unfolding restFrom numbers
-  took {end} r e more is-r = record {
-    is = λ fs. rw (more, field-and-rest e (worse (s .verdict) r), ← is-r, held-these, behind-verdict e (worse (s .verdict) r));
-    within = behind-within e (worse (s .verdict) r) low;
-    bound = rw is-r (bounded f _);
-  }
+  took {end} {stop} r e more =
+      let v = worse (s .verdict) r in
+      record {
+        is = λ fs. rw (more, field-and-rest (read-stops e) v, ← e .holds, held-these, behind-verdict end stop v);
+        within = behind-within (read-stops e) v low;
+        bound = rw (e .holds) (bounded f _);
+      }
 
-  pub took-none : s .more ≡ false → Took f line s 0 (record { at = s .at; more = false; verdict = Wrong })
+  pub took-none : s .more ≡ false → Took f text s 0 (record { at = s .at; more = false; verdict = Wrong })
   unfolding restFrom numbers held push
   took-none more = record { is = λ fs. rw (more, held-wrong); within = low; bound = zero-bounded f }
 
-pub took-position : {line : List ℕ} {s t u : Scan} {p : Pos} → Took (upTo maxField) line s (p .line) t → Took (upTo maxField) line t (p .column) u → TookPos line s p u
+pub took-position : {text : List ℕ} {s t u : Scan} {p : Pos} → Took (upTo maxField) text s (p .line) t → Took (upTo maxField) text t (p .column) u → TookPos text s p u
 unfolding posFields posNumbers pushAll
 took-position {p = p} a b = record { is = λ fs. a .is _ ∙ ap (push (p .line)) (b .is fs); within = b .within }
 
@@ -125,23 +126,23 @@ refused far = badRange
 refused (are ns) = 0
 
 -- a line's numbers from a place on, by their fields, where its refusal is r, 0 if it has none
-pub record Ended (line : List ℕ) (fs : List Field) (s : Scan) (r : ℕ) (ns : List ℕ) : Type 0 where
-  pub good : r ≡ 0 → left line fs s ≡ are ns
-  pub bad : (r ≡ 0 → ⊥) → refused (left line fs s) ≡ r
+pub record Ended (text : List ℕ) (fs : List Field) (s : Scan) (r : ℕ) (ns : List ℕ) : Type 0 where
+  pub good : r ≡ 0 → left text fs s ≡ are ns
+  pub bad : (r ≡ 0 → ⊥) → refused (left text fs s) ≡ r
 
 numbers-over : {xs : List (List ℕ)} → Some xs → numbers [] xs ≡ wrong
 unfolding numbers
 numbers-over some-part = refl
 
-ended-at : (line : List ℕ) (at : ℕ) (more : Bool) (v : Verdict) → Ended line [] (record { at = at; more = more; verdict = v }) (refusalIf more v) []
+ended-at : (text : List ℕ) (at : ℕ) (more : Bool) (v : Verdict) → Ended text [] (record { at = at; more = more; verdict = v }) (refusalIf more v) []
 unfolding held numbers restFrom refusalIf refused
-ended-at line at true v = record { good = λ h. absurd (omega arith); bad = λ h. rw (numbers-over (split-some comma (drop at line)), held-wrong v) }
-ended-at line at false Good = record { good = λ h. refl; bad = λ h. absurd (h refl) }
-ended-at line at false Far = record { good = λ h. absurd (omega arith); bad = λ h. refl }
-ended-at line at false Wrong = record { good = λ h. absurd (omega arith); bad = λ h. refl }
+ended-at text at true v = record { good = λ h. absurd (omega arith); bad = λ h. rw (numbers-over (split-some comma (firstLine (drop at text))), held-wrong v) }
+ended-at text at false Good = record { good = λ h. refl; bad = λ h. absurd (h refl) }
+ended-at text at false Far = record { good = λ h. absurd (omega arith); bad = λ h. refl }
+ended-at text at false Wrong = record { good = λ h. absurd (omega arith); bad = λ h. refl }
 
-pub ended : {line : List ℕ} {s : Scan} {r : ℕ} → r ≡ refusalAt s → Ended line [] s r []
-ended {line} {s} e = rw e (ended-at line (s .at) (s .more) (s .verdict))
+pub ended : {text : List ℕ} {s : Scan} {r : ℕ} → r ≡ refusalAt s → Ended text [] s r []
+ended {text} {s} e = rw e (ended-at text (s .at) (s .more) (s .verdict))
 
 refused-push : (n : ℕ) (x : Numbers) → refused (push n x) ≡ refused x
 unfolding refused push
@@ -159,12 +160,12 @@ unfolding pushAll push
 push-all [] ns = refl
 push-all (m ∷ ms) ns = rw (push-all ms ns)
 
-module _ {line : List ℕ} {s t : Scan} {r : ℕ} {fs : List Field} {ns : List ℕ} where
-  pub ended-number : {f : Field} {n : ℕ} → Took f line s n t → Ended line fs t r ns → Ended line (f ∷ fs) s r (n ∷ ns)
+module _ {text : List ℕ} {s t : Scan} {r : ℕ} {fs : List Field} {ns : List ℕ} where
+  pub ended-number : {f : Field} {n : ℕ} → Took f text s n t → Ended text fs t r ns → Ended text (f ∷ fs) s r (n ∷ ns)
   unfolding push
   ended-number {n = n} a e = record { good = λ h. rw (a .is fs, e .good h); bad = λ h. rw (a .is fs, refused-push) (e .bad h) }
 
-  pub ended-position : {p : Pos} → TookPos line s p t → Ended line fs t r ns → Ended line (posFields ++ fs) s r (posNumbers (posView p) ++ ns)
+  pub ended-position : {p : Pos} → TookPos text s p t → Ended text fs t r ns → Ended text (posFields ++ fs) s r (posNumbers (posView p) ++ ns)
   ended-position {p = p} a e = record { good = λ h. rw (a .is fs, e .good h) (push-all (posNumbers (posView p)) ns); bad = λ h. rw (a .is fs, refused-all (posNumbers (posView p))) (e .bad h) }
 
 -- what a letter makes of the numbers of its fields
@@ -178,19 +179,19 @@ made-bad make far r e h = rw e
 made-bad make (are ns) r e h = absurd (h (sym e))
 
 module _ {L : Type 0} (forms : List (Form L)) (letter : ℕ) {fields : List Field} {make : List ℕ → L}
-    {line : List ℕ} {s : Scan} (fresh : Fresh line s) {r : ℕ} {ns : List ℕ} (e : Ended line fields s r ns) (fit : Fits forms letter fields make) where
-  made-of : made make (left line fields s) ≡ byLetter forms letter (rest line s)
+    {text : List ℕ} {s : Scan} (fresh : Fresh text s) {r : ℕ} {ns : List ℕ} (e : Ended text fields s r ns) (fit : Fits forms letter fields make) where
+  made-of : made make (left text fields s) ≡ byLetter forms letter (rest text s)
   unfolding held
   made-of = rw (fresh .good) (sym (fit .is _))
 
-  pub bad-line : (r ≡ 0 → ⊥) → not r ≡ byLetter forms letter (rest line s)
+  pub bad-line : (r ≡ 0 → ⊥) → not r ≡ byLetter forms letter (rest text s)
   bad-line h = made-bad make _ r (e .bad h) h ∙ made-of
 
-  pub good-line : r ≡ 0 → is (make ns) ≡ byLetter forms letter (rest line s)
+  pub good-line : r ≡ 0 → is (make ns) ≡ byLetter forms letter (rest text s)
   unfolding made
   good-line h = sym (ap (made make) (e .good h)) ∙ made-of
 
--- ---- the line at a place
+-- ---- the text at a place
 
 -- no letter is 0
 pub record Lettered {L : Type 0} (forms : List (Form L)) : Type 0 where
@@ -214,12 +215,12 @@ differ [] b h fs = refl
 differ (x ∷ xs) b h fs = rw (byLetter, ne-eqb (x .letter) b (λ e. h .0 (sym e))) (differ xs b (h .1) fs)
 
 module _ {L : Type 0} where
-  module _ (forms : List (Form L)) (h : Lettered forms) {line : List ℕ} {b : ℕ} {s : Scan} (o : Opened line b s) where
-    pub by-letter : (k : ℕ) → b ≡ k → byLetter forms k (rest line s) ≡ lineOf forms (split comma line)
-    by-letter k e = rw (← e, o .is, o .others) (sym (line-by h (split comma line)))
+  module _ (forms : List (Form L)) (h : Lettered forms) {text : List ℕ} {at b : ℕ} {s : Scan} (o : Opened text at b s) where
+    pub by-letter : (k : ℕ) → b ≡ k → byLetter forms k (rest text s) ≡ lineOf forms (lineFields text at)
+    by-letter k e = rw (← e, o .is, o .others) (sym (line-by h (lineFields text at)))
 
-    pub no-letter : Differ forms b → not badForm ≡ lineOf forms (split comma line)
-    no-letter d = sym (differ forms b d (rest line s)) ∙ by-letter b refl
+    pub no-letter : Differ forms b → not badForm ≡ lineOf forms (lineFields text at)
+    no-letter d = sym (differ forms b d (rest text s)) ∙ by-letter b refl
 
   module _ (forms : List (Form L)) (depth : ℕ) (text : List ℕ) (at : ℕ) where
     pub line-missing : length text ≤ at → not wrongLines ≡ lineAt forms depth text at
@@ -230,41 +231,39 @@ module _ {L : Type 0} where
     unfolding lineAt
     line-deep h z = rw (lineAt, lt-ltb _ _ h, z)
 
-    pub line-there : {end : ℕ} → at < length text → (depth ≡ 0 → ⊥) → Ends firstLine text at end → lineOf forms (split comma (take (end - at) (drop at text))) ≡ lineAt forms depth text at
+    pub line-there : at < length text → (depth ≡ 0 → ⊥) → lineOf forms (lineFields text at) ≡ lineAt forms depth text at
     unfolding lineAt
-    line-there h d e = rw (lineAt, lt-ltb _ _ h, ne-eqb _ _ d, line-is e)
+    line-there h d = rw (lineAt, lt-ltb _ _ h, ne-eqb _ _ d)
 
 -- ---- the letter itself
-letter-one : (line : List ℕ) (fs : List (List ℕ)) → 1 ≤ length line → getD line 0 0 ≡ letterOf (take 1 line ∷ fs)
+letter-one : (bs : List ℕ) (fs : List (List ℕ)) → length bs ≡ 1 → getD bs 0 0 ≡ letterOf (bs ∷ fs)
 unfolding letterOf
-letter-one [] fs h = absurd (omega arith)
-letter-one (b ∷ bs) fs h = refl
+letter-one [] fs h = refl
+letter-one (b ∷ []) fs h = refl
+letter-one (b ∷ c ∷ bs) fs h = absurd (omega arith)
 
-letter-none : (end : ℕ) (line : List ℕ) (fs : List (List ℕ)) → (end ≡ 1 → ⊥) → end ≤ length line → 0 ≡ letterOf (take end line ∷ fs)
+letter-none : (bs : List ℕ) (fs : List (List ℕ)) → (length bs ≡ 1 → ⊥) → 0 ≡ letterOf (bs ∷ fs)
 unfolding letterOf
-letter-none zero line fs h low = refl
-letter-none (suc zero) line fs h low = absurd (h refl)
-letter-none (suc (suc n)) [] fs h low = refl
-letter-none (suc (suc n)) (b ∷ []) fs h low = absurd (omega arith)
-letter-none (suc (suc n)) (b ∷ c ∷ bs) fs h low = refl
+letter-none [] fs h = refl
+letter-none (b ∷ []) fs h = absurd (h refl)
+letter-none (b ∷ c ∷ bs) fs h = refl
 
-module _ {line : List ℕ} {end : ℕ} (e : Ends (before comma) line 0 end) where
-  fields-are : split comma line ≡ take end line ∷ rest line (behind line end Good)
-  fields-are = rw sub-zero at (field-and-rest e Good)
-
-  opened : (b : ℕ) → b ≡ letterOf (take end line ∷ rest line (behind line end Good)) → Opened line b (behind line end Good)
+module _ {text : List ℕ} {at end stop : ℕ} (low : at ≤ length text) (e : Stops text at end stop) where
+  opened : (b : ℕ) → b ≡ letterOf (firstField (drop at text) ∷ rest text (behind end stop Good)) → Opened text at b (behind end stop Good)
   unfolding behindLetter
   opened b h = record {
-    is = rw fields-are h;
-    others = rw fields-are;
-    fresh = record { good = behind-verdict e Good; within = behind-within e Good (omega arith) };
+    is = rw (field-and-rest e Good) h;
+    others = rw (field-and-rest e Good);
+    fresh = record { good = behind-verdict end stop Good; within = behind-within e Good low };
   }
 
-  pub opened-one : end ≡ 1 → Opened line (getD line 0 0) (behind line end Good)
-  opened-one h = opened _ (rw h (letter-one line _ (omega (arith, e .high))))
+  pub opened-one : end ≡ at + 1 → Opened text at (getD text at 0) (behind end stop Good)
+  opened-one h =
+      let one : length (firstField (drop at text)) ≡ 1 = omega (arith, e .ends .is) in
+      opened _ (sym (first-left at text 0) ∙ sym (until-first separates (drop at text) (omega arith)) ∙ letter-one _ _ one)
 
-  pub opened-none : (end ≡ 1 → ⊥) → Opened line 0 (behind line end Good)
-  opened-none h = opened _ (letter-none end line _ h (omega (arith, e .high)))
+  pub opened-none : (end ≡ at + 1 → ⊥) → Opened text at 0 (behind end stop Good)
+  opened-none h = opened _ (letter-none _ _ (λ one. h (omega (arith, e .ends .is))))
 
 -- ---- a number that is none of those before it
 pub none-past : (n : ℕ) → 0 ≤ n

@@ -3,41 +3,35 @@ use Prim.Native.Nat.{ℕ, _+_, _≤_}
 use mathlib.Core.Path.{_≡_}
 use mathlib.Core.List.{List, [], _∷_, _++_}
 use mathlib.Core.Bool.{Bool, true, false}
-use lib.Dec.{ltb}
-use lib.ListN.{length, drop}
-use Rattle.definition.specs.Limits.{width, badForm, badRange}
+use lib.Dec.{eqb}
+use lib.ListN.{length}
+use Rattle.definition.specs.Limits.{badForm, badRange}
 use Rattle.definition.specs.Field as def
-use Rattle.definition.specs.Field.{comma, split, Field, Read, malformed, outside, Numbers, wrong, far, are, numbers}
+use Rattle.definition.specs.Field.{comma, Field, Read, malformed, outside, Numbers, wrong, far, are, numbers}
 use Rattle.definition.specs.Tree.{posNumbers}
 use Rattle.definition.specs.Program.{posFields}
+use Rattle.field.specs.View.{lineFields}
 use Rattle.line_map.specs.declared.Pos.{Pos}
 use Rattle.line_map.specs.View.{posView}
 use Rattle.program_line.specs.declared.Verdict.{Verdict}
 use Rattle.program_line.specs.declared.Verdict.the-variants.{Good, Far, Wrong}
-use Rattle.program_line.specs.declared.Kind.{Kind}
-use Rattle.program_line.specs.declared.Kind.the-variants.{UpTo, Below, Value}
 use Rattle.program_line.specs.declared.Scan.{Scan}
-
-abbrev pub kindOf : Kind → Field
-kindOf (UpTo m) = def.upTo m
-kindOf (Below m) = def.below m
-kindOf Value = def.value width
 
 -- the fields from a place on
 unfoldable pub restFrom : Bool → ℕ → List ℕ → List (List ℕ)
-restFrom true at line = split comma (drop at line)
-restFrom false at line = []
+restFrom true at text = lineFields text at
+restFrom false at text = []
 
 abbrev pub rest : List ℕ → Scan → List (List ℕ)
-rest line s = restFrom (s .more) (s .at) line
+rest text s = restFrom (s .more) (s .at) text
 
 unfoldable pub behindIf : Bool → ℕ → Verdict → Scan
 behindIf true end f = record { at = end + 1; more = true; verdict = f }
 behindIf false end f = record { at = end; more = false; verdict = f }
 
--- the place behind the field that ends at `end`
-abbrev pub behind : List ℕ → ℕ → Verdict → Scan
-behind line end f = behindIf (ltb end (length line)) end f
+-- the place behind the field that ends at `end`, at this byte
+abbrev pub behind : ℕ → ℕ → Verdict → Scan
+behind end stop f = behindIf (eqb stop comma) end f
 
 -- 2 wins over 3
 unfoldable pub farther : Verdict → Verdict
@@ -75,7 +69,7 @@ pushAll (n ∷ ns) x = push n (pushAll ns x)
 
 -- the numbers from a place on, by their fields
 abbrev pub left : List ℕ → List Field → Scan → Numbers
-left line fs s = held (s .verdict) (numbers fs (rest line s))
+left text fs s = held (s .verdict) (numbers fs (rest text s))
 
 -- a bound of what a field that has no sign may hold
 abbrev pub Bounded : Field → ℕ → Type 0
@@ -84,20 +78,20 @@ Bounded (def.below m) n = n ≤ m
 Bounded (def.value w) n = Unit {0}
 
 -- one field was read: a number, and the place behind it
-pub record Took (f : Field) (line : List ℕ) (s : Scan) (n : ℕ) (t : Scan) : Type 0 where
-  pub is : (fs : List Field) → left line (f ∷ fs) s ≡ push n (left line fs t)
-  pub within : t .at ≤ length line
+pub record Took (f : Field) (text : List ℕ) (s : Scan) (n : ℕ) (t : Scan) : Type 0 where
+  pub is : (fs : List Field) → left text (f ∷ fs) s ≡ push n (left text fs t)
+  pub within : t .at ≤ length text
   pub bound : Bounded f n
 
 -- a position's fields were read
-pub record TookPos (line : List ℕ) (s : Scan) (p : Pos) (t : Scan) : Type 0 where
-  pub is : (fs : List Field) → left line (posFields ++ fs) s ≡ pushAll (posNumbers (posView p)) (left line fs t)
-  pub within : t .at ≤ length line
+pub record TookPos (text : List ℕ) (s : Scan) (p : Pos) (t : Scan) : Type 0 where
+  pub is : (fs : List Field) → left text (posFields ++ fs) s ≡ pushAll (posNumbers (posView p)) (left text fs t)
+  pub within : t .at ≤ length text
 
 -- the place behind the letter
-pub record Fresh (line : List ℕ) (s : Scan) : Type 0 where
+pub record Fresh (text : List ℕ) (s : Scan) : Type 0 where
   pub good : s .verdict ≡ Good
-  pub within : s .at ≤ length line
+  pub within : s .at ≤ length text
 
 -- field 0 where it is one byte, else 0, which is no letter
 unfoldable pub letterOf : List (List ℕ) → ℕ
@@ -110,10 +104,11 @@ unfoldable pub behindLetter : List (List ℕ) → List (List ℕ)
 behindLetter [] = []
 behindLetter (x ∷ fs) = fs
 
-pub record Opened (line : List ℕ) (b : ℕ) (s : Scan) : Type 0 where
-  pub is : b ≡ letterOf (split comma line)
-  pub others : rest line s ≡ behindLetter (split comma line)
-  pub fresh : Fresh line s
+-- the letter of the line that starts at `at`, and the place behind it
+pub record Opened (text : List ℕ) (at b : ℕ) (s : Scan) : Type 0 where
+  pub is : b ≡ letterOf (lineFields text at)
+  pub others : rest text s ≡ behindLetter (lineFields text at)
+  pub fresh : Fresh text s
 
 unfoldable pub refusalIf : Bool → Verdict → ℕ
 refusalIf true f = badForm

@@ -1,22 +1,23 @@
 // A program's lines, read in place: the line at a byte of the text, as what its letter's fields say, or its refusal (6, 5, 2, 3).
 ghost use mathlib.Core.Path.{_≡_};
-ghost use Prim.Native.Nat.{_≤_};
+ghost use Prim.Native.Nat.{_≤_, _<_};
 ghost use mathlib.Core.List.{[], _∷_};
 ghost use lib.ListN.{length, getD};
 ghost use Rattle.definition.specs.Limits.{maxField};
-ghost use Rattle.definition.specs.Field.{comma, split, upTo, below, field};
+ghost use Rattle.definition.specs.Field.{upTo, below};
 ghost use Rattle.definition.specs.Opcode.{Add, Arithmetic, binaryOps, Neg, BoolNot, Eq, Ne, Lt, Le, Gt, Ge, AndThen, OrElse};
 ghost use Rattle.definition.specs.Program.{lineAt, lineOf, byLetter, headerForms, stmtForms, exprForms, armForms, labelForms};
-ghost use Rattle.field.specs.View.{readOf};
+ghost use Rattle.field.specs.View.{kindOf, readOf, lineFields};
 ghost use Rattle.opcode.specs.View.{binaryView, unaryView, compareView, shortCircuitView};
 ghost use Rattle.program_line.specs.View.{headerLine, stmtLine, exprLine, armLine, labelLine};
-ghost use Rattle.program_line.specs.Scan.{kindOf, rest, behind, worse, numberIn, refusalAt, Opened, Fresh, Took, TookPos};
+ghost use Rattle.program_line.specs.Scan.{rest, behind, worse, numberIn, refusalAt, Opened, Fresh, Took, TookPos};
 use definition::BAD_FORM;
 use definition::BAD_RANGE;
 use definition::MAX_FIELD;
 use definition::MAX_VARIABLES;
 use definition::TOO_DEEP;
 use definition::WRONG_LINES;
+use field::Kind;
 use field::Read;
 use line_map::Pos;
 use opcode::ArithmeticOp;
@@ -124,13 +125,6 @@ pub struct Scan {
     pub verdict: Verdict,
 }
 
-// What a field may hold.
-pub enum Kind {
-    UpTo(u16),
-    Below(u16),
-    Value,
-}
-
 // A number that was read, 0 where there is none, and the place behind its field.
 pub struct Number {
     pub n: u32,
@@ -155,12 +149,12 @@ pub struct Placed {
     pub scan: Scan,
 }
 
-// The place behind the field that ends at `end`.
-fn behind(line: &[u8], end: usize, verdict: Verdict) -> Scan
-    requires { ⌜ end ≤ length (now line) ⌝ }
-    ensures { λ r. ⌜ r ≡ behind (now (line .entry)) end verdict ⌝ }
+// The place behind the field that ends at `end`, at this byte.
+fn behind(text: &[u8], end: usize, stop: u8, verdict: Verdict) -> Scan
+    requires { ⌜ stop ≡ getD (now text) end 0 ⌝ }
+    ensures { λ r. ⌜ r ≡ behind end stop verdict ⌝ }
 {
-    if end < line.len() {
+    if stop == b',' {
         Scan {
             at: end + 1,
             more: true,
@@ -175,14 +169,16 @@ fn behind(line: &[u8], end: usize, verdict: Verdict) -> Scan
     }
 }
 
-fn take_letter(line: &[u8]) -> Letter
-    ensures { λ r. ⌜ Opened (now (line .entry)) (r .letter) (r .scan) ⌝ }
+// The letter of the line that starts at `at`.
+fn take_letter(text: &[u8], at: usize) -> Letter
+    requires { ⌜ at < length (now text) ⌝ }
+    ensures { λ r. ⌜ Opened (now (text .entry)) at (r .letter) (r .scan) ⌝ }
 {
-    let end = field::field_end(line, 0);
-    let scan = behind(line, end, Verdict::Good);
-    if end == 1 {
+    let next = field::next_end(text, at);
+    let scan = behind(text, next.end, next.stop, Verdict::Good);
+    if next.end == at + 1 {
         Letter {
-            letter: line[0],
+            letter: text[at],
             scan: scan,
         }
     } else {
@@ -190,16 +186,6 @@ fn take_letter(line: &[u8]) -> Letter
             letter: 0,
             scan: scan,
         }
-    }
-}
-
-fn read_field(bytes: &[u8], kind: Kind) -> Read
-    ensures { λ r. ⌜ readOf r ≡ field (kindOf kind) (now (bytes .entry)) ⌝ }
-{
-    match kind {
-        Kind::UpTo(max) => field::up_to(bytes, max as u32),
-        Kind::Below(limit) => field::below(bytes, limit as u32),
-        Kind::Value => field::value(bytes),
     }
 }
 
@@ -228,19 +214,19 @@ fn number_in(read: Read) -> u32
 }
 
 // One number.
-fn take_number(line: &[u8], s: Scan, kind: Kind) -> Number
-    requires { ⌜ s .at ≤ length (now line) ⌝ }
-    ensures { λ r. ⌜ Took (kindOf kind) (now (line .entry)) s (r .n) (r .scan) ⌝ }
+fn take_number(text: &[u8], s: Scan, kind: Kind) -> Number
+    requires { ⌜ s .at ≤ length (now text) ⌝ }
+    ensures { λ r. ⌜ Took (kindOf kind) (now (text .entry)) s (r .n) (r .scan) ⌝ }
 {
     let at = s.at;
     let verdict = s.verdict;
     if s.more {
-        let end = field::field_end(line, at);
-        let read = read_field(&line[at..end], kind);
+        let next = field::next_field(text, at, kind);
+        let read = next.read;
         let worst = worse(verdict, read);
         return Number {
             n: number_in(read),
-            scan: behind(line, end, worst),
+            scan: behind(text, next.end, next.stop, worst),
         };
     }
     Number {
@@ -254,11 +240,11 @@ fn take_number(line: &[u8], s: Scan, kind: Kind) -> Number
 }
 
 // A number of 0 to `max`.
-fn up_to(line: &[u8], s: Scan, max: u16) -> Short
-    requires { ⌜ s .at ≤ length (now line) ⌝ }
-    ensures { λ r. ⌜ Took (upTo max) (now (line .entry)) s (r .n) (r .scan) ⌝ }
+fn up_to(text: &[u8], s: Scan, max: u16) -> Short
+    requires { ⌜ s .at ≤ length (now text) ⌝ }
+    ensures { λ r. ⌜ Took (upTo max) (now (text .entry)) s (r .n) (r .scan) ⌝ }
 {
-    let r = take_number(line, s, Kind::UpTo(max));
+    let r = take_number(text, s, Kind::UpTo(max as u32));
     let scan = r.scan;
     Short {
         n: r.n as u16,
@@ -267,11 +253,11 @@ fn up_to(line: &[u8], s: Scan, max: u16) -> Short
 }
 
 // A variable's index, below their count.
-fn index(line: &[u8], s: Scan, variables: u16) -> Short
-    requires { ⌜ s .at ≤ length (now line) ⌝ }
-    ensures { λ r. ⌜ Took (below variables) (now (line .entry)) s (r .n) (r .scan) ⌝ }
+fn index(text: &[u8], s: Scan, variables: u16) -> Short
+    requires { ⌜ s .at ≤ length (now text) ⌝ }
+    ensures { λ r. ⌜ Took (below variables) (now (text .entry)) s (r .n) (r .scan) ⌝ }
 {
-    let r = take_number(line, s, Kind::Below(variables));
+    let r = take_number(text, s, Kind::Below(variables as u32));
     let scan = r.scan;
     Short {
         n: r.n as u16,
@@ -280,19 +266,19 @@ fn index(line: &[u8], s: Scan, variables: u16) -> Short
 }
 
 // A count, a line, a column or a loop's number.
-fn count(line: &[u8], s: Scan) -> Short
-    requires { ⌜ s .at ≤ length (now line) ⌝ }
-    ensures { λ r. ⌜ Took (upTo maxField) (now (line .entry)) s (r .n) (r .scan) ⌝ }
+fn count(text: &[u8], s: Scan) -> Short
+    requires { ⌜ s .at ≤ length (now text) ⌝ }
+    ensures { λ r. ⌜ Took (upTo maxField) (now (text .entry)) s (r .n) (r .scan) ⌝ }
 {
-    up_to(line, s, COUNTS)
+    up_to(text, s, COUNTS)
 }
 
-fn position(line: &[u8], s: Scan) -> Placed
-    requires { ⌜ s .at ≤ length (now line) ⌝ }
-    ensures { λ r. ⌜ TookPos (now (line .entry)) s (r .pos) (r .scan) ⌝ }
+fn position(text: &[u8], s: Scan) -> Placed
+    requires { ⌜ s .at ≤ length (now text) ⌝ }
+    ensures { λ r. ⌜ TookPos (now (text .entry)) s (r .pos) (r .scan) ⌝ }
 {
-    let l = count(line, s);
-    let c = count(line, l.scan);
+    let l = count(text, s);
+    let c = count(text, l.scan);
     let scan = c.scan;
     Placed {
         pos: Pos {
@@ -320,13 +306,13 @@ fn refusal(s: Scan) -> u8
 
 // ---- a line by its letter; `s` is the place behind the letter
 
-fn header_line(line: &[u8], s: Scan) -> HeaderLine
-    requires { ⌜ Fresh (now line) s ⌝ }
-    ensures { λ r. ⌜ headerLine r ≡ byLetter headerForms 0x50 (rest (now (line .entry)) s) ⌝ }
+fn header_line(text: &[u8], s: Scan) -> HeaderLine
+    requires { ⌜ Fresh (now text) s ⌝ }
+    ensures { λ r. ⌜ headerLine r ≡ byLetter headerForms 0x50 (rest (now (text .entry)) s) ⌝ }
 {
-    let v = up_to(line, s, VARIABLES);
-    let n = count(line, v.scan);
-    let p = position(line, n.scan);
+    let v = up_to(text, s, VARIABLES);
+    let n = count(text, v.scan);
+    let p = position(text, n.scan);
     let pos = p.pos;
     let bad = refusal(p.scan);
     if bad != 0 {
@@ -339,13 +325,13 @@ fn header_line(line: &[u8], s: Scan) -> HeaderLine
     }
 }
 
-fn assign_line(line: &[u8], s: Scan, variables: u16) -> StmtLine
-    requires { ⌜ Fresh (now line) s ⌝ }
-    ensures { λ r. ⌜ stmtLine r ≡ byLetter (stmtForms variables) 0x41 (rest (now (line .entry)) s) ⌝ }
+fn assign_line(text: &[u8], s: Scan, variables: u16) -> StmtLine
+    requires { ⌜ Fresh (now text) s ⌝ }
+    ensures { λ r. ⌜ stmtLine r ≡ byLetter (stmtForms variables) 0x41 (rest (now (text .entry)) s) ⌝ }
 {
-    let p = position(line, s);
+    let p = position(text, s);
     let pos = p.pos;
-    let v = index(line, p.scan, variables);
+    let v = index(text, p.scan, variables);
     let bad = refusal(v.scan);
     if bad != 0 {
         return StmtLine::Bad(bad);
@@ -356,14 +342,14 @@ fn assign_line(line: &[u8], s: Scan, variables: u16) -> StmtLine
     }
 }
 
-fn if_line(line: &[u8], s: Scan, variables: u16) -> StmtLine
-    requires { ⌜ Fresh (now line) s ⌝ }
-    ensures { λ r. ⌜ stmtLine r ≡ byLetter (stmtForms variables) 0x49 (rest (now (line .entry)) s) ⌝ }
+fn if_line(text: &[u8], s: Scan, variables: u16) -> StmtLine
+    requires { ⌜ Fresh (now text) s ⌝ }
+    ensures { λ r. ⌜ stmtLine r ≡ byLetter (stmtForms variables) 0x49 (rest (now (text .entry)) s) ⌝ }
 {
-    let p = position(line, s);
+    let p = position(text, s);
     let pos = p.pos;
-    let n = count(line, p.scan);
-    let m = count(line, n.scan);
+    let n = count(text, p.scan);
+    let m = count(text, n.scan);
     let bad = refusal(m.scan);
     if bad != 0 {
         return StmtLine::Bad(bad);
@@ -375,14 +361,14 @@ fn if_line(line: &[u8], s: Scan, variables: u16) -> StmtLine
     }
 }
 
-fn case_line(line: &[u8], s: Scan, variables: u16) -> StmtLine
-    requires { ⌜ Fresh (now line) s ⌝ }
-    ensures { λ r. ⌜ stmtLine r ≡ byLetter (stmtForms variables) 0x53 (rest (now (line .entry)) s) ⌝ }
+fn case_line(text: &[u8], s: Scan, variables: u16) -> StmtLine
+    requires { ⌜ Fresh (now text) s ⌝ }
+    ensures { λ r. ⌜ stmtLine r ≡ byLetter (stmtForms variables) 0x53 (rest (now (text .entry)) s) ⌝ }
 {
-    let p = position(line, s);
+    let p = position(text, s);
     let pos = p.pos;
-    let n = count(line, p.scan);
-    let m = count(line, n.scan);
+    let n = count(text, p.scan);
+    let m = count(text, n.scan);
     let bad = refusal(m.scan);
     if bad != 0 {
         return StmtLine::Bad(bad);
@@ -394,16 +380,16 @@ fn case_line(line: &[u8], s: Scan, variables: u16) -> StmtLine
     }
 }
 
-fn for_line(line: &[u8], s: Scan, variables: u16) -> StmtLine
-    requires { ⌜ Fresh (now line) s ⌝ }
-    ensures { λ r. ⌜ stmtLine r ≡ byLetter (stmtForms variables) 0x46 (rest (now (line .entry)) s) ⌝ }
+fn for_line(text: &[u8], s: Scan, variables: u16) -> StmtLine
+    requires { ⌜ Fresh (now text) s ⌝ }
+    ensures { λ r. ⌜ stmtLine r ≡ byLetter (stmtForms variables) 0x46 (rest (now (text .entry)) s) ⌝ }
 {
-    let p = position(line, s);
+    let p = position(text, s);
     let pos = p.pos;
-    let i = count(line, p.scan);
-    let v = index(line, i.scan, variables);
-    let k = take_number(line, v.scan, Kind::Value);
-    let n = count(line, k.scan);
+    let i = count(text, p.scan);
+    let v = index(text, i.scan, variables);
+    let k = take_number(text, v.scan, Kind::Value);
+    let n = count(text, k.scan);
     let bad = refusal(n.scan);
     if bad != 0 {
         return StmtLine::Bad(bad);
@@ -417,15 +403,15 @@ fn for_line(line: &[u8], s: Scan, variables: u16) -> StmtLine
     }
 }
 
-fn loop_line(line: &[u8], s: Scan, variables: u16) -> StmtLine
-    requires { ⌜ Fresh (now line) s ⌝ }
-    ensures { λ r. ⌜ stmtLine r ≡ byLetter (stmtForms variables) 0x4C (rest (now (line .entry)) s) ⌝ }
+fn loop_line(text: &[u8], s: Scan, variables: u16) -> StmtLine
+    requires { ⌜ Fresh (now text) s ⌝ }
+    ensures { λ r. ⌜ stmtLine r ≡ byLetter (stmtForms variables) 0x4C (rest (now (text .entry)) s) ⌝ }
 {
-    let p = position(line, s);
+    let p = position(text, s);
     let pos = p.pos;
-    let i = count(line, p.scan);
-    let n = count(line, i.scan);
-    let m = count(line, n.scan);
+    let i = count(text, p.scan);
+    let n = count(text, i.scan);
+    let m = count(text, n.scan);
     let bad = refusal(m.scan);
     if bad != 0 {
         return StmtLine::Bad(bad);
@@ -438,13 +424,13 @@ fn loop_line(line: &[u8], s: Scan, variables: u16) -> StmtLine
     }
 }
 
-fn exit_line(line: &[u8], s: Scan, variables: u16) -> StmtLine
-    requires { ⌜ Fresh (now line) s ⌝ }
-    ensures { λ r. ⌜ stmtLine r ≡ byLetter (stmtForms variables) 0x58 (rest (now (line .entry)) s) ⌝ }
+fn exit_line(text: &[u8], s: Scan, variables: u16) -> StmtLine
+    requires { ⌜ Fresh (now text) s ⌝ }
+    ensures { λ r. ⌜ stmtLine r ≡ byLetter (stmtForms variables) 0x58 (rest (now (text .entry)) s) ⌝ }
 {
-    let p = position(line, s);
+    let p = position(text, s);
     let pos = p.pos;
-    let i = count(line, p.scan);
+    let i = count(text, p.scan);
     let bad = refusal(i.scan);
     if bad != 0 {
         return StmtLine::Bad(bad);
@@ -455,13 +441,13 @@ fn exit_line(line: &[u8], s: Scan, variables: u16) -> StmtLine
     }
 }
 
-fn continue_line(line: &[u8], s: Scan, variables: u16) -> StmtLine
-    requires { ⌜ Fresh (now line) s ⌝ }
-    ensures { λ r. ⌜ stmtLine r ≡ byLetter (stmtForms variables) 0x4E (rest (now (line .entry)) s) ⌝ }
+fn continue_line(text: &[u8], s: Scan, variables: u16) -> StmtLine
+    requires { ⌜ Fresh (now text) s ⌝ }
+    ensures { λ r. ⌜ stmtLine r ≡ byLetter (stmtForms variables) 0x4E (rest (now (text .entry)) s) ⌝ }
 {
-    let p = position(line, s);
+    let p = position(text, s);
     let pos = p.pos;
-    let i = count(line, p.scan);
+    let i = count(text, p.scan);
     let bad = refusal(i.scan);
     if bad != 0 {
         return StmtLine::Bad(bad);
@@ -472,11 +458,11 @@ fn continue_line(line: &[u8], s: Scan, variables: u16) -> StmtLine
     }
 }
 
-fn return_line(line: &[u8], s: Scan, variables: u16) -> StmtLine
-    requires { ⌜ Fresh (now line) s ⌝ }
-    ensures { λ r. ⌜ stmtLine r ≡ byLetter (stmtForms variables) 0x52 (rest (now (line .entry)) s) ⌝ }
+fn return_line(text: &[u8], s: Scan, variables: u16) -> StmtLine
+    requires { ⌜ Fresh (now text) s ⌝ }
+    ensures { λ r. ⌜ stmtLine r ≡ byLetter (stmtForms variables) 0x52 (rest (now (text .entry)) s) ⌝ }
 {
-    let p = position(line, s);
+    let p = position(text, s);
     let pos = p.pos;
     let bad = refusal(p.scan);
     if bad != 0 {
@@ -485,12 +471,12 @@ fn return_line(line: &[u8], s: Scan, variables: u16) -> StmtLine
     StmtLine::Return { pos: pos }
 }
 
-fn arm_line(line: &[u8], s: Scan) -> ArmLine
-    requires { ⌜ Fresh (now line) s ⌝ }
-    ensures { λ r. ⌜ armLine r ≡ byLetter armForms 0x4D (rest (now (line .entry)) s) ⌝ }
+fn arm_line(text: &[u8], s: Scan) -> ArmLine
+    requires { ⌜ Fresh (now text) s ⌝ }
+    ensures { λ r. ⌜ armLine r ≡ byLetter armForms 0x4D (rest (now (text .entry)) s) ⌝ }
 {
-    let n = count(line, s);
-    let m = count(line, n.scan);
+    let n = count(text, s);
+    let m = count(text, n.scan);
     let bad = refusal(m.scan);
     if bad != 0 {
         return ArmLine::Bad(bad);
@@ -501,11 +487,11 @@ fn arm_line(line: &[u8], s: Scan) -> ArmLine
     }
 }
 
-fn value_line(line: &[u8], s: Scan) -> LabelLine
-    requires { ⌜ Fresh (now line) s ⌝ }
-    ensures { λ r. ⌜ labelLine r ≡ byLetter labelForms 0x51 (rest (now (line .entry)) s) ⌝ }
+fn value_line(text: &[u8], s: Scan) -> LabelLine
+    requires { ⌜ Fresh (now text) s ⌝ }
+    ensures { λ r. ⌜ labelLine r ≡ byLetter labelForms 0x51 (rest (now (text .entry)) s) ⌝ }
 {
-    let k = take_number(line, s, Kind::Value);
+    let k = take_number(text, s, Kind::Value);
     let bad = refusal(k.scan);
     if bad != 0 {
         return LabelLine::Bad(bad);
@@ -513,12 +499,12 @@ fn value_line(line: &[u8], s: Scan) -> LabelLine
     LabelLine::Value(k.n)
 }
 
-fn range_line(line: &[u8], s: Scan) -> LabelLine
-    requires { ⌜ Fresh (now line) s ⌝ }
-    ensures { λ r. ⌜ labelLine r ≡ byLetter labelForms 0x47 (rest (now (line .entry)) s) ⌝ }
+fn range_line(text: &[u8], s: Scan) -> LabelLine
+    requires { ⌜ Fresh (now text) s ⌝ }
+    ensures { λ r. ⌜ labelLine r ≡ byLetter labelForms 0x47 (rest (now (text .entry)) s) ⌝ }
 {
-    let low = take_number(line, s, Kind::Value);
-    let high = take_number(line, low.scan, Kind::Value);
+    let low = take_number(text, s, Kind::Value);
+    let high = take_number(text, low.scan, Kind::Value);
     let bad = refusal(high.scan);
     if bad != 0 {
         return LabelLine::Bad(bad);
@@ -578,11 +564,11 @@ fn short_circuit_op(n: u16) -> ShortCircuitOp
     }
 }
 
-fn const_line(line: &[u8], s: Scan, variables: u16) -> ExprLine
-    requires { ⌜ Fresh (now line) s ⌝ }
-    ensures { λ r. ⌜ exprLine r ≡ byLetter (exprForms variables) 0x4B (rest (now (line .entry)) s) ⌝ }
+fn const_line(text: &[u8], s: Scan, variables: u16) -> ExprLine
+    requires { ⌜ Fresh (now text) s ⌝ }
+    ensures { λ r. ⌜ exprLine r ≡ byLetter (exprForms variables) 0x4B (rest (now (text .entry)) s) ⌝ }
 {
-    let k = take_number(line, s, Kind::Value);
+    let k = take_number(text, s, Kind::Value);
     let bad = refusal(k.scan);
     if bad != 0 {
         return ExprLine::Bad(bad);
@@ -590,11 +576,11 @@ fn const_line(line: &[u8], s: Scan, variables: u16) -> ExprLine
     ExprLine::Const(k.n)
 }
 
-fn bool_line(line: &[u8], s: Scan, variables: u16) -> ExprLine
-    requires { ⌜ Fresh (now line) s ⌝ }
-    ensures { λ r. ⌜ exprLine r ≡ byLetter (exprForms variables) 0x42 (rest (now (line .entry)) s) ⌝ }
+fn bool_line(text: &[u8], s: Scan, variables: u16) -> ExprLine
+    requires { ⌜ Fresh (now text) s ⌝ }
+    ensures { λ r. ⌜ exprLine r ≡ byLetter (exprForms variables) 0x42 (rest (now (text .entry)) s) ⌝ }
 {
-    let k = up_to(line, s, 1);
+    let k = up_to(text, s, 1);
     let bad = refusal(k.scan);
     if bad != 0 {
         return ExprLine::Bad(bad);
@@ -602,11 +588,11 @@ fn bool_line(line: &[u8], s: Scan, variables: u16) -> ExprLine
     ExprLine::Bool(k.n == 1)
 }
 
-fn variable_line(line: &[u8], s: Scan, variables: u16) -> ExprLine
-    requires { ⌜ Fresh (now line) s ⌝ }
-    ensures { λ r. ⌜ exprLine r ≡ byLetter (exprForms variables) 0x44 (rest (now (line .entry)) s) ⌝ }
+fn variable_line(text: &[u8], s: Scan, variables: u16) -> ExprLine
+    requires { ⌜ Fresh (now text) s ⌝ }
+    ensures { λ r. ⌜ exprLine r ≡ byLetter (exprForms variables) 0x44 (rest (now (text .entry)) s) ⌝ }
 {
-    let k = index(line, s, variables);
+    let k = index(text, s, variables);
     let bad = refusal(k.scan);
     if bad != 0 {
         return ExprLine::Bad(bad);
@@ -614,11 +600,11 @@ fn variable_line(line: &[u8], s: Scan, variables: u16) -> ExprLine
     ExprLine::Read(k.n)
 }
 
-fn binary_line(line: &[u8], s: Scan, variables: u16) -> ExprLine
-    requires { ⌜ Fresh (now line) s ⌝ }
-    ensures { λ r. ⌜ exprLine r ≡ byLetter (exprForms variables) 0x4F (rest (now (line .entry)) s) ⌝ }
+fn binary_line(text: &[u8], s: Scan, variables: u16) -> ExprLine
+    requires { ⌜ Fresh (now text) s ⌝ }
+    ensures { λ r. ⌜ exprLine r ≡ byLetter (exprForms variables) 0x4F (rest (now (text .entry)) s) ⌝ }
 {
-    let k = up_to(line, s, 7);
+    let k = up_to(text, s, 7);
     let bad = refusal(k.scan);
     if bad != 0 {
         return ExprLine::Bad(bad);
@@ -626,11 +612,11 @@ fn binary_line(line: &[u8], s: Scan, variables: u16) -> ExprLine
     ExprLine::Binary(binary_op(k.n))
 }
 
-fn unary_line(line: &[u8], s: Scan, variables: u16) -> ExprLine
-    requires { ⌜ Fresh (now line) s ⌝ }
-    ensures { λ r. ⌜ exprLine r ≡ byLetter (exprForms variables) 0x55 (rest (now (line .entry)) s) ⌝ }
+fn unary_line(text: &[u8], s: Scan, variables: u16) -> ExprLine
+    requires { ⌜ Fresh (now text) s ⌝ }
+    ensures { λ r. ⌜ exprLine r ≡ byLetter (exprForms variables) 0x55 (rest (now (text .entry)) s) ⌝ }
 {
-    let k = up_to(line, s, 1);
+    let k = up_to(text, s, 1);
     let bad = refusal(k.scan);
     if bad != 0 {
         return ExprLine::Bad(bad);
@@ -638,11 +624,11 @@ fn unary_line(line: &[u8], s: Scan, variables: u16) -> ExprLine
     ExprLine::Unary(unary_op(k.n))
 }
 
-fn compare_line(line: &[u8], s: Scan, variables: u16) -> ExprLine
-    requires { ⌜ Fresh (now line) s ⌝ }
-    ensures { λ r. ⌜ exprLine r ≡ byLetter (exprForms variables) 0x43 (rest (now (line .entry)) s) ⌝ }
+fn compare_line(text: &[u8], s: Scan, variables: u16) -> ExprLine
+    requires { ⌜ Fresh (now text) s ⌝ }
+    ensures { λ r. ⌜ exprLine r ≡ byLetter (exprForms variables) 0x43 (rest (now (text .entry)) s) ⌝ }
 {
-    let k = up_to(line, s, 5);
+    let k = up_to(text, s, 5);
     let bad = refusal(k.scan);
     if bad != 0 {
         return ExprLine::Bad(bad);
@@ -650,11 +636,11 @@ fn compare_line(line: &[u8], s: Scan, variables: u16) -> ExprLine
     ExprLine::Compare(compare_op(k.n))
 }
 
-fn short_circuit_line(line: &[u8], s: Scan, variables: u16) -> ExprLine
-    requires { ⌜ Fresh (now line) s ⌝ }
-    ensures { λ r. ⌜ exprLine r ≡ byLetter (exprForms variables) 0x48 (rest (now (line .entry)) s) ⌝ }
+fn short_circuit_line(text: &[u8], s: Scan, variables: u16) -> ExprLine
+    requires { ⌜ Fresh (now text) s ⌝ }
+    ensures { λ r. ⌜ exprLine r ≡ byLetter (exprForms variables) 0x48 (rest (now (text .entry)) s) ⌝ }
 {
-    let k = up_to(line, s, 1);
+    let k = up_to(text, s, 1);
     let bad = refusal(k.scan);
     if bad != 0 {
         return ExprLine::Bad(bad);
@@ -664,76 +650,81 @@ fn short_circuit_line(line: &[u8], s: Scan, variables: u16) -> ExprLine
 
 // ---- a line by its letter, whichever it is
 
-fn header_of(line: &[u8]) -> HeaderLine
-    ensures { λ r. ⌜ headerLine r ≡ lineOf headerForms (split comma (now (line .entry))) ⌝ }
+fn header_of(text: &[u8], at: usize) -> HeaderLine
+    requires { ⌜ at < length (now text) ⌝ }
+    ensures { λ r. ⌜ headerLine r ≡ lineOf headerForms (lineFields (now (text .entry)) at) ⌝ }
 {
-    let l = take_letter(line);
+    let l = take_letter(text, at);
     let s = l.scan;
     let b = l.letter;
     match b {
-        b'P' => header_line(line, s),
+        b'P' => header_line(text, s),
         _ => HeaderLine::Bad(BAD_FORM),
     }
 }
 
-fn stmt_of(line: &[u8], variables: u16) -> StmtLine
-    ensures { λ r. ⌜ stmtLine r ≡ lineOf (stmtForms variables) (split comma (now (line .entry))) ⌝ }
+fn stmt_of(text: &[u8], variables: u16, at: usize) -> StmtLine
+    requires { ⌜ at < length (now text) ⌝ }
+    ensures { λ r. ⌜ stmtLine r ≡ lineOf (stmtForms variables) (lineFields (now (text .entry)) at) ⌝ }
 {
-    let l = take_letter(line);
+    let l = take_letter(text, at);
     let s = l.scan;
     let b = l.letter;
     match b {
-        b'A' => assign_line(line, s, variables),
-        b'I' => if_line(line, s, variables),
-        b'S' => case_line(line, s, variables),
-        b'F' => for_line(line, s, variables),
-        b'L' => loop_line(line, s, variables),
-        b'X' => exit_line(line, s, variables),
-        b'N' => continue_line(line, s, variables),
-        b'R' => return_line(line, s, variables),
+        b'A' => assign_line(text, s, variables),
+        b'I' => if_line(text, s, variables),
+        b'S' => case_line(text, s, variables),
+        b'F' => for_line(text, s, variables),
+        b'L' => loop_line(text, s, variables),
+        b'X' => exit_line(text, s, variables),
+        b'N' => continue_line(text, s, variables),
+        b'R' => return_line(text, s, variables),
         _ => StmtLine::Bad(BAD_FORM),
     }
 }
 
-fn expr_of(line: &[u8], variables: u16) -> ExprLine
-    ensures { λ r. ⌜ exprLine r ≡ lineOf (exprForms variables) (split comma (now (line .entry))) ⌝ }
+fn expr_of(text: &[u8], variables: u16, at: usize) -> ExprLine
+    requires { ⌜ at < length (now text) ⌝ }
+    ensures { λ r. ⌜ exprLine r ≡ lineOf (exprForms variables) (lineFields (now (text .entry)) at) ⌝ }
 {
-    let l = take_letter(line);
+    let l = take_letter(text, at);
     let s = l.scan;
     let b = l.letter;
     match b {
-        b'K' => const_line(line, s, variables),
-        b'B' => bool_line(line, s, variables),
-        b'D' => variable_line(line, s, variables),
-        b'O' => binary_line(line, s, variables),
-        b'U' => unary_line(line, s, variables),
-        b'C' => compare_line(line, s, variables),
-        b'H' => short_circuit_line(line, s, variables),
+        b'K' => const_line(text, s, variables),
+        b'B' => bool_line(text, s, variables),
+        b'D' => variable_line(text, s, variables),
+        b'O' => binary_line(text, s, variables),
+        b'U' => unary_line(text, s, variables),
+        b'C' => compare_line(text, s, variables),
+        b'H' => short_circuit_line(text, s, variables),
         _ => ExprLine::Bad(BAD_FORM),
     }
 }
 
-fn arm_of(line: &[u8]) -> ArmLine
-    ensures { λ r. ⌜ armLine r ≡ lineOf armForms (split comma (now (line .entry))) ⌝ }
+fn arm_of(text: &[u8], at: usize) -> ArmLine
+    requires { ⌜ at < length (now text) ⌝ }
+    ensures { λ r. ⌜ armLine r ≡ lineOf armForms (lineFields (now (text .entry)) at) ⌝ }
 {
-    let l = take_letter(line);
+    let l = take_letter(text, at);
     let s = l.scan;
     let b = l.letter;
     match b {
-        b'M' => arm_line(line, s),
+        b'M' => arm_line(text, s),
         _ => ArmLine::Bad(BAD_FORM),
     }
 }
 
-fn label_of(line: &[u8]) -> LabelLine
-    ensures { λ r. ⌜ labelLine r ≡ lineOf labelForms (split comma (now (line .entry))) ⌝ }
+fn label_of(text: &[u8], at: usize) -> LabelLine
+    requires { ⌜ at < length (now text) ⌝ }
+    ensures { λ r. ⌜ labelLine r ≡ lineOf labelForms (lineFields (now (text .entry)) at) ⌝ }
 {
-    let l = take_letter(line);
+    let l = take_letter(text, at);
     let s = l.scan;
     let b = l.letter;
     match b {
-        b'Q' => value_line(line, s),
-        b'G' => range_line(line, s),
+        b'Q' => value_line(text, s),
+        b'G' => range_line(text, s),
         _ => LabelLine::Bad(BAD_FORM),
     }
 }
@@ -750,8 +741,7 @@ pub fn read_header(text: &[u8], left: usize, at: usize) -> HeaderLine
     if left == 0 {
         return HeaderLine::Bad(TOO_DEEP);
     }
-    let end = field::line_end(text, at);
-    header_of(&text[at..end])
+    header_of(text, at)
 }
 
 // A statement's line, in a program of so many variables.
@@ -764,8 +754,7 @@ pub fn read_stmt(text: &[u8], variables: u16, left: usize, at: usize) -> StmtLin
     if left == 0 {
         return StmtLine::Bad(TOO_DEEP);
     }
-    let end = field::line_end(text, at);
-    stmt_of(&text[at..end], variables)
+    stmt_of(text, variables, at)
 }
 
 // An expression's.
@@ -778,8 +767,7 @@ pub fn read_expr(text: &[u8], variables: u16, left: usize, at: usize) -> ExprLin
     if left == 0 {
         return ExprLine::Bad(TOO_DEEP);
     }
-    let end = field::line_end(text, at);
-    expr_of(&text[at..end], variables)
+    expr_of(text, variables, at)
 }
 
 // An arm's.
@@ -792,8 +780,7 @@ pub fn read_arm(text: &[u8], left: usize, at: usize) -> ArmLine
     if left == 0 {
         return ArmLine::Bad(TOO_DEEP);
     }
-    let end = field::line_end(text, at);
-    arm_of(&text[at..end])
+    arm_of(text, at)
 }
 
 // A label's.
@@ -806,6 +793,5 @@ pub fn read_label(text: &[u8], left: usize, at: usize) -> LabelLine
     if left == 0 {
         return LabelLine::Bad(TOO_DEEP);
     }
-    let end = field::line_end(text, at);
-    label_of(&text[at..end])
+    label_of(text, at)
 }

@@ -3,7 +3,8 @@ use Prim.Native.Nat.{_-_}
 use borrow.Author.Tests.{eq-eqb, ne-eqb}
 use lib.Dec.{eqb}
 use lib.ListN.{length}
-use Rattle.field.proofs.Parts.{Finding, finds-start, finds-next, finds-here, finds-end}
+use Rattle.field.specs.View.{Finding}
+use Rattle.field.proofs.Parts.{finds-start, finds-next, finds-here, finds-end}
 use Rattle.field.proofs.part_end.Statement.{statement}
 use Rattle.field.proofs.part_end.Tie as tie
 use borrow.Author.Needs.{needs}

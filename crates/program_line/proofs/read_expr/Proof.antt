@@ -11,9 +11,5 @@ read-expr-spec =
     (tie.spec
     (λ c. line-missing _ _ _ _ (search needs))  -- returns
     (λ c. line-deep _ _ _ _ (search needs) (search needs))  -- returns-2
-    (λ c κs. search needs)  -- line-end-requires
-    (λ c. search needs)  -- sub-expr-of
-    (λ c. search needs)  -- part-expr-of-start
-    (λ c. search needs)  -- part-expr-of-end
     (λ c κs. search needs)  -- expr-of-requires
-    (λ c. c .expr-of .ensures ∙ line-there _ _ _ _ (search needs) (search needs) (c .before .before .line-end .ensures)))  -- returns-3
+    (λ c. c .expr-of .ensures ∙ line-there _ _ _ _ (search needs) (search needs)))  -- returns-3

@@ -11,9 +11,5 @@ read-label-spec =
     (tie.spec
     (λ c. line-missing _ _ _ _ (search needs))  -- returns
     (λ c. line-deep _ _ _ _ (search needs) (search needs))  -- returns-2
-    (λ c κs. search needs)  -- line-end-requires
-    (λ c. search needs)  -- sub-label-of
-    (λ c. search needs)  -- part-label-of-start
-    (λ c. search needs)  -- part-label-of-end
     (λ c κs. search needs)  -- label-of-requires
-    (λ c. c .label-of .ensures ∙ line-there _ _ _ _ (search needs) (search needs) (c .before .before .line-end .ensures)))  -- returns-3
+    (λ c. c .label-of .ensures ∙ line-there _ _ _ _ (search needs) (search needs)))  -- returns-3

@@ -11,9 +11,5 @@ read-stmt-spec =
     (tie.spec
     (λ c. line-missing _ _ _ _ (search needs))  -- returns
     (λ c. line-deep _ _ _ _ (search needs) (search needs))  -- returns-2
-    (λ c κs. search needs)  -- line-end-requires
-    (λ c. search needs)  -- sub-stmt-of
-    (λ c. search needs)  -- part-stmt-of-start
-    (λ c. search needs)  -- part-stmt-of-end
     (λ c κs. search needs)  -- stmt-of-requires
-    (λ c. c .stmt-of .ensures ∙ line-there _ _ _ _ (search needs) (search needs) (c .before .before .line-end .ensures)))  -- returns-3
+    (λ c. c .stmt-of .ensures ∙ line-there _ _ _ _ (search needs) (search needs)))  -- returns-3

@@ -8,8 +8,9 @@ pub take-letter-spec : {M : Type 1} → statement M
 take-letter-spec =
     tie.close
     (tie.spec
-    (λ c κs. search needs)  -- field-end-requires
-    (λ c κs. search needs)  -- behind-requires
-    (λ c. search needs)  -- shared-slice-read-t8
-    (λ c. rw (c .before .before .behind .ensures) (opened-one (c .before .before .before .field-end .ensures) (c .before .if1 .taken)))  -- returns
-    (λ c. rw (c .before .behind .ensures) (opened-none (c .before .before .field-end .ensures) (c .if1 .left))))  -- returns-2
+    (λ c κs. search needs)  -- next-end-requires
+    (λ c κs. c .next-end .ensures .byte)  -- behind-requires
+    (λ c. search needs)  -- add-if1
+    (λ c. search needs)  -- shared-slice-read-t10
+    (λ c. rw (c .before .before .before .behind .ensures) (opened-one (search needs) (c .before .before .before .before .next-end .ensures) (c .before .if1 .taken)))  -- returns
+    (λ c. rw (c .before .before .behind .ensures) (opened-none (search needs) (c .before .before .before .next-end .ensures) (c .if1 .left))))  -- returns-2

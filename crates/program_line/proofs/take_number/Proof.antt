@@ -8,13 +8,9 @@ pub take-number-spec : {M : Type 1} → statement M
 take-number-spec =
     tie.close
     (tie.spec
-    (λ c κs. search needs)  -- field-end-requires
-    (λ c. search needs)  -- sub-read-field
-    (λ c. search needs)  -- part-read-field-start
-    (λ c. search needs)  -- part-read-field-end
-    (λ c κs. search needs)  -- read-field-requires
+    (λ c κs. search needs)  -- next-field-requires
     (λ c κs. search needs)  -- worse-requires
     (λ c κs. search needs)  -- number-in-requires
-    (λ c κs. search needs)  -- behind-requires
-    (λ c. rw (c .before .number-in .ensures, c .behind .ensures, c .before .before .worse .ensures) (took _ (c .before .before .before .before .before .before .before .before .pre) _ (c .before .before .before .before .before .field-end .ensures) (c .before .before .before .before .before .before .if1 .taken) (c .before .before .before .read-field .ensures)))  -- returns
+    (λ c κs. c .before .before .next-field .ensures .stops)  -- behind-requires
+    (λ c. rw (c .before .number-in .ensures, c .behind .ensures, c .before .before .worse .ensures) (took _ (c .before .before .before .before .before .before .pre) _ (c .before .before .before .next-field .ensures) (c .before .before .before .before .if1 .taken)))  -- returns
     (λ c. took-none _ (c .before .before .pre) (c .if1 .left)))  -- returns-2

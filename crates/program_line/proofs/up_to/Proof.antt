@@ -9,5 +9,5 @@ up-to-spec =
     tie.close
     (tie.spec
     (λ c κs. search needs)  -- take-number-requires
-    (λ c. omega (arith, c .before .before .take-number .ensures .bound))  -- cast-t7
+    (λ c. omega (arith, c .before .before .take-number .ensures .bound))  -- cast-t8
     (λ c. c .before .before .take-number .ensures))  -- returns
