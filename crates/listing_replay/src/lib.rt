@@ -1,5 +1,7 @@
 // Replays stored answers for listings (crate replay says how they lie): the number of each case that is answered otherwise, and at the end how many
 // cases there were and how many differ.
+ghost use mathlib.Core.Path.{_≡_};
+ghost use Rattle.replay.specs.Case.{caseCount};
 use text::LISTING_ROOM;
 
 fn is_answered(input: &[u8], expected: &[u8]) -> bool {
@@ -8,7 +10,10 @@ fn is_answered(input: &[u8], expected: &[u8]) -> bool {
     check::same(&out[..n], expected)
 }
 
-pub fn replay_all(input: &[u8]) {
+// How many cases there were is answered; which of them differ is printed.
+pub fn replay_all(input: &[u8]) -> u64
+    ensures { λ r. ⌜ r ≡ caseCount (now (input .entry)) ⌝ }
+{
     let mut at = 0;
     let mut cases = 0u64;
     let mut differ = 0u64;
@@ -22,5 +27,5 @@ pub fn replay_all(input: &[u8]) {
         differ += replay::missed(cases, same);
         at = case.next;
     }
-    replay::total(cases, differ);
+    replay::total(cases, differ)
 }

@@ -2,16 +2,16 @@
 use mathlib.Core.Path.{_≡_, refl, sym, ap, _∙_}
 use mathlib.Core.Bool.{Bool, true, false, _&&_}
 use mathlib.Core.List.{List, [], _∷_}
-use Prim.Native.Nat.{ℕ, suc, _+_, _≤_, _<_, min}
+use Prim.Native.Nat.{ℕ, zero, suc, _+_, _≤_, _<_, min}
 use native.Mathlib.Nat.{add-zero, add-suc}
 use native.Mathlib.Numerals.{add-one}
 use native.Mathlib.Omega.{arith}
-use borrow.Author.Tests.{eq-eqb, ne-eqb}
-use lib.Dec.{eqb}
+use borrow.Author.Tests.{eq-eqb, ne-eqb, lt-ltb, le-ltb}
+use lib.Dec.{eqb, ltb}
 use lib.ListN.{length, getD, drop, length-drop, drop-of-length-le}
 use lib.Seq.{drop-cons}
 use Rattle.replay.specs.declared.Case.{Case}
-use Rattle.replay.specs.Case.{begins, separator, lf, partSize, partEnd, behind, caseAt, missing, Parts}
+use Rattle.replay.specs.Case.{begins, separator, lf, partSize, partEnd, behind, caseAt, casesFrom, caseCount, missing, Parts}
 
 -- ---- whether a text begins with some bytes
 pub begins-short : (ps text : List ℕ) → length text < length ps → false ≡ begins ps text
@@ -124,3 +124,35 @@ pub at-most-one : (same : Bool) {n : ℕ} → n ≡ missing same → n ≤ 1
 unfolding missing
 at-most-one true e = omega (arith, e)
 at-most-one false e = omega (arith, e)
+
+-- ---- the cases of a text
+
+-- so many were met before a place, and at most n start from there on
+pub record Counting (text : List ℕ) (at cases : ℕ) : Type 0 where
+  pub n : ℕ
+  pub enough : length text ≤ at + n
+  pub left : cases + casesFrom n text at ≡ caseCount text
+
+pub count-begins : (text : List ℕ) → Counting text 0 0
+unfolding caseCount
+count-begins text = record { n = length text; enough = omega arith; left = (let z : 0 + casesFrom (length text) text 0 ≡ casesFrom (length text) text 0 = omega arith in z) }
+
+pub count-on : (text : List ℕ) {at cases : ℕ} {c : Case} → Counting text at cases → at < length text → c ≡ caseAt text at → at < c .next → Counting text (c .next) (cases + 1)
+unfolding casesFrom
+count-on text {at} {cases} {c} g h is ahead = go (g .n) (g .enough) (g .left)
+  where
+    go : (n : ℕ) → length text ≤ at + n → cases + casesFrom n text at ≡ caseCount text → Counting text (c .next) (cases + 1)
+    go zero enough left = absurd (omega arith)
+    go (suc n) enough left =
+        let more : casesFrom (suc n) text at ≡ suc (casesFrom n text (c .next)) = rw (casesFrom, lt-ltb at (length text) h, is) in
+        record { n = n; enough = omega (arith, ahead); left = (let l = left in omega (arith, more)) }
+
+pub count-ends : (text : List ℕ) {at cases : ℕ} → Counting text at cases → length text ≤ at → cases ≡ caseCount text
+unfolding casesFrom
+count-ends text {at} {cases} g h = go (g .n) (g .left)
+  where
+    go : (n : ℕ) → cases + casesFrom n text at ≡ caseCount text → cases ≡ caseCount text
+    go zero left = omega arith
+    go (suc n) left =
+        let none : casesFrom (suc n) text at ≡ 0 = rw (casesFrom, le-ltb at (length text) h) in
+        omega (arith, none)

@@ -1,8 +1,8 @@
 -- Stored answers as bytes: where the parts of a case lie, and what a case counts for.
-use Prim.Native.Nat.{ℕ, _+_, _≤_, _<_, min, suc}
+use Prim.Native.Nat.{ℕ, _+_, _≤_, _<_, min, zero, suc}
 use mathlib.Core.Bool.{Bool, true, false, _&&_}
 use mathlib.Core.List.{List, [], _∷_}
-use lib.Dec.{eqb}
+use lib.Dec.{eqb, ltb}
 use lib.ListN.{length, drop}
 use Rattle.replay.specs.declared.Case.{Case}
 
@@ -38,6 +38,15 @@ caseAt text at =
     let answer = behind text end in
     let stop = partEnd text answer in
     record { end = end; answer = answer; stop = stop; next = behind text stop }
+
+-- how many cases start from a place on, of which there are at most n
+unfoldable pub casesFrom : ℕ → List ℕ → ℕ → ℕ
+casesFrom zero text at = 0
+casesFrom (suc n) text at = elim (ltb at (length text)) [ true ↦ suc (casesFrom n text (caseAt text at .next)) | false ↦ 0 ]
+
+-- how many cases a text has: each takes a byte or more
+unfoldable pub caseCount : List ℕ → ℕ
+caseCount text = casesFrom (length text) text 0
 
 -- what a case counts for among those that differ
 unfoldable pub missing : Bool → ℕ

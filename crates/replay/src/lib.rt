@@ -99,8 +99,11 @@ pub fn missed(number: u64, same: bool) -> u64
     1
 }
 
-// How many cases there were, and how many differ.
-pub fn total(cases: u64, differ: u64) {
+// How many cases there were, which is answered too, and how many differ.
+pub fn total(cases: u64, differ: u64) -> u64
+    ensures { λ r. ⌜ r ≡ cases ⌝ }
+{
     print(cases, b',');
     print(differ, b'\n');
+    cases
 }
