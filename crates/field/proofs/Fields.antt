@@ -174,7 +174,7 @@ module _ {text : List ℕ} {at end stop : ℕ} (r : Stops text at end stop) wher
     unfolding Goes
     comma-fields = rw (← behind) (goes (drop at text) (here ∙ c) .0)
 
-    comma-line : lineEnd text at ≡ lineEnd text (end + 1)
+    pub comma-line : lineEnd text at ≡ lineEnd text (end + 1)
     unfolding Goes
     comma-line = omega (arith, r .ends .is, rw behind at (goes (drop at text) (here ∙ c) .1))
 
@@ -183,7 +183,7 @@ module _ {text : List ℕ} {at end stop : ℕ} (r : Stops text at end stop) wher
     unfolding Stays
     last-field = stays (drop at text) (λ e. c (sym here ∙ e)) .0
 
-    last-line : lineEnd text at ≡ end
+    pub last-line : lineEnd text at ≡ end
     unfolding Stays
     last-line = omega (arith, r .ends .is, stays (drop at text) (λ e. c (sym here ∙ e)) .1)
 

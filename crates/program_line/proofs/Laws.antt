@@ -12,17 +12,17 @@ use Rattle.definition.specs.Limits.{maxField, badForm, badRange, tooDeep, wrong
 use Rattle.definition.specs.Field as def
 use Rattle.definition.specs.Field.{comma, firstLine, Field, upTo, below, value, Read, malformed, outside, field, natural, naturalWithin, within, Numbers, wrong, far, are, andThese, numbers}
 use Rattle.definition.specs.Tree.{posNumbers}
-use Rattle.definition.specs.Program.{Form, is, not, made, byLetter, lineOf, lineAt, posFields}
-use Rattle.field.specs.View.{separates, firstField, lineFields, Stops, Reads}
+use Rattle.definition.specs.Program.{Form, Line, is, not, made, byLetter, lineOf, lineAt, posFields}
+use Rattle.field.specs.View.{separates, firstField, lineFields, lineEnd, Stops, Reads}
 use Rattle.field.proofs.Lists.{first-left}
 use Rattle.field.proofs.Parts.{until-first, Some, some-part, split-some}
-use Rattle.field.proofs.Fields.{read-stops, stop-inside, comma-fields, last-field}
+use Rattle.field.proofs.Fields.{read-stops, stop-inside, comma-fields, comma-line, last-field, last-line}
 use Rattle.line_map.specs.declared.Pos.{Pos}
 use Rattle.line_map.specs.View.{posView}
 use Rattle.program_line.specs.declared.Verdict.{Verdict}
 use Rattle.program_line.specs.declared.Verdict.the-variants.{Good, Far, Wrong}
 use Rattle.program_line.specs.declared.Scan.{Scan}
-use Rattle.program_line.specs.Scan.{restFrom, rest, behindIf, behind, farther, worse, numberIn, held, push, pushAll, left, Bounded, Took, TookPos, Fresh, letterOf, behindLetter, Opened, refusalIf, refusalAt}
+use Rattle.program_line.specs.Scan.{restFrom, rest, endFrom, ending, behindIf, behind, farther, worse, numberIn, held, push, pushAll, left, Bounded, Took, TookPos, Fresh, letterOf, behindLetter, Opened, refusalIf, refusalAt, endOf, Found, Faulty}
 
 -- ---- one field
 
@@ -35,6 +35,14 @@ module _ {text : List ℕ} {at end stop : ℕ} (e : Stops text at end stop) (v :
       go : (b : Bool) → eqb stop comma ≡ b → lineFields text at ≡ firstField (drop at text) ∷ restFrom (behindIf b end v .more) (behindIf b end v .at) text
       go true h = comma-fields e (eqb-true _ _ h)
       go false h = last-field e (eqb-false _ _ h)
+
+  line-behind : lineEnd text at ≡ ending text (behind end stop v)
+  unfolding behindIf endFrom
+  line-behind = go (eqb stop comma) refl
+    where
+      go : (b : Bool) → eqb stop comma ≡ b → lineEnd text at ≡ endFrom (behindIf b end v .more) (behindIf b end v .at) text
+      go true h = comma-line e (eqb-true _ _ h)
+      go false h = last-line e (eqb-false _ _ h)
 
   behind-within : at ≤ length text → behind end stop v .at ≤ length text
   unfolding behindIf
@@ -101,22 +109,23 @@ zero-bounded (value w) = tt
 
 module _ {text : List ℕ} {s : Scan} (f : Field) (low : s .at ≤ length text) where
   pub took : {end stop : ℕ} (r : Read) → Reads f text (s .at) r end stop → s .more ≡ true → Took f text s (numberIn r) (behind end stop (worse (s .verdict) r))
-  unfolding restFrom numbers
+  unfolding restFrom endFrom numbers
   took {end} {stop} r e more =
       let v = worse (s .verdict) r in
       record {
         is = λ fs. rw (more, field-and-rest (read-stops e) v, ← e .holds, held-these, behind-verdict end stop v);
         within = behind-within (read-stops e) v low;
         bound = rw (e .holds) (bounded f _);
+        line = rw more (line-behind (read-stops e) v);
       }
 
   pub took-none : s .more ≡ false → Took f text s 0 (record { at = s .at; more = false; verdict = Wrong })
-  unfolding restFrom numbers held push
-  took-none more = record { is = λ fs. rw (more, held-wrong); within = low; bound = zero-bounded f }
+  unfolding restFrom endFrom numbers held push
+  took-none more = record { is = λ fs. rw (more, held-wrong); within = low; bound = zero-bounded f; line = rw more }
 
 pub took-position : {text : List ℕ} {s t u : Scan} {p : Pos} → Took (upTo maxField) text s (p .line) t → Took (upTo maxField) text t (p .column) u → TookPos text s p u
 unfolding posFields posNumbers pushAll
-took-position {p = p} a b = record { is = λ fs. a .is _ ∙ ap (push (p .line)) (b .is fs); within = b .within }
+took-position {p = p} a b = record { is = λ fs. a .is _ ∙ ap (push (p .line)) (b .is fs); within = b .within; line = a .line ∙ b .line }
 
 -- ---- a line
 
@@ -125,23 +134,24 @@ refused wrong = badForm
 refused far = badRange
 refused (are ns) = 0
 
--- a line's numbers from a place on, by their fields, where its refusal is r, 0 if it has none
-pub record Ended (text : List ℕ) (fs : List Field) (s : Scan) (r : ℕ) (ns : List ℕ) : Type 0 where
+-- a line's numbers from a place on, by their fields, and its end, where its refusal is r, 0 if it has none
+pub record Ended (text : List ℕ) (fs : List Field) (s : Scan) (r : ℕ) (ns : List ℕ) (end : ℕ) : Type 0 where
   pub good : r ≡ 0 → left text fs s ≡ are ns
   pub bad : (r ≡ 0 → ⊥) → refused (left text fs s) ≡ r
+  pub line : r ≡ 0 → end ≡ ending text s
 
 numbers-over : {xs : List (List ℕ)} → Some xs → numbers [] xs ≡ wrong
 unfolding numbers
 numbers-over some-part = refl
 
-ended-at : (text : List ℕ) (at : ℕ) (more : Bool) (v : Verdict) → Ended text [] (record { at = at; more = more; verdict = v }) (refusalIf more v) []
-unfolding held numbers restFrom refusalIf refused
-ended-at text at true v = record { good = λ h. absurd (omega arith); bad = λ h. rw (numbers-over (split-some comma (firstLine (drop at text))), held-wrong v) }
-ended-at text at false Good = record { good = λ h. refl; bad = λ h. absurd (h refl) }
-ended-at text at false Far = record { good = λ h. absurd (omega arith); bad = λ h. refl }
-ended-at text at false Wrong = record { good = λ h. absurd (omega arith); bad = λ h. refl }
+ended-at : (text : List ℕ) (at : ℕ) (more : Bool) (v : Verdict) → Ended text [] (record { at = at; more = more; verdict = v }) (refusalIf more v) [] at
+unfolding held numbers restFrom endFrom refusalIf refused
+ended-at text at true v = record { good = λ h. absurd (omega arith); bad = λ h. rw (numbers-over (split-some comma (firstLine (drop at text))), held-wrong v); line = λ h. absurd (omega arith) }
+ended-at text at false Good = record { good = λ h. refl; bad = λ h. absurd (h refl); line = λ h. refl }
+ended-at text at false Far = record { good = λ h. absurd (omega arith); bad = λ h. refl; line = λ h. absurd (omega arith) }
+ended-at text at false Wrong = record { good = λ h. absurd (omega arith); bad = λ h. refl; line = λ h. absurd (omega arith) }
 
-pub ended : {text : List ℕ} {s : Scan} {r : ℕ} → r ≡ refusalAt s → Ended text [] s r []
+pub ended : {text : List ℕ} {s : Scan} {r : ℕ} → r ≡ refusalAt s → Ended text [] s r [] (s .at)
 ended {text} {s} e = rw e (ended-at text (s .at) (s .more) (s .verdict))
 
 refused-push : (n : ℕ) (x : Numbers) → refused (push n x) ≡ refused x
@@ -160,17 +170,21 @@ unfolding pushAll push
 push-all [] ns = refl
 push-all (m ∷ ms) ns = rw (push-all ms ns)
 
-module _ {text : List ℕ} {s t : Scan} {r : ℕ} {fs : List Field} {ns : List ℕ} where
-  pub ended-number : {f : Field} {n : ℕ} → Took f text s n t → Ended text fs t r ns → Ended text (f ∷ fs) s r (n ∷ ns)
+module _ {text : List ℕ} {s t : Scan} {r end : ℕ} {fs : List Field} {ns : List ℕ} where
+  pub ended-number : {f : Field} {n : ℕ} → Took f text s n t → Ended text fs t r ns end → Ended text (f ∷ fs) s r (n ∷ ns) end
   unfolding push
-  ended-number {n = n} a e = record { good = λ h. rw (a .is fs, e .good h); bad = λ h. rw (a .is fs, refused-push) (e .bad h) }
+  ended-number {n = n} a e = record { good = λ h. rw (a .is fs, e .good h); bad = λ h. rw (a .is fs, refused-push) (e .bad h); line = λ h. e .line h ∙ sym (a .line) }
 
-  pub ended-position : {p : Pos} → TookPos text s p t → Ended text fs t r ns → Ended text (posFields ++ fs) s r (posNumbers (posView p) ++ ns)
-  ended-position {p = p} a e = record { good = λ h. rw (a .is fs, e .good h) (push-all (posNumbers (posView p)) ns); bad = λ h. rw (a .is fs, refused-all (posNumbers (posView p))) (e .bad h) }
+  pub ended-position : {p : Pos} → TookPos text s p t → Ended text fs t r ns end → Ended text (posFields ++ fs) s r (posNumbers (posView p) ++ ns) end
+  ended-position {p = p} a e = record { good = λ h. rw (a .is fs, e .good h) (push-all (posNumbers (posView p)) ns); bad = λ h. rw (a .is fs, refused-all (posNumbers (posView p))) (e .bad h); line = λ h. e .line h ∙ sym (a .line) }
 
 -- what a letter makes of the numbers of its fields
 pub record Fits {L : Type 0} (forms : List (Form L)) (letter : ℕ) (fields : List Field) (make : List ℕ → L) : Type 0 where
   pub is : (fs : List (List ℕ)) → byLetter forms letter fs ≡ made make (numbers fields fs)
+
+faulty : {L : Type 0} {line x : Line L} {end n stop : ℕ} → Faulty line end n → not n ≡ x → Found line end x stop
+unfolding endOf
+faulty f e = record { is = f .is ∙ e; ends = rw (f .is) (f .ends) }
 
 made-bad : {L : Type 0} (make : List ℕ → L) (x : Numbers) (r : ℕ) → refused x ≡ r → (r ≡ 0 → ⊥) → not r ≡ made make x
 unfolding made refused
@@ -179,17 +193,17 @@ made-bad make far r e h = rw e
 made-bad make (are ns) r e h = absurd (h (sym e))
 
 module _ {L : Type 0} (forms : List (Form L)) (letter : ℕ) {fields : List Field} {make : List ℕ → L}
-    {text : List ℕ} {s : Scan} (fresh : Fresh text s) {r : ℕ} {ns : List ℕ} (e : Ended text fields s r ns) (fit : Fits forms letter fields make) where
+    {text : List ℕ} {s : Scan} (fresh : Fresh text s) {r end : ℕ} {ns : List ℕ} (e : Ended text fields s r ns end) (fit : Fits forms letter fields make) where
   made-of : made make (left text fields s) ≡ byLetter forms letter (rest text s)
   unfolding held
   made-of = rw (fresh .good) (sym (fit .is _))
 
-  pub bad-line : (r ≡ 0 → ⊥) → not r ≡ byLetter forms letter (rest text s)
-  bad-line h = made-bad make _ r (e .bad h) h ∙ made-of
+  pub bad-line : (r ≡ 0 → ⊥) → {line : Line L} {at : ℕ} → Faulty line at r → Found line at (byLetter forms letter (rest text s)) (ending text s)
+  bad-line h x = faulty x (made-bad make _ r (e .bad h) h ∙ made-of)
 
-  pub good-line : r ≡ 0 → is (make ns) ≡ byLetter forms letter (rest text s)
-  unfolding made
-  good-line h = sym (ap (made make) (e .good h)) ∙ made-of
+  pub good-line : r ≡ 0 → Found (is (make ns)) end (byLetter forms letter (rest text s)) (ending text s)
+  unfolding made endOf
+  good-line h = record { is = sym (ap (made make) (e .good h)) ∙ made-of; ends = e .line h }
 
 -- ---- the text at a place
 
@@ -216,24 +230,27 @@ differ (x ∷ xs) b h fs = rw (byLetter, ne-eqb (x .letter) b (λ e. h .0 (sym e
 
 module _ {L : Type 0} where
   module _ (forms : List (Form L)) (h : Lettered forms) {text : List ℕ} {at b : ℕ} {s : Scan} (o : Opened text at b s) where
-    pub by-letter : (k : ℕ) → b ≡ k → byLetter forms k (rest text s) ≡ lineOf forms (lineFields text at)
-    by-letter k e = rw (← e, o .is, o .others) (sym (line-by h (lineFields text at)))
+    by : (k : ℕ) → b ≡ k → byLetter forms k (rest text s) ≡ lineOf forms (lineFields text at)
+    by k e = rw (← e, o .is, o .others) (sym (line-by h (lineFields text at)))
 
-    pub no-letter : Differ forms b → not badForm ≡ lineOf forms (lineFields text at)
-    no-letter d = sym (differ forms b d (rest text s)) ∙ by-letter b refl
+    pub by-letter : (k : ℕ) → b ≡ k → {line : Line L} {end : ℕ} → Found line end (byLetter forms k (rest text s)) (ending text s) → Found line end (lineOf forms (lineFields text at)) (lineEnd text at)
+    by-letter k e f = record { is = f .is ∙ by k e; ends = rw (o .line) (f .ends) }
 
-  module _ (forms : List (Form L)) (depth : ℕ) (text : List ℕ) (at : ℕ) where
-    pub line-missing : length text ≤ at → not wrongLines ≡ lineAt forms depth text at
+    pub no-letter : Differ forms b → {line : Line L} {end : ℕ} → Faulty line end badForm → Found line end (lineOf forms (lineFields text at)) (lineEnd text at)
+    no-letter d f = faulty f (sym (differ forms b d (rest text s)) ∙ by b refl)
+
+  module _ (forms : List (Form L)) (depth : ℕ) (text : List ℕ) (at : ℕ) {line : Line L} {end stop : ℕ} where
+    pub line-missing : length text ≤ at → Faulty line end wrongLines → Found line end (lineAt forms depth text at) stop
     unfolding lineAt
-    line-missing h = rw (lineAt, le-ltb _ _ h)
+    line-missing h f = faulty f (rw (lineAt, le-ltb _ _ h))
 
-    pub line-deep : at < length text → depth ≡ 0 → not tooDeep ≡ lineAt forms depth text at
+    pub line-deep : at < length text → depth ≡ 0 → Faulty line end tooDeep → Found line end (lineAt forms depth text at) stop
     unfolding lineAt
-    line-deep h z = rw (lineAt, lt-ltb _ _ h, z)
+    line-deep h z f = faulty f (rw (lineAt, lt-ltb _ _ h, z))
 
-    pub line-there : at < length text → (depth ≡ 0 → ⊥) → lineOf forms (lineFields text at) ≡ lineAt forms depth text at
+    pub line-there : at < length text → (depth ≡ 0 → ⊥) → Found line end (lineOf forms (lineFields text at)) stop → Found line end (lineAt forms depth text at) stop
     unfolding lineAt
-    line-there h d = rw (lineAt, lt-ltb _ _ h, ne-eqb _ _ d)
+    line-there h d f = record { is = f .is ∙ rw (lineAt, lt-ltb _ _ h, ne-eqb _ _ d); ends = f .ends }
 
 -- ---- the letter itself
 letter-one : (bs : List ℕ) (fs : List (List ℕ)) → length bs ≡ 1 → getD bs 0 0 ≡ letterOf (bs ∷ fs)
@@ -255,6 +272,7 @@ module _ {text : List ℕ} {at end stop : ℕ} (low : at ≤ length text) (e : S
     is = rw (field-and-rest e Good) h;
     others = rw (field-and-rest e Good);
     fresh = record { good = behind-verdict end stop Good; within = behind-within e Good low };
+    line = line-behind e Good;
   }
 
   pub opened-one : end ≡ at + 1 → Opened text at (getD text at 0) (behind end stop Good)

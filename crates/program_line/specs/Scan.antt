@@ -9,8 +9,8 @@ use Rattle.definition.specs.Limits.{badForm, badRange}
 use Rattle.definition.specs.Field as def
 use Rattle.definition.specs.Field.{comma, Field, Read, malformed, outside, Numbers, wrong, far, are, numbers}
 use Rattle.definition.specs.Tree.{posNumbers}
-use Rattle.definition.specs.Program.{posFields}
-use Rattle.field.specs.View.{lineFields}
+use Rattle.definition.specs.Program.{Line, is, not, posFields}
+use Rattle.field.specs.View.{lineFields, lineEnd}
 use Rattle.line_map.specs.declared.Pos.{Pos}
 use Rattle.line_map.specs.View.{posView}
 use Rattle.program_line.specs.declared.Verdict.{Verdict}
@@ -24,6 +24,14 @@ restFrom false at text = []
 
 abbrev pub rest : List ℕ → Scan → List (List ℕ)
 rest text s = restFrom (s .more) (s .at) text
+
+-- where their line ends
+unfoldable pub endFrom : Bool → ℕ → List ℕ → ℕ
+endFrom true at text = lineEnd text at
+endFrom false at text = at
+
+abbrev pub ending : List ℕ → Scan → ℕ
+ending text s = endFrom (s .more) (s .at) text
 
 unfoldable pub behindIf : Bool → ℕ → Verdict → Scan
 behindIf true end f = record { at = end + 1; more = true; verdict = f }
@@ -82,11 +90,13 @@ pub record Took (f : Field) (text : List ℕ) (s : Scan) (n : ℕ) (t : Scan) : 
   pub is : (fs : List Field) → left text (f ∷ fs) s ≡ push n (left text fs t)
   pub within : t .at ≤ length text
   pub bound : Bounded f n
+  pub line : ending text s ≡ ending text t
 
 -- a position's fields were read
 pub record TookPos (text : List ℕ) (s : Scan) (p : Pos) (t : Scan) : Type 0 where
   pub is : (fs : List Field) → left text (posFields ++ fs) s ≡ pushAll (posNumbers (posView p)) (left text fs t)
   pub within : t .at ≤ length text
+  pub line : ending text s ≡ ending text t
 
 -- the place behind the letter
 pub record Fresh (text : List ℕ) (s : Scan) : Type 0 where
@@ -109,6 +119,7 @@ pub record Opened (text : List ℕ) (at b : ℕ) (s : Scan) : Type 0 where
   pub is : b ≡ letterOf (lineFields text at)
   pub others : rest text s ≡ behindLetter (lineFields text at)
   pub fresh : Fresh text s
+  pub line : lineEnd text at ≡ ending text s
 
 unfoldable pub refusalIf : Bool → Verdict → ℕ
 refusalIf true f = badForm
@@ -119,3 +130,19 @@ refusalIf false Wrong = badForm
 -- the refusal of a line whose fields end here: 0 if there is none
 abbrev pub refusalAt : Scan → ℕ
 refusalAt s = refusalIf (s .more) (s .verdict)
+
+-- ---- what is found
+
+-- where a line ends; 0 if it is at fault
+unfoldable pub endOf : {L : Type 0} → Line L → ℕ → ℕ
+endOf (is l) end = end
+endOf (not n) end = 0
+
+-- the line x, which ends at `stop` unless it is at fault
+pub record Found {L : Type 0} (line : Line L) (end : ℕ) (x : Line L) (stop : ℕ) : Type 0 where
+  pub is : line ≡ x
+  pub ends : end ≡ endOf line stop
+
+pub record Faulty {L : Type 0} (line : Line L) (end n : ℕ) : Type 0 where
+  pub is : line ≡ not n
+  pub ends : end ≡ 0

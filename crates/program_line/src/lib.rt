@@ -7,10 +7,10 @@ ghost use Rattle.definition.specs.Limits.{maxField};
 ghost use Rattle.definition.specs.Field.{upTo, below};
 ghost use Rattle.definition.specs.Opcode.{Add, Arithmetic, binaryOps, Neg, BoolNot, Eq, Ne, Lt, Le, Gt, Ge, AndThen, OrElse};
 ghost use Rattle.definition.specs.Program.{lineAt, lineOf, byLetter, headerForms, stmtForms, exprForms, armForms, labelForms};
-ghost use Rattle.field.specs.View.{kindOf, readOf, lineFields};
+ghost use Rattle.field.specs.View.{kindOf, readOf, lineFields, lineEnd};
 ghost use Rattle.opcode.specs.View.{binaryView, unaryView, compareView, shortCircuitView};
 ghost use Rattle.program_line.specs.View.{headerLine, stmtLine, exprLine, armLine, labelLine};
-ghost use Rattle.program_line.specs.Scan.{rest, behind, worse, numberIn, refusalAt, Opened, Fresh, Took, TookPos};
+ghost use Rattle.program_line.specs.Scan.{rest, ending, behind, worse, numberIn, refusalAt, Opened, Fresh, Took, TookPos, Found, Faulty};
 use definition::BAD_FORM;
 use definition::BAD_RANGE;
 use definition::MAX_FIELD;
@@ -41,6 +41,12 @@ pub enum HeaderLine {
         pos: Pos,
     },
     Bad(u8),
+}
+
+// Where a line ends is 0 if it is at fault.
+pub struct NextHeader {
+    pub line: HeaderLine,
+    pub end: usize,
 }
 
 // Counts are those of statements, but for Case's arms. A step is its two's complement bits.
@@ -86,6 +92,11 @@ pub enum StmtLine {
     Bad(u8),
 }
 
+pub struct NextStmt {
+    pub line: StmtLine,
+    pub end: usize,
+}
+
 // A constant is its two's complement bits.
 pub enum ExprLine {
     Const(u32),
@@ -98,15 +109,30 @@ pub enum ExprLine {
     Bad(u8),
 }
 
+pub struct NextExpr {
+    pub line: ExprLine,
+    pub end: usize,
+}
+
 pub enum ArmLine {
     Arm { labels: u16, statements: u16 },
     Bad(u8),
+}
+
+pub struct NextArm {
+    pub line: ArmLine,
+    pub end: usize,
 }
 
 pub enum LabelLine {
     Value(u32),
     Range(u32, u32),
     Bad(u8),
+}
+
+pub struct NextLabel {
+    pub line: LabelLine,
+    pub end: usize,
 }
 
 // ---- the fields behind a line's letter
@@ -304,85 +330,148 @@ fn refusal(s: Scan) -> u8
     }
 }
 
-// ---- a line by its letter; `s` is the place behind the letter
+// ---- a line that is at fault
 
-fn header_line(text: &[u8], s: Scan) -> HeaderLine
+fn bad_header(n: u8) -> NextHeader
+    ensures { λ r. ⌜ Faulty (headerLine (r .line)) (r .end) n ⌝ }
+{
+    NextHeader {
+        line: HeaderLine::Bad(n),
+        end: 0,
+    }
+}
+
+fn bad_stmt(n: u8) -> NextStmt
+    ensures { λ r. ⌜ Faulty (stmtLine (r .line)) (r .end) n ⌝ }
+{
+    NextStmt {
+        line: StmtLine::Bad(n),
+        end: 0,
+    }
+}
+
+fn bad_expr(n: u8) -> NextExpr
+    ensures { λ r. ⌜ Faulty (exprLine (r .line)) (r .end) n ⌝ }
+{
+    NextExpr {
+        line: ExprLine::Bad(n),
+        end: 0,
+    }
+}
+
+fn bad_arm(n: u8) -> NextArm
+    ensures { λ r. ⌜ Faulty (armLine (r .line)) (r .end) n ⌝ }
+{
+    NextArm {
+        line: ArmLine::Bad(n),
+        end: 0,
+    }
+}
+
+fn bad_label(n: u8) -> NextLabel
+    ensures { λ r. ⌜ Faulty (labelLine (r .line)) (r .end) n ⌝ }
+{
+    NextLabel {
+        line: LabelLine::Bad(n),
+        end: 0,
+    }
+}
+
+// ---- a line by its letter, and where it ends; `s` is the place behind the letter
+
+fn header_line(text: &[u8], s: Scan) -> NextHeader
     requires { ⌜ Fresh (now text) s ⌝ }
-    ensures { λ r. ⌜ headerLine r ≡ byLetter headerForms 0x50 (rest (now (text .entry)) s) ⌝ }
+    ensures { λ r. ⌜ Found (headerLine (r .line)) (r .end) (byLetter headerForms 0x50 (rest (now (text .entry)) s)) (ending (now (text .entry)) s) ⌝ }
 {
     let v = up_to(text, s, VARIABLES);
     let n = count(text, v.scan);
     let p = position(text, n.scan);
     let pos = p.pos;
-    let bad = refusal(p.scan);
+    let last = p.scan;
+    let bad = refusal(last);
     if bad != 0 {
-        return HeaderLine::Bad(bad);
+        return bad_header(bad);
     }
-    HeaderLine::Header {
-        variables: v.n,
-        statements: n.n,
-        pos: pos,
+    NextHeader {
+        line: HeaderLine::Header {
+            variables: v.n,
+            statements: n.n,
+            pos: pos,
+        },
+        end: last.at,
     }
 }
 
-fn assign_line(text: &[u8], s: Scan, variables: u16) -> StmtLine
+fn assign_line(text: &[u8], s: Scan, variables: u16) -> NextStmt
     requires { ⌜ Fresh (now text) s ⌝ }
-    ensures { λ r. ⌜ stmtLine r ≡ byLetter (stmtForms variables) 0x41 (rest (now (text .entry)) s) ⌝ }
+    ensures { λ r. ⌜ Found (stmtLine (r .line)) (r .end) (byLetter (stmtForms variables) 0x41 (rest (now (text .entry)) s)) (ending (now (text .entry)) s) ⌝ }
 {
     let p = position(text, s);
     let pos = p.pos;
     let v = index(text, p.scan, variables);
-    let bad = refusal(v.scan);
+    let last = v.scan;
+    let bad = refusal(last);
     if bad != 0 {
-        return StmtLine::Bad(bad);
+        return bad_stmt(bad);
     }
-    StmtLine::Assign {
-        pos: pos,
-        variable: v.n,
+    NextStmt {
+        line: StmtLine::Assign {
+            pos: pos,
+            variable: v.n,
+        },
+        end: last.at,
     }
 }
 
-fn if_line(text: &[u8], s: Scan, variables: u16) -> StmtLine
+fn if_line(text: &[u8], s: Scan, variables: u16) -> NextStmt
     requires { ⌜ Fresh (now text) s ⌝ }
-    ensures { λ r. ⌜ stmtLine r ≡ byLetter (stmtForms variables) 0x49 (rest (now (text .entry)) s) ⌝ }
+    ensures { λ r. ⌜ Found (stmtLine (r .line)) (r .end) (byLetter (stmtForms variables) 0x49 (rest (now (text .entry)) s)) (ending (now (text .entry)) s) ⌝ }
 {
     let p = position(text, s);
     let pos = p.pos;
     let n = count(text, p.scan);
     let m = count(text, n.scan);
-    let bad = refusal(m.scan);
+    let last = m.scan;
+    let bad = refusal(last);
     if bad != 0 {
-        return StmtLine::Bad(bad);
+        return bad_stmt(bad);
     }
-    StmtLine::If {
-        pos: pos,
-        then: n.n,
-        otherwise: m.n,
+    NextStmt {
+        line: StmtLine::If {
+            pos: pos,
+            then: n.n,
+            otherwise: m.n,
+        },
+        end: last.at,
     }
 }
 
-fn case_line(text: &[u8], s: Scan, variables: u16) -> StmtLine
+fn case_line(text: &[u8], s: Scan, variables: u16) -> NextStmt
     requires { ⌜ Fresh (now text) s ⌝ }
-    ensures { λ r. ⌜ stmtLine r ≡ byLetter (stmtForms variables) 0x53 (rest (now (text .entry)) s) ⌝ }
+    ensures { λ r. ⌜ Found (stmtLine (r .line)) (r .end) (byLetter (stmtForms variables) 0x53 (rest (now (text .entry)) s)) (ending (now (text .entry)) s) ⌝ }
 {
     let p = position(text, s);
     let pos = p.pos;
     let n = count(text, p.scan);
     let m = count(text, n.scan);
-    let bad = refusal(m.scan);
+    let last = m.scan;
+    let bad = refusal(last);
     if bad != 0 {
-        return StmtLine::Bad(bad);
+        return bad_stmt(bad);
     }
-    StmtLine::Case {
-        pos: pos,
-        arms: n.n,
-        otherwise: m.n,
+    NextStmt {
+        line: StmtLine::Case {
+            pos: pos,
+            arms: n.n,
+            otherwise: m.n,
+        },
+        end: last.at,
     }
 }
 
-fn for_line(text: &[u8], s: Scan, variables: u16) -> StmtLine
+fn for_line(text: &[u8], s: Scan, variables: u16) -> NextStmt
     requires { ⌜ Fresh (now text) s ⌝ }
-    ensures { λ r. ⌜ stmtLine r ≡ byLetter (stmtForms variables) 0x46 (rest (now (text .entry)) s) ⌝ }
+    ensures { λ r. ⌜ Found (stmtLine (r .line)) (r .end) (byLetter (stmtForms variables) 0x46 (rest (now (text .entry)) s)) (ending (now (text .entry)) s) ⌝ }
 {
     let p = position(text, s);
     let pos = p.pos;
@@ -390,126 +479,158 @@ fn for_line(text: &[u8], s: Scan, variables: u16) -> StmtLine
     let v = index(text, i.scan, variables);
     let k = take_number(text, v.scan, Kind::Value);
     let n = count(text, k.scan);
-    let bad = refusal(n.scan);
+    let last = n.scan;
+    let bad = refusal(last);
     if bad != 0 {
-        return StmtLine::Bad(bad);
+        return bad_stmt(bad);
     }
-    StmtLine::For {
-        pos: pos,
-        loop_number: i.n,
-        variable: v.n,
-        step: k.n,
-        body: n.n,
+    NextStmt {
+        line: StmtLine::For {
+            pos: pos,
+            loop_number: i.n,
+            variable: v.n,
+            step: k.n,
+            body: n.n,
+        },
+        end: last.at,
     }
 }
 
-fn loop_line(text: &[u8], s: Scan, variables: u16) -> StmtLine
+fn loop_line(text: &[u8], s: Scan, variables: u16) -> NextStmt
     requires { ⌜ Fresh (now text) s ⌝ }
-    ensures { λ r. ⌜ stmtLine r ≡ byLetter (stmtForms variables) 0x4C (rest (now (text .entry)) s) ⌝ }
+    ensures { λ r. ⌜ Found (stmtLine (r .line)) (r .end) (byLetter (stmtForms variables) 0x4C (rest (now (text .entry)) s)) (ending (now (text .entry)) s) ⌝ }
 {
     let p = position(text, s);
     let pos = p.pos;
     let i = count(text, p.scan);
     let n = count(text, i.scan);
     let m = count(text, n.scan);
-    let bad = refusal(m.scan);
+    let last = m.scan;
+    let bad = refusal(last);
     if bad != 0 {
-        return StmtLine::Bad(bad);
+        return bad_stmt(bad);
     }
-    StmtLine::Loop {
-        pos: pos,
-        loop_number: i.n,
-        body: n.n,
-        continuing: m.n,
+    NextStmt {
+        line: StmtLine::Loop {
+            pos: pos,
+            loop_number: i.n,
+            body: n.n,
+            continuing: m.n,
+        },
+        end: last.at,
     }
 }
 
-fn exit_line(text: &[u8], s: Scan, variables: u16) -> StmtLine
+fn exit_line(text: &[u8], s: Scan, variables: u16) -> NextStmt
     requires { ⌜ Fresh (now text) s ⌝ }
-    ensures { λ r. ⌜ stmtLine r ≡ byLetter (stmtForms variables) 0x58 (rest (now (text .entry)) s) ⌝ }
+    ensures { λ r. ⌜ Found (stmtLine (r .line)) (r .end) (byLetter (stmtForms variables) 0x58 (rest (now (text .entry)) s)) (ending (now (text .entry)) s) ⌝ }
 {
     let p = position(text, s);
     let pos = p.pos;
     let i = count(text, p.scan);
-    let bad = refusal(i.scan);
+    let last = i.scan;
+    let bad = refusal(last);
     if bad != 0 {
-        return StmtLine::Bad(bad);
+        return bad_stmt(bad);
     }
-    StmtLine::Exit {
-        pos: pos,
-        loop_number: i.n,
+    NextStmt {
+        line: StmtLine::Exit {
+            pos: pos,
+            loop_number: i.n,
+        },
+        end: last.at,
     }
 }
 
-fn continue_line(text: &[u8], s: Scan, variables: u16) -> StmtLine
+fn continue_line(text: &[u8], s: Scan, variables: u16) -> NextStmt
     requires { ⌜ Fresh (now text) s ⌝ }
-    ensures { λ r. ⌜ stmtLine r ≡ byLetter (stmtForms variables) 0x4E (rest (now (text .entry)) s) ⌝ }
+    ensures { λ r. ⌜ Found (stmtLine (r .line)) (r .end) (byLetter (stmtForms variables) 0x4E (rest (now (text .entry)) s)) (ending (now (text .entry)) s) ⌝ }
 {
     let p = position(text, s);
     let pos = p.pos;
     let i = count(text, p.scan);
-    let bad = refusal(i.scan);
+    let last = i.scan;
+    let bad = refusal(last);
     if bad != 0 {
-        return StmtLine::Bad(bad);
+        return bad_stmt(bad);
     }
-    StmtLine::Continue {
-        pos: pos,
-        loop_number: i.n,
+    NextStmt {
+        line: StmtLine::Continue {
+            pos: pos,
+            loop_number: i.n,
+        },
+        end: last.at,
     }
 }
 
-fn return_line(text: &[u8], s: Scan, variables: u16) -> StmtLine
+fn return_line(text: &[u8], s: Scan, variables: u16) -> NextStmt
     requires { ⌜ Fresh (now text) s ⌝ }
-    ensures { λ r. ⌜ stmtLine r ≡ byLetter (stmtForms variables) 0x52 (rest (now (text .entry)) s) ⌝ }
+    ensures { λ r. ⌜ Found (stmtLine (r .line)) (r .end) (byLetter (stmtForms variables) 0x52 (rest (now (text .entry)) s)) (ending (now (text .entry)) s) ⌝ }
 {
     let p = position(text, s);
     let pos = p.pos;
-    let bad = refusal(p.scan);
+    let last = p.scan;
+    let bad = refusal(last);
     if bad != 0 {
-        return StmtLine::Bad(bad);
+        return bad_stmt(bad);
     }
-    StmtLine::Return { pos: pos }
+    NextStmt {
+        line: StmtLine::Return { pos: pos },
+        end: last.at,
+    }
 }
 
-fn arm_line(text: &[u8], s: Scan) -> ArmLine
+fn arm_line(text: &[u8], s: Scan) -> NextArm
     requires { ⌜ Fresh (now text) s ⌝ }
-    ensures { λ r. ⌜ armLine r ≡ byLetter armForms 0x4D (rest (now (text .entry)) s) ⌝ }
+    ensures { λ r. ⌜ Found (armLine (r .line)) (r .end) (byLetter armForms 0x4D (rest (now (text .entry)) s)) (ending (now (text .entry)) s) ⌝ }
 {
     let n = count(text, s);
     let m = count(text, n.scan);
-    let bad = refusal(m.scan);
+    let last = m.scan;
+    let bad = refusal(last);
     if bad != 0 {
-        return ArmLine::Bad(bad);
+        return bad_arm(bad);
     }
-    ArmLine::Arm {
-        labels: n.n,
-        statements: m.n,
+    NextArm {
+        line: ArmLine::Arm {
+            labels: n.n,
+            statements: m.n,
+        },
+        end: last.at,
     }
 }
 
-fn value_line(text: &[u8], s: Scan) -> LabelLine
+fn value_line(text: &[u8], s: Scan) -> NextLabel
     requires { ⌜ Fresh (now text) s ⌝ }
-    ensures { λ r. ⌜ labelLine r ≡ byLetter labelForms 0x51 (rest (now (text .entry)) s) ⌝ }
+    ensures { λ r. ⌜ Found (labelLine (r .line)) (r .end) (byLetter labelForms 0x51 (rest (now (text .entry)) s)) (ending (now (text .entry)) s) ⌝ }
 {
     let k = take_number(text, s, Kind::Value);
-    let bad = refusal(k.scan);
+    let last = k.scan;
+    let bad = refusal(last);
     if bad != 0 {
-        return LabelLine::Bad(bad);
+        return bad_label(bad);
     }
-    LabelLine::Value(k.n)
+    NextLabel {
+        line: LabelLine::Value(k.n),
+        end: last.at,
+    }
 }
 
-fn range_line(text: &[u8], s: Scan) -> LabelLine
+fn range_line(text: &[u8], s: Scan) -> NextLabel
     requires { ⌜ Fresh (now text) s ⌝ }
-    ensures { λ r. ⌜ labelLine r ≡ byLetter labelForms 0x47 (rest (now (text .entry)) s) ⌝ }
+    ensures { λ r. ⌜ Found (labelLine (r .line)) (r .end) (byLetter labelForms 0x47 (rest (now (text .entry)) s)) (ending (now (text .entry)) s) ⌝ }
 {
     let low = take_number(text, s, Kind::Value);
     let high = take_number(text, low.scan, Kind::Value);
-    let bad = refusal(high.scan);
+    let last = high.scan;
+    let bad = refusal(last);
     if bad != 0 {
-        return LabelLine::Bad(bad);
+        return bad_label(bad);
     }
-    LabelLine::Range(low.n, high.n)
+    NextLabel {
+        line: LabelLine::Range(low.n, high.n),
+        end: last.at,
+    }
 }
 
 // ---- operators by their numbers
@@ -564,108 +685,136 @@ fn short_circuit_op(n: u16) -> ShortCircuitOp
     }
 }
 
-fn const_line(text: &[u8], s: Scan, variables: u16) -> ExprLine
+fn const_line(text: &[u8], s: Scan, variables: u16) -> NextExpr
     requires { ⌜ Fresh (now text) s ⌝ }
-    ensures { λ r. ⌜ exprLine r ≡ byLetter (exprForms variables) 0x4B (rest (now (text .entry)) s) ⌝ }
+    ensures { λ r. ⌜ Found (exprLine (r .line)) (r .end) (byLetter (exprForms variables) 0x4B (rest (now (text .entry)) s)) (ending (now (text .entry)) s) ⌝ }
 {
     let k = take_number(text, s, Kind::Value);
-    let bad = refusal(k.scan);
+    let last = k.scan;
+    let bad = refusal(last);
     if bad != 0 {
-        return ExprLine::Bad(bad);
+        return bad_expr(bad);
     }
-    ExprLine::Const(k.n)
+    NextExpr {
+        line: ExprLine::Const(k.n),
+        end: last.at,
+    }
 }
 
-fn bool_line(text: &[u8], s: Scan, variables: u16) -> ExprLine
+fn bool_line(text: &[u8], s: Scan, variables: u16) -> NextExpr
     requires { ⌜ Fresh (now text) s ⌝ }
-    ensures { λ r. ⌜ exprLine r ≡ byLetter (exprForms variables) 0x42 (rest (now (text .entry)) s) ⌝ }
+    ensures { λ r. ⌜ Found (exprLine (r .line)) (r .end) (byLetter (exprForms variables) 0x42 (rest (now (text .entry)) s)) (ending (now (text .entry)) s) ⌝ }
 {
     let k = up_to(text, s, 1);
-    let bad = refusal(k.scan);
+    let last = k.scan;
+    let bad = refusal(last);
     if bad != 0 {
-        return ExprLine::Bad(bad);
+        return bad_expr(bad);
     }
-    ExprLine::Bool(k.n == 1)
+    NextExpr {
+        line: ExprLine::Bool(k.n == 1),
+        end: last.at,
+    }
 }
 
-fn variable_line(text: &[u8], s: Scan, variables: u16) -> ExprLine
+fn variable_line(text: &[u8], s: Scan, variables: u16) -> NextExpr
     requires { ⌜ Fresh (now text) s ⌝ }
-    ensures { λ r. ⌜ exprLine r ≡ byLetter (exprForms variables) 0x44 (rest (now (text .entry)) s) ⌝ }
+    ensures { λ r. ⌜ Found (exprLine (r .line)) (r .end) (byLetter (exprForms variables) 0x44 (rest (now (text .entry)) s)) (ending (now (text .entry)) s) ⌝ }
 {
     let k = index(text, s, variables);
-    let bad = refusal(k.scan);
+    let last = k.scan;
+    let bad = refusal(last);
     if bad != 0 {
-        return ExprLine::Bad(bad);
+        return bad_expr(bad);
     }
-    ExprLine::Read(k.n)
+    NextExpr {
+        line: ExprLine::Read(k.n),
+        end: last.at,
+    }
 }
 
-fn binary_line(text: &[u8], s: Scan, variables: u16) -> ExprLine
+fn binary_line(text: &[u8], s: Scan, variables: u16) -> NextExpr
     requires { ⌜ Fresh (now text) s ⌝ }
-    ensures { λ r. ⌜ exprLine r ≡ byLetter (exprForms variables) 0x4F (rest (now (text .entry)) s) ⌝ }
+    ensures { λ r. ⌜ Found (exprLine (r .line)) (r .end) (byLetter (exprForms variables) 0x4F (rest (now (text .entry)) s)) (ending (now (text .entry)) s) ⌝ }
 {
     let k = up_to(text, s, 7);
-    let bad = refusal(k.scan);
+    let last = k.scan;
+    let bad = refusal(last);
     if bad != 0 {
-        return ExprLine::Bad(bad);
+        return bad_expr(bad);
     }
-    ExprLine::Binary(binary_op(k.n))
+    NextExpr {
+        line: ExprLine::Binary(binary_op(k.n)),
+        end: last.at,
+    }
 }
 
-fn unary_line(text: &[u8], s: Scan, variables: u16) -> ExprLine
+fn unary_line(text: &[u8], s: Scan, variables: u16) -> NextExpr
     requires { ⌜ Fresh (now text) s ⌝ }
-    ensures { λ r. ⌜ exprLine r ≡ byLetter (exprForms variables) 0x55 (rest (now (text .entry)) s) ⌝ }
+    ensures { λ r. ⌜ Found (exprLine (r .line)) (r .end) (byLetter (exprForms variables) 0x55 (rest (now (text .entry)) s)) (ending (now (text .entry)) s) ⌝ }
 {
     let k = up_to(text, s, 1);
-    let bad = refusal(k.scan);
+    let last = k.scan;
+    let bad = refusal(last);
     if bad != 0 {
-        return ExprLine::Bad(bad);
+        return bad_expr(bad);
     }
-    ExprLine::Unary(unary_op(k.n))
+    NextExpr {
+        line: ExprLine::Unary(unary_op(k.n)),
+        end: last.at,
+    }
 }
 
-fn compare_line(text: &[u8], s: Scan, variables: u16) -> ExprLine
+fn compare_line(text: &[u8], s: Scan, variables: u16) -> NextExpr
     requires { ⌜ Fresh (now text) s ⌝ }
-    ensures { λ r. ⌜ exprLine r ≡ byLetter (exprForms variables) 0x43 (rest (now (text .entry)) s) ⌝ }
+    ensures { λ r. ⌜ Found (exprLine (r .line)) (r .end) (byLetter (exprForms variables) 0x43 (rest (now (text .entry)) s)) (ending (now (text .entry)) s) ⌝ }
 {
     let k = up_to(text, s, 5);
-    let bad = refusal(k.scan);
+    let last = k.scan;
+    let bad = refusal(last);
     if bad != 0 {
-        return ExprLine::Bad(bad);
+        return bad_expr(bad);
     }
-    ExprLine::Compare(compare_op(k.n))
+    NextExpr {
+        line: ExprLine::Compare(compare_op(k.n)),
+        end: last.at,
+    }
 }
 
-fn short_circuit_line(text: &[u8], s: Scan, variables: u16) -> ExprLine
+fn short_circuit_line(text: &[u8], s: Scan, variables: u16) -> NextExpr
     requires { ⌜ Fresh (now text) s ⌝ }
-    ensures { λ r. ⌜ exprLine r ≡ byLetter (exprForms variables) 0x48 (rest (now (text .entry)) s) ⌝ }
+    ensures { λ r. ⌜ Found (exprLine (r .line)) (r .end) (byLetter (exprForms variables) 0x48 (rest (now (text .entry)) s)) (ending (now (text .entry)) s) ⌝ }
 {
     let k = up_to(text, s, 1);
-    let bad = refusal(k.scan);
+    let last = k.scan;
+    let bad = refusal(last);
     if bad != 0 {
-        return ExprLine::Bad(bad);
+        return bad_expr(bad);
     }
-    ExprLine::ShortCircuit(short_circuit_op(k.n))
+    NextExpr {
+        line: ExprLine::ShortCircuit(short_circuit_op(k.n)),
+        end: last.at,
+    }
 }
 
 // ---- a line by its letter, whichever it is
 
-fn header_of(text: &[u8], at: usize) -> HeaderLine
+fn header_of(text: &[u8], at: usize) -> NextHeader
     requires { ⌜ at < length (now text) ⌝ }
-    ensures { λ r. ⌜ headerLine r ≡ lineOf headerForms (lineFields (now (text .entry)) at) ⌝ }
+    ensures { λ r. ⌜ Found (headerLine (r .line)) (r .end) (lineOf headerForms (lineFields (now (text .entry)) at)) (lineEnd (now (text .entry)) at) ⌝ }
 {
     let l = take_letter(text, at);
     let s = l.scan;
     let b = l.letter;
     match b {
         b'P' => header_line(text, s),
-        _ => HeaderLine::Bad(BAD_FORM),
+        _ => bad_header(BAD_FORM),
     }
 }
 
-fn stmt_of(text: &[u8], variables: u16, at: usize) -> StmtLine
+fn stmt_of(text: &[u8], variables: u16, at: usize) -> NextStmt
     requires { ⌜ at < length (now text) ⌝ }
-    ensures { λ r. ⌜ stmtLine r ≡ lineOf (stmtForms variables) (lineFields (now (text .entry)) at) ⌝ }
+    ensures { λ r. ⌜ Found (stmtLine (r .line)) (r .end) (lineOf (stmtForms variables) (lineFields (now (text .entry)) at)) (lineEnd (now (text .entry)) at) ⌝ }
 {
     let l = take_letter(text, at);
     let s = l.scan;
@@ -679,13 +828,13 @@ fn stmt_of(text: &[u8], variables: u16, at: usize) -> StmtLine
         b'X' => exit_line(text, s, variables),
         b'N' => continue_line(text, s, variables),
         b'R' => return_line(text, s, variables),
-        _ => StmtLine::Bad(BAD_FORM),
+        _ => bad_stmt(BAD_FORM),
     }
 }
 
-fn expr_of(text: &[u8], variables: u16, at: usize) -> ExprLine
+fn expr_of(text: &[u8], variables: u16, at: usize) -> NextExpr
     requires { ⌜ at < length (now text) ⌝ }
-    ensures { λ r. ⌜ exprLine r ≡ lineOf (exprForms variables) (lineFields (now (text .entry)) at) ⌝ }
+    ensures { λ r. ⌜ Found (exprLine (r .line)) (r .end) (lineOf (exprForms variables) (lineFields (now (text .entry)) at)) (lineEnd (now (text .entry)) at) ⌝ }
 {
     let l = take_letter(text, at);
     let s = l.scan;
@@ -698,26 +847,26 @@ fn expr_of(text: &[u8], variables: u16, at: usize) -> ExprLine
         b'U' => unary_line(text, s, variables),
         b'C' => compare_line(text, s, variables),
         b'H' => short_circuit_line(text, s, variables),
-        _ => ExprLine::Bad(BAD_FORM),
+        _ => bad_expr(BAD_FORM),
     }
 }
 
-fn arm_of(text: &[u8], at: usize) -> ArmLine
+fn arm_of(text: &[u8], at: usize) -> NextArm
     requires { ⌜ at < length (now text) ⌝ }
-    ensures { λ r. ⌜ armLine r ≡ lineOf armForms (lineFields (now (text .entry)) at) ⌝ }
+    ensures { λ r. ⌜ Found (armLine (r .line)) (r .end) (lineOf armForms (lineFields (now (text .entry)) at)) (lineEnd (now (text .entry)) at) ⌝ }
 {
     let l = take_letter(text, at);
     let s = l.scan;
     let b = l.letter;
     match b {
         b'M' => arm_line(text, s),
-        _ => ArmLine::Bad(BAD_FORM),
+        _ => bad_arm(BAD_FORM),
     }
 }
 
-fn label_of(text: &[u8], at: usize) -> LabelLine
+fn label_of(text: &[u8], at: usize) -> NextLabel
     requires { ⌜ at < length (now text) ⌝ }
-    ensures { λ r. ⌜ labelLine r ≡ lineOf labelForms (lineFields (now (text .entry)) at) ⌝ }
+    ensures { λ r. ⌜ Found (labelLine (r .line)) (r .end) (lineOf labelForms (lineFields (now (text .entry)) at)) (lineEnd (now (text .entry)) at) ⌝ }
 {
     let l = take_letter(text, at);
     let s = l.scan;
@@ -725,73 +874,73 @@ fn label_of(text: &[u8], at: usize) -> LabelLine
     match b {
         b'Q' => value_line(text, s),
         b'G' => range_line(text, s),
-        _ => LabelLine::Bad(BAD_FORM),
+        _ => bad_label(BAD_FORM),
     }
 }
 
 // ---- the line at a place, with so many nesting levels left; 6 and 5 come before what it holds
 
 // The header.
-pub fn read_header(text: &[u8], left: usize, at: usize) -> HeaderLine
-    ensures { λ r. ⌜ headerLine r ≡ lineAt headerForms left (now (text .entry)) at ⌝ }
+pub fn next_header(text: &[u8], left: usize, at: usize) -> NextHeader
+    ensures { λ r. ⌜ Found (headerLine (r .line)) (r .end) (lineAt headerForms left (now (text .entry)) at) (lineEnd (now (text .entry)) at) ⌝ }
 {
     if at >= text.len() {
-        return HeaderLine::Bad(WRONG_LINES);
+        return bad_header(WRONG_LINES);
     }
     if left == 0 {
-        return HeaderLine::Bad(TOO_DEEP);
+        return bad_header(TOO_DEEP);
     }
     header_of(text, at)
 }
 
 // A statement's line, in a program of so many variables.
-pub fn read_stmt(text: &[u8], variables: u16, left: usize, at: usize) -> StmtLine
-    ensures { λ r. ⌜ stmtLine r ≡ lineAt (stmtForms variables) left (now (text .entry)) at ⌝ }
+pub fn next_stmt(text: &[u8], variables: u16, left: usize, at: usize) -> NextStmt
+    ensures { λ r. ⌜ Found (stmtLine (r .line)) (r .end) (lineAt (stmtForms variables) left (now (text .entry)) at) (lineEnd (now (text .entry)) at) ⌝ }
 {
     if at >= text.len() {
-        return StmtLine::Bad(WRONG_LINES);
+        return bad_stmt(WRONG_LINES);
     }
     if left == 0 {
-        return StmtLine::Bad(TOO_DEEP);
+        return bad_stmt(TOO_DEEP);
     }
     stmt_of(text, variables, at)
 }
 
 // An expression's.
-pub fn read_expr(text: &[u8], variables: u16, left: usize, at: usize) -> ExprLine
-    ensures { λ r. ⌜ exprLine r ≡ lineAt (exprForms variables) left (now (text .entry)) at ⌝ }
+pub fn next_expr(text: &[u8], variables: u16, left: usize, at: usize) -> NextExpr
+    ensures { λ r. ⌜ Found (exprLine (r .line)) (r .end) (lineAt (exprForms variables) left (now (text .entry)) at) (lineEnd (now (text .entry)) at) ⌝ }
 {
     if at >= text.len() {
-        return ExprLine::Bad(WRONG_LINES);
+        return bad_expr(WRONG_LINES);
     }
     if left == 0 {
-        return ExprLine::Bad(TOO_DEEP);
+        return bad_expr(TOO_DEEP);
     }
     expr_of(text, variables, at)
 }
 
 // An arm's.
-pub fn read_arm(text: &[u8], left: usize, at: usize) -> ArmLine
-    ensures { λ r. ⌜ armLine r ≡ lineAt armForms left (now (text .entry)) at ⌝ }
+pub fn next_arm(text: &[u8], left: usize, at: usize) -> NextArm
+    ensures { λ r. ⌜ Found (armLine (r .line)) (r .end) (lineAt armForms left (now (text .entry)) at) (lineEnd (now (text .entry)) at) ⌝ }
 {
     if at >= text.len() {
-        return ArmLine::Bad(WRONG_LINES);
+        return bad_arm(WRONG_LINES);
     }
     if left == 0 {
-        return ArmLine::Bad(TOO_DEEP);
+        return bad_arm(TOO_DEEP);
     }
     arm_of(text, at)
 }
 
 // A label's.
-pub fn read_label(text: &[u8], left: usize, at: usize) -> LabelLine
-    ensures { λ r. ⌜ labelLine r ≡ lineAt labelForms left (now (text .entry)) at ⌝ }
+pub fn next_label(text: &[u8], left: usize, at: usize) -> NextLabel
+    ensures { λ r. ⌜ Found (labelLine (r .line)) (r .end) (lineAt labelForms left (now (text .entry)) at) (lineEnd (now (text .entry)) at) ⌝ }
 {
     if at >= text.len() {
-        return LabelLine::Bad(WRONG_LINES);
+        return bad_label(WRONG_LINES);
     }
     if left == 0 {
-        return LabelLine::Bad(TOO_DEEP);
+        return bad_label(TOO_DEEP);
     }
     label_of(text, at)
 }

@@ -8,11 +8,11 @@ use Rattle.program_line.proofs.arm_of.Tie as tie
 
 returns : tie.Need-returns
 unfolding open-Program
-returns c = c .arm-line .ensures ∙ by-letter armForms (record { none = λ fs. refl }) (c .before .before .before .take-letter .ensures) 0x4D (search needs)
+returns c = by-letter armForms (record { none = λ fs. refl }) (c .before .before .before .take-letter .ensures) 0x4D (search needs) (c .arm-line .ensures)
 
 returns-2 : tie.Need-returns-2
 unfolding open-Program
-returns-2 c = no-letter armForms (record { none = λ fs. refl }) (c .before .before .take-letter .ensures) (search needs, tt)
+returns-2 c = no-letter armForms (record { none = λ fs. refl }) (c .before .before .before .take-letter .ensures) (search needs, tt) (c .bad-arm .ensures)
 
 pub arm-of-spec : {M : Type 1} → statement M
 arm-of-spec =
@@ -20,5 +20,6 @@ arm-of-spec =
     (tie.spec
     (λ c κs. search needs)  -- take-letter-requires
     (λ c κs. search needs)  -- arm-line-requires
+    (λ c κs. search needs)  -- bad-arm-requires
     returns
     returns-2)

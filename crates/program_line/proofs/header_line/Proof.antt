@@ -8,11 +8,11 @@ use Rattle.program_line.proofs.header_line.Tie as tie
 
 returns : tie.Need-returns
 unfolding open-Program
-returns c = bad-line headerForms 0x50 (c .before .before .before .before .before .before .before .pre) (ended-number (c .before .before .before .before .before .up-to .ensures) (ended-number (c .before .before .before .before .count .ensures) (ended-position (c .before .before .before .position .ensures) (ended (c .before .refusal .ensures))))) (record { is = λ fs. refl }) (c .if1 .taken)
+returns c = bad-line headerForms 0x50 (c .before .before .before .before .before .before .before .before .before .pre) (ended-number (c .before .before .before .before .before .before .before .up-to .ensures) (ended-number (c .before .before .before .before .before .before .count .ensures) (ended-position (c .before .before .before .before .before .position .ensures) (ended (c .before .before .refusal .ensures))))) (record { is = λ fs. refl }) (c .before .if1 .taken) (c .bad-header .ensures)
 
 returns-2 : tie.Need-returns-2
 unfolding open-Program
-returns-2 c = good-line headerForms 0x50 (c .before .before .before .before .before .before .before .pre) (ended-number (c .before .before .before .before .before .up-to .ensures) (ended-number (c .before .before .before .before .count .ensures) (ended-position (c .before .before .before .position .ensures) (ended (c .before .refusal .ensures))))) (record { is = λ fs. refl }) (c .if1 .left)
+returns-2 c = good-line headerForms 0x50 (c .before .before .before .before .before .before .before .before .pre) (ended-number (c .before .before .before .before .before .before .up-to .ensures) (ended-number (c .before .before .before .before .before .count .ensures) (ended-position (c .before .before .before .before .position .ensures) (ended (c .before .refusal .ensures))))) (record { is = λ fs. refl }) (c .if1 .left)
 
 pub header-line-spec : {M : Type 1} → statement M
 header-line-spec =
@@ -22,5 +22,6 @@ header-line-spec =
     (λ c κs. search needs)  -- count-requires
     (λ c κs. search needs)  -- position-requires
     (λ c κs. search needs)  -- refusal-requires
+    (λ c κs. search needs)  -- bad-header-requires
     returns
     returns-2)

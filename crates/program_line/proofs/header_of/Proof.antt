@@ -8,11 +8,11 @@ use Rattle.program_line.proofs.header_of.Tie as tie
 
 returns : tie.Need-returns
 unfolding open-Program
-returns c = c .header-line .ensures ∙ by-letter headerForms (record { none = λ fs. refl }) (c .before .before .before .take-letter .ensures) 0x50 (search needs)
+returns c = by-letter headerForms (record { none = λ fs. refl }) (c .before .before .before .take-letter .ensures) 0x50 (search needs) (c .header-line .ensures)
 
 returns-2 : tie.Need-returns-2
 unfolding open-Program
-returns-2 c = no-letter headerForms (record { none = λ fs. refl }) (c .before .before .take-letter .ensures) (search needs, tt)
+returns-2 c = no-letter headerForms (record { none = λ fs. refl }) (c .before .before .before .take-letter .ensures) (search needs, tt) (c .bad-header .ensures)
 
 pub header-of-spec : {M : Type 1} → statement M
 header-of-spec =
@@ -20,5 +20,6 @@ header-of-spec =
     (tie.spec
     (λ c κs. search needs)  -- take-letter-requires
     (λ c κs. search needs)  -- header-line-requires
+    (λ c κs. search needs)  -- bad-header-requires
     returns
     returns-2)

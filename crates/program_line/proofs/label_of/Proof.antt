@@ -8,15 +8,15 @@ use Rattle.program_line.proofs.label_of.Tie as tie
 
 returns : tie.Need-returns
 unfolding open-Program
-returns c = c .value-line .ensures ∙ by-letter labelForms (record { none = λ fs. refl }) (c .before .before .before .take-letter .ensures) 0x51 (search needs)
+returns c = by-letter labelForms (record { none = λ fs. refl }) (c .before .before .before .take-letter .ensures) 0x51 (search needs) (c .value-line .ensures)
 
 returns-2 : tie.Need-returns-2
 unfolding open-Program
-returns-2 c = c .range-line .ensures ∙ by-letter labelForms (record { none = λ fs. refl }) (c .before .before .before .take-letter .ensures) 0x47 (search needs)
+returns-2 c = by-letter labelForms (record { none = λ fs. refl }) (c .before .before .before .take-letter .ensures) 0x47 (search needs) (c .range-line .ensures)
 
 returns-3 : tie.Need-returns-3
 unfolding open-Program
-returns-3 c = no-letter labelForms (record { none = λ fs. refl }) (c .before .before .take-letter .ensures) (search needs, (search needs, tt))
+returns-3 c = no-letter labelForms (record { none = λ fs. refl }) (c .before .before .before .take-letter .ensures) (search needs, (search needs, tt)) (c .bad-label .ensures)
 
 pub label-of-spec : {M : Type 1} → statement M
 label-of-spec =
@@ -25,6 +25,7 @@ label-of-spec =
     (λ c κs. search needs)  -- take-letter-requires
     (λ c κs. search needs)  -- value-line-requires
     (λ c κs. search needs)  -- range-line-requires
+    (λ c κs. search needs)  -- bad-label-requires
     returns
     returns-2
     returns-3)
