@@ -18,6 +18,8 @@ use Rattle.definition.specs.Program.{Form, Line, is, not, lineOf, lineAt, refus
 use Rattle.field.specs.View.{Ends}
 use Rattle.field.proofs.Results.{never}
 use Rattle.field.proofs.Refusals.{LineTold, anything, at-told}
+use Rattle.program_line.specs.Scan.{Found}
+use Rattle.program_line.proofs.Laws.{good-end}
 use Rattle.program.specs.declared.Cursor.{Cursor}
 use Rattle.program.specs.declared.Walk.{Walk}
 use Rattle.program.specs.declared.Parts.{Parts}
@@ -383,6 +385,20 @@ module _ {n : ℕ} {f : def.Cursor → Res def.Cursor} {text : List ℕ} {w₀ w
   breaks h = record { near = g .near; did = stays-refused (g .near) (many more f) h .did ∙ g .left; lines = g .lines }
 
 -- ---- over a line
+
+-- where a line ends whose refusal is 0
+module _ (v left : ℕ) (text : List ℕ) (at : ℕ) {end stop : ℕ} where
+  line-end : {L : Type 0} (forms : List (Form L)) (refusal : Line L → ℕ) → ((n : ℕ) → refusal (not n) ≡ n) → (x : Line L) → Found x end (lineAt forms left text at) stop → refusal x ≡ 0 → end ≡ stop
+  line-end forms refusal h (is l) f z = good-end l f refl
+  line-end forms refusal h (not n) f z = absurd (line-some forms left text at n (sym (f .is)) (sym (h n) ∙ z))
+
+  pub expr-end : (p : Operands) (x : Line ExprLine) → p ≡ operandsOf x → Found x end (lineAt (exprForms v) left text at) stop → p .bad ≡ 0 → end ≡ stop
+  unfolding operandsOf
+  expr-end p x e f z = line-end (exprForms v) (λ y. operandsOf y .bad) (λ n. refl) x f (rw (← e) z)
+
+  pub stmt-end : (p : Parts) (x : Line StmtLine) → p ≡ partsOf x → Found x end (lineAt (stmtForms v) left text at) stop → p .bad ≡ 0 → end ≡ stop
+  unfolding partsOf
+  stmt-end p x e f z = line-end (stmtForms v) (λ y. partsOf y .bad) (λ n. refl) x f (rw (← e) z)
 
 pub next-is : {text : List ℕ} {c : Cursor} {end : ℕ} → Ends firstLine text (c .at) end → Near text (c .at) (c .row) → c .at < length text
     → Skipped text (nextLine text (cursorOf c)) (record { at = end + 1; row = c .row + 1 })

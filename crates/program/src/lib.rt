@@ -4,6 +4,7 @@ ghost use Prim.Native.Nat.{_<_};
 ghost use lib.ListN.{length};
 ghost use Rattle.definition.specs.Limits.{maxNesting};
 ghost use Rattle.definition.specs.Program.{nextLine};
+ghost use Rattle.field.specs.View.{lineEnd};
 ghost use Rattle.line_map.specs.View.{posView};
 ghost use Rattle.program_line.specs.View.{stmtLine, exprLine};
 ghost use Rattle.program.specs.Walk.{cursorOf, Near, Skipped, Walked, many, overExpr, overStmt, overLabel, overArm, partsOf, operandsOf, blocks, failed, Passed};
@@ -152,24 +153,24 @@ fn fail(w: Walk, heed: bool, n: u8) -> Walk
     w
 }
 
-// The place of the next line, where there is one here.
-pub fn next_line(text: &[u8], c: Cursor) -> Cursor
+// The place of the next line, where there is one here, which ends at `end`.
+pub fn next_line(text: &[u8], c: Cursor, end: usize) -> Cursor
     requires { ⌜ Near (now text) (c .at) (c .row) ⌝ }
     requires { ⌜ c .at < length (now text) ⌝ }
+    requires { ⌜ end ≡ lineEnd (now text) (c .at) ⌝ }
     ensures { λ r. ⌜ Skipped (now (text .entry)) (nextLine (now (text .entry)) (cursorOf c)) r ⌝ }
 {
-    let at = c.at;
-    let end = field::line_end(text, at);
     Cursor {
         at: end + 1,
         row: c.row + 1,
     }
 }
 
-// Over a line that is there.
-fn pass_line(text: &[u8], w: Walk) -> Walk
+// Over a line that is there, and ends at `end`.
+fn pass_line(text: &[u8], w: Walk, end: usize) -> Walk
     requires { ⌜ Near (now text) (w .at) (w .row) ⌝ }
     requires { ⌜ w .at < length (now text) ⌝ }
+    requires { ⌜ end ≡ lineEnd (now text) (w .at) ⌝ }
     ensures { λ r. ⌜ Passed (now (text .entry)) w r ⌝ }
 {
     let c = next_line(
@@ -178,6 +179,7 @@ fn pass_line(text: &[u8], w: Walk) -> Walk
             at: w.at,
             row: w.row,
         },
+        end,
     );
     Walk {
         at: c.at,
@@ -212,12 +214,14 @@ pub fn walk_expr(text: &[u8], variables: u16, heed: bool, left: usize, w: Walk) 
         return w;
     }
     let at = w.at;
-    let p = operands_of(program_line::read_expr(text, variables, left, at));
+    let r = program_line::next_expr(text, variables, left, at);
+    let line = r.line;
+    let p = operands_of(line);
     if p.bad != 0 {
         return fail(w, heed, p.bad);
     }
     let count = p.count;
-    let next = pass_line(text, w);
+    let next = pass_line(text, w, r.end);
     walk_exprs(text, variables, heed, left - 1, count, next)
 }
 
@@ -230,11 +234,12 @@ fn walk_label(text: &[u8], heed: bool, left: usize, w: Walk) -> Walk
         return w;
     }
     let at = w.at;
-    let line = program_line::read_label(text, left, at);
+    let r = program_line::next_label(text, left, at);
+    let line = r.line;
     match line {
         LabelLine::Bad(n) => fail(w, heed, n),
-        LabelLine::Value(_) => pass_line(text, w),
-        LabelLine::Range(_, _) => pass_line(text, w),
+        LabelLine::Value(_) => pass_line(text, w, r.end),
+        LabelLine::Range(_, _) => pass_line(text, w, r.end),
     }
 }
 
@@ -390,11 +395,12 @@ fn walk_arm(text: &[u8], ends: &mut [u16], variables: u16, heed: bool, left: usi
         return w;
     }
     let at = w.at;
-    let line = program_line::read_arm(text, left, at);
+    let r = program_line::next_arm(text, left, at);
+    let line = r.line;
     match line {
         ArmLine::Bad(n) => fail(w, heed, n),
         ArmLine::Arm { labels, statements } => {
-            let next = pass_line(text, w);
+            let next = pass_line(text, w, r.end);
             let a = walk_labels(text, heed, left, labels as usize, next);
             walk_stmts(text, ends, variables, heed, left, statements as usize, a)
         }
@@ -446,11 +452,13 @@ fn walk_stmt(
         return w;
     }
     let at = w.at;
-    let p = parts_of(program_line::read_stmt(text, variables, left, at));
+    let r = program_line::next_stmt(text, variables, left, at);
+    let line = r.line;
+    let p = parts_of(line);
     if p.bad != 0 {
         return fail(w, heed, p.bad);
     }
-    let next = pass_line(text, w);
+    let next = pass_line(text, w, r.end);
     let l = left - 1;
     let a = walk_exprs(text, variables, heed, l, p.exprs, next);
     let b = walk_arms(text, ends, variables, heed, l, p.arms, a);
@@ -459,9 +467,10 @@ fn walk_stmt(
     walk_stmts(text, ends, variables, heed, l, p.second, c)
 }
 
-// The lines behind an accepted header, the top statements at nesting level 1.
-fn check_body(text: &[u8], variables: u16, statements: u16, pos: Pos) -> Checked
+// The lines behind an accepted header, which ends at `end`; the top statements at nesting level 1.
+fn check_body(text: &[u8], variables: u16, statements: u16, pos: Pos, end: usize) -> Checked
     requires { ⌜ Headed (now text) variables statements (posView pos) ⌝ }
+    requires { ⌜ end ≡ lineEnd (now text) 0 ⌝ }
     ensures { λ r. ⌜ checkedView r ≡ checked (now (text .entry)) ⌝ }
 {
     let first = Walk {
@@ -469,7 +478,7 @@ fn check_body(text: &[u8], variables: u16, statements: u16, pos: Pos) -> Checked
         row: 1,
         refused: 0,
     };
-    let top = pass_line(text, first);
+    let top = pass_line(text, first, end);
     let next = top.at;
     let mut ends = [0u16; ENDS_SIZE];
     let n = statements as usize;
@@ -517,7 +526,8 @@ pub fn check_program(text: &[u8]) -> Checked
             place: 0,
         };
     }
-    let line = program_line::read_header(text, MAX_NESTING, 0);
+    let r = program_line::next_header(text, MAX_NESTING, 0);
+    let line = r.line;
     match line {
         HeaderLine::Bad(b) => Checked::Refused {
             number: b,
@@ -527,6 +537,6 @@ pub fn check_program(text: &[u8]) -> Checked
             variables,
             statements,
             pos,
-        } => check_body(text, variables, statements, pos),
+        } => check_body(text, variables, statements, pos, r.end),
     }
 }

@@ -186,6 +186,11 @@ faulty : {L : Type 0} {line x : Line L} {end n stop : ℕ} → Faulty line end n
 unfolding endOf
 faulty f e = record { is = f .is ∙ e; ends = rw (f .is) (f .ends) }
 
+-- where a line that is not at fault ends
+pub good-end : {L : Type 0} {line x : Line L} {end stop : ℕ} (l : L) → Found line end x stop → line ≡ is l → end ≡ stop
+unfolding endOf
+good-end l f e = f .ends ∙ rw e
+
 made-bad : {L : Type 0} (make : List ℕ → L) (x : Numbers) (r : ℕ) → refused x ≡ r → (r ≡ 0 → ⊥) → not r ≡ made make x
 unfolding made refused
 made-bad make wrong r e h = rw e

@@ -4,10 +4,11 @@ use Prim.Native.Nat.{_+_, _*_, ℕ, _<_}
 use mathlib.Core.Path.{refl, _∙_, ap, sym}
 use native.Mathlib.Omega.{arith}
 use Rattle.program_line.specs.View.{armLine}
+use Rattle.program_line.proofs.Laws.{good-end}
 use Rattle.program.specs.Walk.{cursorIn, overArm, overStmt}
 use Rattle.program.specs.Ends.{Sound}
 use Rattle.program.proofs.Noted.{sound-noted}
-use Rattle.program.proofs.Laws.{Going, begins, goes-on, ends, breaks, stays-refused, stmt-step, arm-step, arm-fails, step-fails, step-walks, walked-then}
+use Rattle.program.proofs.Laws.{Going, begins, goes-on, ends, breaks, stays-refused, stmt-step, stmt-end, arm-step, arm-fails, step-fails, step-walks, walked-then}
 use borrow.Fn.Kinds.{In}
 use borrow.Fn.PlainCycle.{Measures, is, falls, and}
 use Rattle.program.proofs.walk_arm.Reads as walk-arm
@@ -28,8 +29,8 @@ use Rattle.program.proofs.parts_of.Reads as parts-of-reads
 use Rattle.program.proofs.pass_line.Reads as pass-line-reads
 use Rattle.program.proofs.walk_exprs.Reads as walk-exprs-reads
 use Rattle.program.proofs.walk_labels.Reads as walk-labels-reads
-use Rattle.program_line.proofs.read_arm.Reads as read-arm-reads
-use Rattle.program_line.proofs.read_stmt.Reads as read-stmt-reads
+use Rattle.program_line.proofs.next_arm.Reads as next-arm-reads
+use Rattle.program_line.proofs.next_stmt.Reads as next-stmt-reads
 use Rattle.program.proofs.+walk_arm+walk_arms+walk_stmt+walk_stmts.{statement}
 use Rattle.program.proofs.+walk_arm+walk_arms+walk_stmt+walk_stmts.Tie.{close}
 use borrow.Author.Needs.{needs}
@@ -85,8 +86,8 @@ walk-stmts-μ-loop text ends₀ variables heed left n more₀ on₀ ends more on
 pub +walk-arm+walk-arms+walk-stmt+walk-stmts-spec : {M : Type 1} → statement M
 +walk-arm+walk-arms+walk-stmt+walk-stmts-spec =
     close μ-walk-arm μ-walk-arms μ-walk-stmt μ-walk-stmts (λ t. walk-arm-lts.spec (
-      read-arm-reads.Asked,
-      read-arm-reads.Learnt,
+      next-arm-reads.Asked,
+      next-arm-reads.Learnt,
       fail-reads.Asked,
       fail-reads.Learnt,
       pass-line-reads.Asked,
@@ -99,18 +100,18 @@ pub +walk-arm+walk-arms+walk-stmt+walk-stmts-spec : {M : Type 1} → statement M
     (walk-arm-at t)
     walk-arm.Post
     (λ c. (stays-refused (c .before .before .before .before .pre .1 .0) _ (c .if1 .taken), c .before .before .before .before .pre .1 .1))  -- walk-arm-returns
-    (λ c κs. search needs)  -- walk-arm-read-arm-requires
+    (λ c κs. search needs)  -- walk-arm-next-arm-requires
     (λ c. search needs)  -- walk-arm-enum-known-line
     (λ c κs. search needs)  -- walk-arm-fail-requires
     (λ c. search needs)  -- walk-arm-enum-known-line-2
-    (λ c κs. (c .before .before .before .before .before .before .before .before .pre .1 .0, arm-step true _ 0 _ (cursorIn (c .before .before .before .before .before .before .before .before .args .w)) _ _ (sym (c .before .before .before .read-arm .ensures) ∙ ap armLine (c .before .line2 .given .1)) .there refl .0))  -- walk-arm-pass-line-requires
+    (λ c κs. (c .before .before .before .before .before .before .before .before .pre .1 .0, (arm-step true _ 0 _ (cursorIn (c .before .before .before .before .before .before .before .before .args .w)) _ _ (sym (c .before .before .before .next-arm .ensures .is) ∙ ap armLine (c .before .line2 .given .1)) .there refl .0, good-end _ (c .before .before .before .next-arm .ensures) (ap armLine (c .before .line2 .given .1)))))  -- walk-arm-pass-line-requires
     (λ c. search needs)  -- walk-arm-cast-walk-labels
     (λ c κs. search needs)  -- walk-arm-walk-labels-requires
     (λ c. search needs)  -- walk-arm-cast-walk-stmts
     (λ c κs. (omega (arith, c .before .before .before .before .before .before .before .before .before .before .before .pre .0), (c .before .walk-labels .ensures .near, c .before .before .before .before .before .before .before .before .before .before .before .pre .1 .1)))  -- walk-arm-walk-stmts-requires
-    (λ c. (rw (c .fail .ensures) (arm-fails _ _ _ (c .before .before .before .before .before .if1 .left) (c .before .before .before .before .before .before .before .before .before .pre .1 .0) _ (sym (c .before .before .before .before .read-arm .ensures) ∙ ap armLine (c .before .before .line .given .1))), c .before .before .before .before .before .before .before .before .before .pre .1 .1))  -- walk-arm-returns-2
+    (λ c. (rw (c .fail .ensures) (arm-fails _ _ _ (c .before .before .before .before .before .if1 .left) (c .before .before .before .before .before .before .before .before .before .pre .1 .0) _ (sym (c .before .before .before .before .next-arm .ensures .is) ∙ ap armLine (c .before .before .line .given .1))), c .before .before .before .before .before .before .before .before .before .pre .1 .1))  -- walk-arm-returns-2
     (λ c. c .before .before .walk-stmts .ensures .1 .size ∙ sym (c .before .before .before .before .before .before .before .before .before .before .before .before .before .before .pre .1 .1 .size))  -- walk-arm-same-length
-    (λ c. (step-walks (arm-step _ _ _ _ _ _ _ (sym (c .before .before .before .before .before .before .before .before .before .read-arm .ensures) ∙ ap armLine (c .before .before .before .before .before .before .before .line2 .given .1))) (c .before .before .before .before .before .before .before .before .before .before .if1 .left) refl (c .before .before .before .before .before .pass-line .ensures) (walked-then (c .before .before .before .before .walk-labels .ensures) (c .before .before .walk-stmts .ensures .0)), c .before .before .walk-stmts .ensures .1)))  -- walk-arm-returns-3
+    (λ c. (step-walks (arm-step _ _ _ _ _ _ _ (sym (c .before .before .before .before .before .before .before .before .before .next-arm .ensures .is) ∙ ap armLine (c .before .before .before .before .before .before .before .line2 .given .1))) (c .before .before .before .before .before .before .before .before .before .before .if1 .left) refl (c .before .before .before .before .before .pass-line .ensures) (walked-then (c .before .before .before .before .walk-labels .ensures) (c .before .before .walk-stmts .ensures .0)), c .before .before .walk-stmts .ensures .1)))  -- walk-arm-returns-3
     (λ t. walk-arms-lts.spec
     (walk-arm-below t, walk-arm.Post)
     (walk-arms-at t)
@@ -127,8 +128,8 @@ pub +walk-arm+walk-arms+walk-stmt+walk-stmts-spec : {M : Type 1} → statement M
     (λ c. c .before .loop .inv .1 .size ∙ sym (c .before .before .before .before .pre .1 .1 .size))  -- walk-arms-same-length-2
     (λ c. (ends (c .before .loop .inv .0) (c .loop-test .left), c .before .loop .inv .1)))  -- walk-arms-returns-2
     (λ t. walk-stmt-lts.spec (
-      read-stmt-reads.Asked,
-      read-stmt-reads.Learnt,
+      next-stmt-reads.Asked,
+      next-stmt-reads.Learnt,
       parts-of-reads.Asked,
       parts-of-reads.Learnt,
       fail-reads.Asked,
@@ -147,19 +148,19 @@ pub +walk-arm+walk-arms+walk-stmt+walk-stmts-spec : {M : Type 1} → statement M
     (walk-stmt-at t)
     walk-stmt.Post
     (λ c. (stays-refused (c .before .before .before .before .pre .1 .0) _ (c .if1 .taken), c .before .before .before .before .pre .1 .1))  -- walk-stmt-returns
-    (λ c κs. search needs)  -- walk-stmt-read-stmt-requires
+    (λ c κs. search needs)  -- walk-stmt-next-stmt-requires
     (λ c κs. search needs)  -- walk-stmt-parts-of-requires
     (λ c κs. search needs)  -- walk-stmt-fail-requires
-    (λ c. (rw (c .fail .ensures) (step-fails (stmt-step _ _ _ _ _ _ _ (c .before .before .before .parts-of .ensures) (c .before .before .before .before .read-stmt .ensures)) (c .before .before .before .before .before .if1 .left) (c .before .before .before .before .before .before .before .before .before .pre .1 .0) (c .before .if2 .taken)), c .before .before .before .before .before .before .before .before .before .pre .1 .1))  -- walk-stmt-returns-2
-    (λ c κs. (c .before .before .before .before .before .before .before .before .pre .1 .0, stmt-step true _ _ _ (cursorIn (c .before .before .before .before .before .before .before .before .args .w)) _ _ (c .before .before .parts-of .ensures) (c .before .before .before .read-stmt .ensures) .there (c .if2 .left) .0))  -- walk-stmt-pass-line-requires
-    (λ c. stmt-step true _ _ _ (cursorIn (c .before .before .before .before .before .before .before .before .before .args .w)) _ _ (c .before .before .before .parts-of .ensures) (c .before .before .before .before .read-stmt .ensures) .there (c .before .if2 .left) .1)  -- walk-stmt-sub-l
+    (λ c. (rw (c .fail .ensures) (step-fails (stmt-step _ _ _ _ _ _ _ (c .before .before .before .parts-of .ensures) (c .before .before .before .before .next-stmt .ensures .is)) (c .before .before .before .before .before .if1 .left) (c .before .before .before .before .before .before .before .before .before .pre .1 .0) (c .before .if2 .taken)), c .before .before .before .before .before .before .before .before .before .pre .1 .1))  -- walk-stmt-returns-2
+    (λ c κs. (c .before .before .before .before .before .before .before .before .pre .1 .0, (stmt-step true _ _ _ (cursorIn (c .before .before .before .before .before .before .before .before .args .w)) _ _ (c .before .before .parts-of .ensures) (c .before .before .before .next-stmt .ensures .is) .there (c .if2 .left) .0, stmt-end _ _ _ _ _ _ (c .before .before .parts-of .ensures) (c .before .before .before .next-stmt .ensures) (c .if2 .left))))  -- walk-stmt-pass-line-requires
+    (λ c. stmt-step true _ _ _ (cursorIn (c .before .before .before .before .before .before .before .before .before .args .w)) _ _ (c .before .before .before .parts-of .ensures) (c .before .before .before .before .next-stmt .ensures .is) .there (c .before .if2 .left) .1)  -- walk-stmt-sub-l
     (λ c κs. search needs)  -- walk-stmt-walk-exprs-requires
-    (λ c κs. (omega (arith, c .before .before .before .before .before .before .before .before .before .before .before .pre .0, stmt-step true _ _ _ (cursorIn (c .before .before .before .before .before .before .before .before .before .before .before .args .w)) _ _ (c .before .before .before .before .before .parts-of .ensures) (c .before .before .before .before .before .before .read-stmt .ensures) .there (c .before .before .before .if2 .left)), (c .before .walk-exprs .ensures .near, c .before .before .before .before .before .before .before .before .before .before .before .pre .1 .1)))  -- walk-stmt-walk-arms-requires
-    (λ c κs. (omega (arith, c .before .before .before .before .before .before .before .before .before .before .before .before .before .before .before .pre .0, stmt-step true _ _ _ (cursorIn (c .before .before .before .before .before .before .before .before .before .before .before .before .before .before .before .args .w)) _ _ (c .before .before .before .before .before .before .before .before .before .parts-of .ensures) (c .before .before .before .before .before .before .before .before .before .before .read-stmt .ensures) .there (c .before .before .before .before .before .before .before .if2 .left)), (c .before .before .before .walk-arms .ensures .0 .near, c .before .before .before .walk-arms .ensures .1)))  -- walk-stmt-walk-stmts-requires
+    (λ c κs. (omega (arith, c .before .before .before .before .before .before .before .before .before .before .before .pre .0, stmt-step true _ _ _ (cursorIn (c .before .before .before .before .before .before .before .before .before .before .before .args .w)) _ _ (c .before .before .before .before .before .parts-of .ensures) (c .before .before .before .before .before .before .next-stmt .ensures .is) .there (c .before .before .before .if2 .left)), (c .before .walk-exprs .ensures .near, c .before .before .before .before .before .before .before .before .before .before .before .pre .1 .1)))  -- walk-stmt-walk-arms-requires
+    (λ c κs. (omega (arith, c .before .before .before .before .before .before .before .before .before .before .before .before .before .before .before .pre .0, stmt-step true _ _ _ (cursorIn (c .before .before .before .before .before .before .before .before .before .before .before .before .before .before .before .args .w)) _ _ (c .before .before .before .before .before .before .before .before .before .parts-of .ensures) (c .before .before .before .before .before .before .before .before .before .before .next-stmt .ensures .is) .there (c .before .before .before .before .before .before .before .if2 .left)), (c .before .before .before .walk-arms .ensures .0 .near, c .before .before .before .walk-arms .ensures .1)))  -- walk-stmt-walk-stmts-requires
     (λ c κs. c .before .before .before .walk-stmts .ensures .1 .size)  -- walk-stmt-note-requires
-    (λ c κs. (omega (arith, c .before .before .before .before .before .before .before .before .before .before .before .before .before .before .before .before .before .before .before .before .before .before .before .pre .0, stmt-step true _ _ _ (cursorIn (c .before .before .before .before .before .before .before .before .before .before .before .before .before .before .before .before .before .before .before .before .before .before .before .args .w)) _ _ (c .before .before .before .before .before .before .before .before .before .before .before .before .before .before .before .before .before .parts-of .ensures) (c .before .before .before .before .before .before .before .before .before .before .before .before .before .before .before .before .before .before .read-stmt .ensures) .there (c .before .before .before .before .before .before .before .before .before .before .before .before .before .before .before .if2 .left)), (c .before .before .before .before .before .before .before .walk-stmts .ensures .0 .near, sound-noted _ _ (c .before .before .before .before .before .before .before .walk-stmts .ensures .1) (c .before .before .before .before .before .before .before .walk-stmts .ensures .0) (c .before .before .before .note .ensures))))  -- walk-stmt-walk-stmts-requires-2
+    (λ c κs. (omega (arith, c .before .before .before .before .before .before .before .before .before .before .before .before .before .before .before .before .before .before .before .before .before .before .before .pre .0, stmt-step true _ _ _ (cursorIn (c .before .before .before .before .before .before .before .before .before .before .before .before .before .before .before .before .before .before .before .before .before .before .before .args .w)) _ _ (c .before .before .before .before .before .before .before .before .before .before .before .before .before .before .before .before .before .parts-of .ensures) (c .before .before .before .before .before .before .before .before .before .before .before .before .before .before .before .before .before .before .next-stmt .ensures .is) .there (c .before .before .before .before .before .before .before .before .before .before .before .before .before .before .before .if2 .left)), (c .before .before .before .before .before .before .before .walk-stmts .ensures .0 .near, sound-noted _ _ (c .before .before .before .before .before .before .before .walk-stmts .ensures .1) (c .before .before .before .before .before .before .before .walk-stmts .ensures .0) (c .before .before .before .note .ensures))))  -- walk-stmt-walk-stmts-requires-2
     (λ c. c .before .before .walk-stmts2 .ensures .1 .size ∙ sym (c .before .before .before .before .before .before .before .before .before .before .before .before .before .before .before .before .before .before .before .before .before .before .before .before .before .before .pre .1 .1 .size))  -- walk-stmt-same-length
-    (λ c. (step-walks (stmt-step _ _ _ _ _ _ _ (c .before .before .before .before .before .before .before .before .before .before .before .before .before .before .before .before .before .before .before .before .parts-of .ensures) (c .before .before .before .before .before .before .before .before .before .before .before .before .before .before .before .before .before .before .before .before .before .read-stmt .ensures)) (c .before .before .before .before .before .before .before .before .before .before .before .before .before .before .before .before .before .before .before .before .before .before .if1 .left) (c .before .before .before .before .before .before .before .before .before .before .before .before .before .before .before .before .before .before .if2 .left) (c .before .before .before .before .before .before .before .before .before .before .before .before .before .before .before .before .before .pass-line .ensures) (walked-then (c .before .before .before .before .before .before .before .before .before .before .before .before .before .before .before .before .walk-exprs .ensures) (walked-then (c .before .before .before .before .before .before .before .before .before .before .before .before .before .before .walk-arms .ensures .0) (walked-then (c .before .before .before .before .before .before .before .before .before .before .walk-stmts .ensures .0) (c .before .before .walk-stmts2 .ensures .0)))), c .before .before .walk-stmts2 .ensures .1)))  -- walk-stmt-returns-3
+    (λ c. (step-walks (stmt-step _ _ _ _ _ _ _ (c .before .before .before .before .before .before .before .before .before .before .before .before .before .before .before .before .before .before .before .before .parts-of .ensures) (c .before .before .before .before .before .before .before .before .before .before .before .before .before .before .before .before .before .before .before .before .before .next-stmt .ensures .is)) (c .before .before .before .before .before .before .before .before .before .before .before .before .before .before .before .before .before .before .before .before .before .before .if1 .left) (c .before .before .before .before .before .before .before .before .before .before .before .before .before .before .before .before .before .before .if2 .left) (c .before .before .before .before .before .before .before .before .before .before .before .before .before .before .before .before .before .pass-line .ensures) (walked-then (c .before .before .before .before .before .before .before .before .before .before .before .before .before .before .before .before .walk-exprs .ensures) (walked-then (c .before .before .before .before .before .before .before .before .before .before .before .before .before .before .walk-arms .ensures .0) (walked-then (c .before .before .before .before .before .before .before .before .before .before .walk-stmts .ensures .0) (c .before .before .walk-stmts2 .ensures .0)))), c .before .before .walk-stmts2 .ensures .1)))  -- walk-stmt-returns-3
     λ t. walk-stmts-lts.spec
     (walk-stmt-below t, walk-stmt.Post)
     (walk-stmts-at t)

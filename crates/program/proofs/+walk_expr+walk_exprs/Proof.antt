@@ -3,7 +3,7 @@ use mathlib.Core.Bool.{true}
 use Prim.Native.Nat.{_+_, _*_, ℕ, _<_}
 use native.Mathlib.Omega.{arith}
 use Rattle.program.specs.Walk.{cursorIn, overExpr}
-use Rattle.program.proofs.Laws.{Going, begins, goes-on, ends, breaks, stays-refused, expr-step, step-fails, step-walks}
+use Rattle.program.proofs.Laws.{Going, begins, goes-on, ends, breaks, stays-refused, expr-step, expr-end, step-fails, step-walks}
 use borrow.Fn.Kinds.{In}
 use borrow.Fn.PlainCycle.{Measures, is, falls, and}
 use Rattle.program.proofs.walk_expr.Reads as walk-expr
@@ -15,7 +15,7 @@ use Rattle.program.proofs.+walk_expr+walk_exprs.Lts-walk_exprs as walk-
 use Rattle.program.proofs.fail.Reads as fail-reads
 use Rattle.program.proofs.operands_of.Reads as operands-of-reads
 use Rattle.program.proofs.pass_line.Reads as pass-line-reads
-use Rattle.program_line.proofs.read_expr.Reads as read-expr-reads
+use Rattle.program_line.proofs.next_expr.Reads as next-expr-reads
 use Rattle.program.proofs.+walk_expr+walk_exprs.{statement}
 use Rattle.program.proofs.+walk_expr+walk_exprs.Tie.{close}
 use borrow.Author.Needs.{needs}
@@ -47,8 +47,8 @@ walk-exprs-μ-loop text variables heed left n more₀ on₀ more on = more
 pub +walk-expr+walk-exprs-spec : {M : Type 1} → statement M
 +walk-expr+walk-exprs-spec =
     close μ-walk-expr μ-walk-exprs (λ t. walk-expr-lts.spec (
-      read-expr-reads.Asked,
-      read-expr-reads.Learnt,
+      next-expr-reads.Asked,
+      next-expr-reads.Learnt,
       operands-of-reads.Asked,
       operands-of-reads.Learnt,
       fail-reads.Asked,
@@ -61,14 +61,14 @@ pub +walk-expr+walk-exprs-spec : {M : Type 1} → statement M
     (walk-expr-at t)
     walk-expr.Post
     (λ c. stays-refused (c .before .before .before .pre .1) _ (c .if1 .taken))  -- walk-expr-returns
-    (λ c κs. search needs)  -- walk-expr-read-expr-requires
+    (λ c κs. search needs)  -- walk-expr-next-expr-requires
     (λ c κs. search needs)  -- walk-expr-operands-of-requires
     (λ c κs. search needs)  -- walk-expr-fail-requires
-    (λ c. rw (c .fail .ensures) (step-fails (expr-step _ _ _ _ _ _ _ (c .before .before .before .operands-of .ensures) (c .before .before .before .before .read-expr .ensures)) (c .before .before .before .before .before .if1 .left) (c .before .before .before .before .before .before .before .before .pre .1) (c .before .if2 .taken)))  -- walk-expr-returns-2
-    (λ c κs. (c .before .before .before .before .before .before .before .pre .1, expr-step true _ _ _ (cursorIn (c .before .before .before .before .before .before .before .args .w)) _ _ (c .before .before .operands-of .ensures) (c .before .before .before .read-expr .ensures) .there (c .if2 .left) .0))  -- walk-expr-pass-line-requires
-    (λ c. expr-step true _ _ _ (cursorIn (c .before .before .before .before .before .before .before .before .args .w)) _ _ (c .before .before .before .operands-of .ensures) (c .before .before .before .before .read-expr .ensures) .there (c .before .if2 .left) .1)  -- walk-expr-sub-walk-exprs
-    (λ c κs. (omega (arith, c .before .before .before .before .before .before .before .before .pre .0, expr-step true _ _ _ (cursorIn (c .before .before .before .before .before .before .before .before .args .w)) _ _ (c .before .before .before .operands-of .ensures) (c .before .before .before .before .read-expr .ensures) .there (c .before .if2 .left)), c .pass-line .ensures .near))  -- walk-expr-walk-exprs-requires
-    (λ c. step-walks (expr-step _ _ _ _ _ _ _ (c .before .before .before .before .operands-of .ensures) (c .before .before .before .before .before .read-expr .ensures)) (c .before .before .before .before .before .before .if1 .left) (c .before .before .if2 .left) (c .before .pass-line .ensures) (c .walk-exprs .ensures)))  -- walk-expr-returns-3
+    (λ c. rw (c .fail .ensures) (step-fails (expr-step _ _ _ _ _ _ _ (c .before .before .before .operands-of .ensures) (c .before .before .before .before .next-expr .ensures .is)) (c .before .before .before .before .before .if1 .left) (c .before .before .before .before .before .before .before .before .pre .1) (c .before .if2 .taken)))  -- walk-expr-returns-2
+    (λ c κs. (c .before .before .before .before .before .before .before .pre .1, (expr-step true _ _ _ (cursorIn (c .before .before .before .before .before .before .before .args .w)) _ _ (c .before .before .operands-of .ensures) (c .before .before .before .next-expr .ensures .is) .there (c .if2 .left) .0, expr-end _ _ _ _ _ _ (c .before .before .operands-of .ensures) (c .before .before .before .next-expr .ensures) (c .if2 .left))))  -- walk-expr-pass-line-requires
+    (λ c. expr-step true _ _ _ (cursorIn (c .before .before .before .before .before .before .before .before .args .w)) _ _ (c .before .before .before .operands-of .ensures) (c .before .before .before .before .next-expr .ensures .is) .there (c .before .if2 .left) .1)  -- walk-expr-sub-walk-exprs
+    (λ c κs. (omega (arith, c .before .before .before .before .before .before .before .before .pre .0, expr-step true _ _ _ (cursorIn (c .before .before .before .before .before .before .before .before .args .w)) _ _ (c .before .before .before .operands-of .ensures) (c .before .before .before .before .next-expr .ensures .is) .there (c .before .if2 .left)), c .pass-line .ensures .near))  -- walk-expr-walk-exprs-requires
+    (λ c. step-walks (expr-step _ _ _ _ _ _ _ (c .before .before .before .before .operands-of .ensures) (c .before .before .before .before .before .next-expr .ensures .is)) (c .before .before .before .before .before .before .if1 .left) (c .before .before .if2 .left) (c .before .pass-line .ensures) (c .walk-exprs .ensures)))  -- walk-expr-returns-3
     λ t. walk-exprs-lts.spec
     (walk-expr-below t, walk-expr.Post)
     (walk-exprs-at t)

@@ -12,7 +12,7 @@ check-body-spec =
     (tie.spec
     (λ c κs. search needs)  -- pass-line-requires
     (λ c. search needs)  -- slice-aggregate-walk-stmts
-    (λ c κs. (c .before .pass-line .ensures .near, sound-none _ _ (c .before .before .before .pre .short)))  -- walk-stmts-requires
-    (λ c. check-faulty (c .before .before .before .before .before .before .before .pre) (c .before .before .before .before .before .pass-line .ensures) (c .before .before .before .walk-stmts .ensures .0) (c .if1 .taken))  -- returns
-    (λ c. check-left-over (c .before .before .before .before .before .before .before .before .before .pre) (c .before .before .before .before .before .before .before .pass-line .ensures) (c .before .before .before .before .before .walk-stmts .ensures .0) (c .before .before .if1 .left) (c .if2 .taken))  -- returns-2
-    (λ c. check-fine (c .before .before .before .before .before .before .before .before .before .pre) (c .before .before .before .before .before .before .before .pass-line .ensures) (c .before .before .before .before .before .walk-stmts .ensures .0) (c .before .before .if1 .left) (c .if2 .left)))  -- returns-3
+    (λ c κs. (c .before .pass-line .ensures .near, sound-none _ _ (c .before .before .before .pre .0 .short)))  -- walk-stmts-requires
+    (λ c. check-faulty (c .before .before .before .before .before .before .before .pre .0) (c .before .before .before .before .before .pass-line .ensures) (c .before .before .before .walk-stmts .ensures .0) (c .if1 .taken))  -- returns
+    (λ c. check-left-over (c .before .before .before .before .before .before .before .before .before .pre .0) (c .before .before .before .before .before .before .before .pass-line .ensures) (c .before .before .before .before .before .walk-stmts .ensures .0) (c .before .before .if1 .left) (c .if2 .taken))  -- returns-2
+    (λ c. check-fine (c .before .before .before .before .before .before .before .before .before .pre .0) (c .before .before .before .before .before .before .before .pass-line .ensures) (c .before .before .before .before .before .walk-stmts .ensures .0) (c .before .before .if1 .left) (c .if2 .left)))  -- returns-3
