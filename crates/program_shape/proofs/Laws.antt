@@ -19,6 +19,8 @@ use Rattle.definition.specs.Stmt.{isDone, isExitStmt, isExit, onlyIf, exitWhen,
 use Rattle.definition.specs.CompileExpr.{readOf, constantOf, zip, orClassified, classify}
 use Rattle.field.proofs.Results.{never}
 use Rattle.field.proofs.Tests.{and-left, and-right}
+use Rattle.program_line.specs.Scan.{Found}
+use Rattle.program_line.proofs.Laws.{good-end}
 use Rattle.program.specs.declared.Cursor.{Cursor}
 use Rattle.program.specs.declared.Walk.{Walk}
 use Rattle.program.specs.Walk.{cursorOf, Near, Skipped, Walked, outcome, many, overExpr, overStmt}
@@ -240,6 +242,19 @@ fitting when (is (X p j)) e = never (cc)
 fitting when (is (N p j)) e = never (cc)
 fitting when (is (R p)) e = never (cc)
 fitting when (not n) e = never (cc)
+
+-- where such lines end
+module _ {end stop : ℕ} where
+  pub comparison-end : (o : CompareOp) {x y : Line ExprLine} → some o ≡ comparisonIn x → Found x end y stop → end ≡ stop
+  comparison-end o {x} e f = good-end (C o) f (compares x o (sym e))
+
+  pub if-end : (when : Bool) {x y : Line StmtLine} → ifFits when x ≡ true → Found x end y stop → end ≡ stop
+  if-end when {x} e f = good-end _ f (fitting when x e .line)
+
+  pub exit-end : (i : ℕ) (x : Line StmtLine) {y : Line StmtLine} → exitLine i x ≡ true → Found x end y stop → end ≡ stop
+  unfolding exitLine
+  exit-end i (is l) e f = good-end l f refl
+  exit-end i (not n) e f = never (cc)
 
 -- the condition and the places make the answer
 exit-by : (left v : ℕ) (text : List ℕ) (c d : def.Cursor) (o : Option Expr) (r : ExitIf) → exitCondition left v text r ≡ o → exitPlaces text c d r → r ≡ exitBy text c d o

@@ -191,7 +191,9 @@ pub fn operand_at(text: &[u8], variables: u16, left: usize, c: Cursor) -> Operan
     ensures { λ r. ⌜ Sided (exprAt left variables (now (text .entry)) (cursorOf c) .0) r ⌝ }
 {
     let at = c.at;
-    operand_of(program_line::read_expr(text, variables, left, at))
+    let r = program_line::next_expr(text, variables, left, at);
+    let line = r.line;
+    operand_of(line)
 }
 
 fn comparison_of(line: ExprLine) -> Compared
@@ -242,11 +244,13 @@ pub fn classify(text: &[u8], variables: u16, left: usize, c: Cursor) -> Conditio
     ensures { λ r. ⌜ classified r ≡ classify (exprAt left variables (now (text .entry)) (cursorOf c) .0) ⌝ }
 {
     let at = c.at;
-    let by = comparison_of(program_line::read_expr(text, variables, left, at));
+    let r = program_line::next_expr(text, variables, left, at);
+    let line = r.line;
+    let by = comparison_of(line);
     match by {
         Compared::Other => Condition::Other,
         Compared::By(op) => {
-            let first = program::next_line(text, c);
+            let first = program::next_line(text, c, r.end);
             let l = left - 1;
             let a = operand_at(text, variables, l, first);
             let second = skip_expr(text, variables, l, first);
@@ -322,15 +326,19 @@ fn exit_at(text: &[u8], variables: u16, left: usize, c: Cursor, i: u16, when: bo
     ensures { λ r. ⌜ Exiting when i left variables (now (text .entry)) (cursorOf c) r ⌝ }
 {
     let at = c.at;
-    let fits = if_fits(when, program_line::read_stmt(text, variables, left, at));
+    let r = program_line::next_stmt(text, variables, left, at);
+    let line = r.line;
+    let fits = if_fits(when, line);
     if fits {
-        let condition = program::next_line(text, c);
+        let condition = program::next_line(text, c, r.end);
         let l = left - 1;
         let p = skip_expr(text, variables, l, condition);
         let there = p.at;
-        let out = exits(i, program_line::read_stmt(text, variables, l, there));
+        let then = program_line::next_stmt(text, variables, l, there);
+        let exit = then.line;
+        let out = exits(i, exit);
         if out {
-            let end = program::next_line(text, p);
+            let end = program::next_line(text, p, then.end);
             return ExitIf::Exits {
                 condition: condition,
                 end: end,

@@ -8,6 +8,6 @@ pub operand-at-spec : {M : Type 1} → statement M
 operand-at-spec =
     tie.close
     (tie.spec
-    (λ c κs. search needs)  -- read-expr-requires
+    (λ c κs. search needs)  -- next-expr-requires
     (λ c κs. search needs)  -- operand-of-requires
-    (λ c. sided _ _ _ _ _ _ (c .operand-of .ensures) (c .before .read-expr .ensures)))  -- returns
+    (λ c. sided _ _ _ _ _ _ (c .operand-of .ensures) (c .before .next-expr .ensures .is)))  -- returns
