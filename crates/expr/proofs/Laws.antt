@@ -5,6 +5,7 @@ use mathlib.Core.List.{List}
 use Prim.Native.Nat.{ℕ, zero, suc, _+_, _-_, _<_}
 use native.Mathlib.Numerals.{add-one}
 use native.Mathlib.Omega.{arith}
+use lib.ListN.{length}
 use Rattle.definition.specs.Res.{Res, ok, refuse, _>>=_}
 use Rattle.definition.specs.Opcode.{Sheet, Role, BinaryOp, UnaryOp, CompareOp, ShortCircuitOp, AndThen, OrElse, loadTrue, loadFalse, binaryRole, unaryRole}
 use Rattle.definition.specs.Opcode as role
@@ -18,9 +19,11 @@ use Rattle.definition.specs.Walk as walk
 use Rattle.definition.specs.Expr.{emitExpr}
 use Rattle.program_line.specs.declared.ExprLine as code
 use Rattle.program_line.specs.View.{exprLine}
+use Rattle.program_line.specs.Scan.{Found}
+use Rattle.program_line.proofs.Laws.{good-end}
 use Rattle.program.specs.declared.Cursor.{Cursor}
 use Rattle.program.specs.Walk.{cursorOf, Near, Skipped}
-use Rattle.program.proofs.Laws.{expr-bad, expr-is, line-some}
+use Rattle.program.proofs.Laws.{expr-bad, expr-is, line-some, line-there}
 use Rattle.emit.specs.declared.Emitter.{Emitter}
 use Rattle.emit.specs.View.{World, world}
 use Rattle.emit.specs.Steps.{run, Ready, Bare, Booked, Created, Coded, Filled}
@@ -205,6 +208,13 @@ module _ (s : Sheet) (h left v : ℕ) (text : List ℕ) (c : Cursor) {next : Cur
 -- what was read, once its form is known
 pub line-is : (left v : ℕ) (text : List ℕ) (at : ℕ) {line x : code.ExprLine} → exprLine line ≡ lineAt (exprForms v) left text at → line ≡ x → lineAt (exprForms v) left text at ≡ exprLine x
 line-is left v text at e told = sym e ∙ ap exprLine told
+
+-- the line is there, and ends where its reading says
+pub line-passed : (left v : ℕ) (text : List ℕ) (at : ℕ) {line x : code.ExprLine} {end stop : ℕ} {l : ExprLine} → Found (exprLine line) end (lineAt (exprForms v) left text at) stop → line ≡ x → exprLine x ≡ is l
+    → (at < length text) × ((0 < left) × (end ≡ stop))
+line-passed left v text at {l = l} f told e =
+    let there = line-there (exprForms v) left text at l (line-is left v text at (f .is) told ∙ e) in
+    (there .0, (there .1, good-end l f (ap exprLine told ∙ e)))
 
 pub bad-some : (left v : ℕ) (text : List ℕ) (at n : ℕ) → lineAt (exprForms v) left text at ≡ not n → 0 < n
 bad-some left v text at n e = go n (line-some (exprForms v) left text at n e)

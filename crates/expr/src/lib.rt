@@ -8,6 +8,7 @@ ghost use Rattle.definition.specs.Opcode.{AndThen, OrElse};
 ghost use Rattle.definition.specs.Tree.{shortCircuit};
 ghost use Rattle.definition.specs.Program.{exprAt, nextLine};
 ghost use Rattle.definition.specs.Expr.{emitExpr};
+ghost use Rattle.field.specs.View.{lineEnd};
 ghost use Rattle.opcode.specs.View.{roleView};
 ghost use Rattle.opcode.specs.Table.{sheetIn};
 ghost use Rattle.program.specs.Walk.{cursorOf, Near};
@@ -46,13 +47,14 @@ fn operate(w: Walked, sheet: &[u8], code: &mut [u8], book: &mut [u16], role: Rol
     Walked { cursor, emitter }
 }
 
-// An emitter that has emitted the line at a place, and the walk behind that line.
-fn behind(text: &[u8], c: Cursor, emitter: Emitter) -> Walked
+// An emitter that has emitted the line at a place, and the walk behind that line, which ends at `end`.
+fn behind(text: &[u8], c: Cursor, end: usize, emitter: Emitter) -> Walked
     requires { ⌜ Near (now text) (c .at) (c .row) ⌝ }
     requires { ⌜ c .at < length (now text) ⌝ }
+    requires { ⌜ end ≡ lineEnd (now text) (c .at) ⌝ }
     ensures { λ r. ⌜ Behind (now (text .entry)) c emitter r ⌝ }
 {
-    let cursor = program::next_line(text, c);
+    let cursor = program::next_line(text, c, end);
     Walked { cursor, emitter }
 }
 
@@ -74,48 +76,48 @@ pub fn emit_expr(
     requires { ⌜ h + left ≤ maxHeight ⌝ }
     ensures { λ r. ⌜ WentExpr (sheetIn (now (sheet .entry))) h (exprAt left variables (now (text .entry)) (cursorOf c)) (now (text .entry)) (world e (now (code .entry)) (now (book .entry)) (now (pool .entry))) (world (r .emitter) (now (code .exit)) (now (book .exit)) (now (pool .exit))) (r .cursor) ⌝ }
 {
-    match program_line::read_expr(text, variables, left, c.at) {
+    let r = program_line::next_expr(text, variables, left, c.at);
+    let end = r.end;
+    let line = r.line;
+    match line {
         ExprLine::Bad(n) => {
             let emitter = e.refuse(n, c.row);
             Walked { cursor: c, emitter }
         }
         ExprLine::Const(k) => {
             let emitter = e.load_constant(sheet, code, book, pool, k);
-            behind(text, c, emitter)
+            behind(text, c, end, emitter)
         }
-        ExprLine::Bool(b) => {
-            let emitter = e.emit_opcode(sheet, code, book, bool_role(b));
-            behind(text, c, emitter)
-        }
+        ExprLine::Bool(b) => behind(text, c, end, e.emit_opcode(sheet, code, book, bool_role(b))),
         ExprLine::Read(v) => {
             let emitter = compile_expr::emit_load_var(e, sheet, code, book, v);
-            behind(text, c, emitter)
+            behind(text, c, end, emitter)
         }
         ExprLine::Binary(o) => {
-            let two = emit_two(text, sheet, code, book, pool, variables, left, h, e, c);
+            let two = emit_two(text, sheet, code, book, pool, variables, left, h, e, c, end);
             operate(two, sheet, code, book, o.role())
         }
         ExprLine::Unary(o) => {
-            let on = program::next_line(text, c);
+            let on = program::next_line(text, c, end);
             let one = emit_expr(text, sheet, code, book, pool, variables, left - 1, h, e, on);
             operate(one, sheet, code, book, o.role())
         }
         ExprLine::Compare(o) => {
-            let two = emit_two(text, sheet, code, book, pool, variables, left, h, e, c);
+            let two = emit_two(text, sheet, code, book, pool, variables, left, h, e, c, end);
             operate(two, sheet, code, book, Role::Compare(o))
         }
         ExprLine::ShortCircuit(o) => match o {
             ShortCircuitOp::AndThen => {
-                emit_and_then(text, sheet, code, book, pool, variables, left, h, e, c)
+                emit_and_then(text, sheet, code, book, pool, variables, left, h, e, c, end)
             }
             ShortCircuitOp::OrElse => {
-                emit_or_else(text, sheet, code, book, pool, variables, left, h, e, c)
+                emit_or_else(text, sheet, code, book, pool, variables, left, h, e, c, end)
             }
         },
     }
 }
 
-// The two operands of the line at a place, the first below the second on the stack.
+// The two operands of the line at a place, which ends at `end`: the first below the second on the stack.
 fn emit_two(
     text: &[u8],
     sheet: &[u8],
@@ -127,15 +129,17 @@ fn emit_two(
     h: u16,
     e: Emitter,
     c: Cursor,
+    end: usize,
 ) -> Walked
     requires { ⌜ Near (now text) (c .at) (c .row) ⌝ }
     requires { ⌜ Ready (world e (now code) (now book) (now pool)) ⌝ }
     requires { ⌜ h + left ≤ maxHeight ⌝ }
     requires { ⌜ c .at < length (now text) ⌝ }
     requires { ⌜ 0 < left ⌝ }
+    requires { ⌜ end ≡ lineEnd (now text) (c .at) ⌝ }
     ensures { λ r. ⌜ WentTwo (sheetIn (now (sheet .entry))) (emitTwo h) (left - 1) variables (now (text .entry)) (nextLine (now (text .entry)) (cursorOf c)) (world e (now (code .entry)) (now (book .entry)) (now (pool .entry))) (world (r .emitter) (now (code .exit)) (now (book .exit)) (now (pool .exit))) (r .cursor) ⌝ }
 {
-    let first = program::next_line(text, c);
+    let first = program::next_line(text, c, end);
     let rest = left - 1;
     let above = h + 1;
     let one = emit_expr(text, sheet, code, book, pool, variables, rest, h, e, first);
@@ -156,15 +160,17 @@ fn emit_and_then(
     h: u16,
     e: Emitter,
     c: Cursor,
+    end: usize,
 ) -> Walked
     requires { ⌜ Near (now text) (c .at) (c .row) ⌝ }
     requires { ⌜ Ready (world e (now code) (now book) (now pool)) ⌝ }
     requires { ⌜ h + left ≤ maxHeight ⌝ }
     requires { ⌜ c .at < length (now text) ⌝ }
     requires { ⌜ 0 < left ⌝ }
+    requires { ⌜ end ≡ lineEnd (now text) (c .at) ⌝ }
     ensures { λ r. ⌜ WentTwo (sheetIn (now (sheet .entry))) (λ a b. emitExpr (shortCircuit AndThen a b) h) (left - 1) variables (now (text .entry)) (nextLine (now (text .entry)) (cursorOf c)) (world e (now (code .entry)) (now (book .entry)) (now (pool .entry))) (world (r .emitter) (now (code .exit)) (now (book .exit)) (now (pool .exit))) (r .cursor) ⌝ }
 {
-    let first = program::next_line(text, c);
+    let first = program::next_line(text, c, end);
     let rest = left - 1;
     let alternative = e.create_label(book);
     let e = alternative.emitter;
@@ -197,15 +203,17 @@ fn emit_or_else(
     h: u16,
     e: Emitter,
     c: Cursor,
+    end: usize,
 ) -> Walked
     requires { ⌜ Near (now text) (c .at) (c .row) ⌝ }
     requires { ⌜ Ready (world e (now code) (now book) (now pool)) ⌝ }
     requires { ⌜ h + left ≤ maxHeight ⌝ }
     requires { ⌜ c .at < length (now text) ⌝ }
     requires { ⌜ 0 < left ⌝ }
+    requires { ⌜ end ≡ lineEnd (now text) (c .at) ⌝ }
     ensures { λ r. ⌜ WentTwo (sheetIn (now (sheet .entry))) (λ a b. emitExpr (shortCircuit OrElse a b) h) (left - 1) variables (now (text .entry)) (nextLine (now (text .entry)) (cursorOf c)) (world e (now (code .entry)) (now (book .entry)) (now (pool .entry))) (world (r .emitter) (now (code .exit)) (now (book .exit)) (now (pool .exit))) (r .cursor) ⌝ }
 {
-    let first = program::next_line(text, c);
+    let first = program::next_line(text, c, end);
     let rest = left - 1;
     let alternative = e.create_label(book);
     let e = alternative.emitter;
