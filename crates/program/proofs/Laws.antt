@@ -15,16 +15,17 @@ use Rattle.definition.specs.Field.{split, comma, firstLine}
 use Rattle.definition.specs.Tree.{Fault, Expr, bad, Stmt, badStmt, Arms, CaseLabel, value, range, badLabel, Pos, Source}
 use Rattle.definition.specs.Program as def
 use Rattle.definition.specs.Program.{Form, Line, is, not, lineOf, lineAt, refusal, Reader, A, I, S, F, L, X, N, R, K, B, D, O, U, C, H, M, StmtLine, ExprLine, ArmLine, nextLine, faultAt, exprForms, stmtForms, armForms, labelForms, exprOf, exprBy, exprAt, labelBy, labelsAt, blockOf, armBy, armsAt, stmtOf, stmtBy, stmtAt, orElse, faultOfExpr, faultOfLabels, faultOfStmt, faultOfBlock, faultOfArms}
-use Rattle.field.specs.View.{Ends}
+use Rattle.field.specs.View.{Ends, lineEnd}
+use Rattle.field.proofs.Parts.{line-ends}
 use Rattle.field.proofs.Results.{never}
 use Rattle.field.proofs.Refusals.{LineTold, anything, at-told}
-use Rattle.program_line.specs.Scan.{Found}
+use Rattle.program_line.specs.Scan.{endOf, Found}
 use Rattle.program_line.proofs.Laws.{good-end}
 use Rattle.program.specs.declared.Cursor.{Cursor}
 use Rattle.program.specs.declared.Walk.{Walk}
 use Rattle.program.specs.declared.Parts.{Parts}
 use Rattle.program.specs.declared.Operands.{Operands}
-use Rattle.program.specs.Walk.{cursorOf, cursorIn, standBy, stand, Near, Skipped, linesOn, Counted, Walked, outcome, went, many, overExpr, overStmt, faultOfLabel, overLabel, armWith, overArm, partsOf, operandsOf, failed, Passed}
+use Rattle.program.specs.Walk.{cursorOf, cursorIn, standBy, stand, Near, Skipped, behindLine, Behind, linesOn, Counted, Walked, outcome, went, many, overExpr, overStmt, faultOfLabel, overLabel, armWith, overArm, partsOf, operandsOf, failed, Passed}
 
 -- ---- answers in a row
 
@@ -407,6 +408,21 @@ next-is e near h = record {
   is = rw (← e .is);
   near = record { short = near .short; within = omega (arith, e .high); rows = omega (arith, near .rows, e .low) };
 }
+
+module _ {L : Type 0} (forms : List (Form L)) (left : ℕ) (text : List ℕ) (c : Cursor) {end : ℕ} where
+  pub end-inside : (x : Line L) → Found x end (lineAt forms left text (c .at)) (lineEnd text (c .at)) → end ≤ length text
+  unfolding endOf
+  end-inside (is l) f = omega (arith, f .ends, line-ends text (c .at) .high, line-there forms left text (c .at) l (sym (f .is)) .0)
+  end-inside (not n) f = omega (arith, f .ends)
+
+  pub goes-behind : {on : Cursor} (x : Line L) → Found x end (lineAt forms left text (c .at)) (lineEnd text (c .at)) → Near text (c .at) (c .row) → on ≡ behindLine c end → Behind x text c on
+  unfolding endOf
+  goes-behind (is l) f near e = rw e (next-is (rw (f .ends) (line-ends text (c .at))) near (line-there forms left text (c .at) l (sym (f .is)) .0))
+  goes-behind (not n) f near e = tt
+
+pub good-behind : {L : Type 0} (text : List ℕ) (c : Cursor) {on : Cursor} (x : Line L) (l : L) → Behind x text c on → x ≡ is l → Skipped text (nextLine text (cursorOf c)) on
+good-behind text c (is m) l b e = b
+good-behind text c (not n) l b e = never (cc)
 
 pub passes : {text : List ℕ} {w : Walk} {c : Cursor} → Skipped text (nextLine text (cursorIn w)) c → Passed text w (record { at = c .at; row = c .row; refused = w .refused })
 passes s = record { near = s .near; is = s .is; same = refl }

@@ -43,6 +43,15 @@ pub record Skipped (text : List ℕ) (d : def.Cursor) (r : Cursor) : Type 0 wher
   pub is : cursorOf r ≡ d
   pub near : Near text (r .at) (r .row)
 
+-- the place behind a line that ends at `end`
+abbrev pub behindLine : Cursor → ℕ → Cursor
+behindLine c end = record { at = end + 1; row = c .row + 1 }
+
+-- the place behind the line at c, unless that is at fault
+abbrev pub Behind : {L : Type 0} → Line L → List ℕ → Cursor → Cursor → Type 0
+Behind (is l) text c on = Skipped text (nextLine text (cursorOf c)) on
+Behind (not n) text c on = Unit {0}
+
 unfoldable pub linesOn : List ℕ → ℕ → def.Cursor → def.Cursor
 linesOn text zero c = c
 linesOn text (suc n) c = linesOn text n (nextLine text c)

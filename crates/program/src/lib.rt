@@ -1,13 +1,13 @@
 // The program text: checked in its order (1; then line by line 6, 5, 2, 3), and gone over in place.
 ghost use mathlib.Core.Path.{_≡_};
-ghost use Prim.Native.Nat.{_<_};
+ghost use Prim.Native.Nat.{_≤_, _<_};
 ghost use lib.ListN.{length};
 ghost use Rattle.definition.specs.Limits.{maxNesting};
 ghost use Rattle.definition.specs.Program.{nextLine};
 ghost use Rattle.field.specs.View.{lineEnd};
 ghost use Rattle.line_map.specs.View.{posView};
 ghost use Rattle.program_line.specs.View.{stmtLine, exprLine};
-ghost use Rattle.program.specs.Walk.{cursorOf, Near, Skipped, Walked, many, overExpr, overStmt, overLabel, overArm, partsOf, operandsOf, blocks, failed, Passed};
+ghost use Rattle.program.specs.Walk.{cursorOf, Near, Skipped, behindLine, Walked, many, overExpr, overStmt, overLabel, overArm, partsOf, operandsOf, blocks, failed, Passed};
 ghost use Rattle.program.specs.Check.{checkedView, checked, Headed};
 ghost use Rattle.program.specs.Ends.{endsSize, placesBelow, Sound, Holds, HeldIf, Worth, bodyPut, Noting};
 use definition::BAD_TEXT;
@@ -153,6 +153,18 @@ fn fail(w: Walk, heed: bool, n: u8) -> Walk
     w
 }
 
+// The place behind a line that ends at `end`.
+pub fn behind(text: &[u8], c: Cursor, end: usize) -> Cursor
+    requires { ⌜ Near (now text) (c .at) (c .row) ⌝ }
+    requires { ⌜ end ≤ length (now text) ⌝ }
+    ensures { λ r. ⌜ r ≡ behindLine c end ⌝ }
+{
+    Cursor {
+        at: end + 1,
+        row: c.row + 1,
+    }
+}
+
 // The place of the next line, where there is one here, which ends at `end`.
 pub fn next_line(text: &[u8], c: Cursor, end: usize) -> Cursor
     requires { ⌜ Near (now text) (c .at) (c .row) ⌝ }
@@ -160,10 +172,7 @@ pub fn next_line(text: &[u8], c: Cursor, end: usize) -> Cursor
     requires { ⌜ end ≡ lineEnd (now text) (c .at) ⌝ }
     ensures { λ r. ⌜ Skipped (now (text .entry)) (nextLine (now (text .entry)) (cursorOf c)) r ⌝ }
 {
-    Cursor {
-        at: end + 1,
-        row: c.row + 1,
-    }
+    behind(text, c, end)
 }
 
 // Over a line that is there, and ends at `end`.

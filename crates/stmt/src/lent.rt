@@ -6,7 +6,7 @@ ghost use Rattle.definition.specs.Limits.{maxCode, maxNesting};
 ghost use Rattle.definition.specs.Program.{nextLine};
 ghost use Rattle.definition.specs.Stmt.{labels, exitOf};
 ghost use Rattle.opcode.specs.Table.{sheetIn};
-ghost use Rattle.program.specs.Walk.{cursorOf, Near};
+ghost use Rattle.program.specs.Walk.{cursorOf, Near, Skipped};
 ghost use Rattle.program_shape.specs.Shape.{Shaped};
 ghost use Rattle.emit.specs.Book.{bookSize};
 ghost use Rattle.emit.specs.Steps.{Fine};
@@ -34,7 +34,7 @@ pub fn open_loop(loops: &mut [u16], inside: usize, i: u16, exit: Label, next: La
     loops::open_loop(&mut loops[..LOOPS_SIZE], inside, i, exit, next);
 }
 
-// EXIT, whose line stands at c.
+// EXIT, whose line stands at c, and the next at `on`.
 pub fn exit(
     text: &[u8],
     sheet: &[u8],
@@ -45,9 +45,9 @@ pub fn exit(
     i: u16,
     e: Emitter,
     c: Cursor,
+    on: Cursor,
 ) -> Walked
-    requires { ⌜ Near (now text) (c .at) (c .row) ⌝ }
-    requires { ⌜ c .at < length (now text) ⌝ }
+    requires { ⌜ Skipped (now text) (nextLine (now text) (cursorOf c)) on ⌝ }
     requires { ⌜ Fine e ⌝ }
     requires { ⌜ length (now code) ≡ maxCode ⌝ }
     requires { ⌜ length (now book) ≡ bookSize ⌝ }
@@ -56,10 +56,10 @@ pub fn exit(
     ensures { λ r. ⌜ Stepped (sheetIn (now (sheet .entry))) (jumpRow (c .row) (exitOf (labels i (loopsOf (opensIn (now (loops .entry)) inside))))) (now (text .entry)) (nextLine (now (text .entry)) (cursorOf c)) e (now (code .entry)) (now (book .entry)) r (now (code .exit)) (now (book .exit)) ⌝ }
 {
     let open = &loops[..LOOPS_SIZE];
-    loops::exit(text, sheet, code, book, open, inside, i, e, c)
+    loops::exit(text, sheet, code, book, open, inside, i, e, c, on)
 }
 
-// CONTINUE, whose line stands at c.
+// CONTINUE, whose line stands at c, and the next at `on`.
 pub fn continue_(
     text: &[u8],
     sheet: &[u8],
@@ -70,9 +70,9 @@ pub fn continue_(
     i: u16,
     e: Emitter,
     c: Cursor,
+    on: Cursor,
 ) -> Walked
-    requires { ⌜ Near (now text) (c .at) (c .row) ⌝ }
-    requires { ⌜ c .at < length (now text) ⌝ }
+    requires { ⌜ Skipped (now text) (nextLine (now text) (cursorOf c)) on ⌝ }
     requires { ⌜ Fine e ⌝ }
     requires { ⌜ length (now code) ≡ maxCode ⌝ }
     requires { ⌜ length (now book) ≡ bookSize ⌝ }
@@ -81,7 +81,7 @@ pub fn continue_(
     ensures { λ r. ⌜ Continues (sheetIn (now (sheet .entry))) inside i (now (text .entry)) (cursorOf c) e (now (code .entry)) (now (book .entry)) (now (loops .entry)) r (now (code .exit)) (now (book .exit)) (now (loops .exit)) ⌝ }
 {
     let open = &mut loops[..LOOPS_SIZE];
-    loops::continue_(text, sheet, code, book, open, inside, i, e, c)
+    loops::continue_(text, sheet, code, book, open, inside, i, e, c, on)
 }
 
 // Did a CONTINUE lead to the loop that was opened here?

@@ -4,13 +4,13 @@ ghost use Prim.Native.Nat.{_≤_, _<_, _+_, _-_};
 ghost use lib.ListN.{length};
 ghost use Rattle.definition.specs.Limits.{maxCode, maxNesting};
 ghost use Rattle.definition.specs.Opcode.{ret};
-ghost use Rattle.definition.specs.Program.{stmtForms, lineAt, nextLine};
+ghost use Rattle.definition.specs.Program.{stmtForms, lineAt};
 ghost use Rattle.definition.specs.Emit.{emitOpcode};
 ghost use Rattle.definition.specs.Walk.{say};
 ghost use Rattle.definition.specs.Stmt.{emitStmts};
 ghost use Rattle.opcode.specs.Table.{sheetIn};
 ghost use Rattle.program_line.specs.View.{stmtLine};
-ghost use Rattle.program.specs.Walk.{cursorOf, Near};
+ghost use Rattle.program.specs.Walk.{cursorOf, Near, Behind};
 ghost use Rattle.program_shape.specs.Shape.{blockAt};
 ghost use Rattle.emit.specs.Book.{bookSize};
 ghost use Rattle.emit.specs.View.{world};
@@ -86,9 +86,11 @@ fn sequence(
     let mut here = c;
     while more > 0 {
         let at = here.at;
-        let line = program_line::read_stmt(text, variables, left, at);
+        let next = program_line::next_stmt(text, variables, left, at);
+        let to = program::behind(text, here, next.end);
+        let line = next.line;
         let p = record_position(on, line, recording);
-        let r = stmt(text, sheet, code, book, pool, loops, ctx, line, p, here);
+        let r = stmt(text, sheet, code, book, pool, loops, ctx, line, p, here, to);
         on = r.emitter;
         here = r.cursor;
         more = more - 1;
@@ -99,7 +101,7 @@ fn sequence(
     }
 }
 
-// A statement whose line was read; its parts stand one level further in.
+// A statement whose line, at c, was read, and behind which the next stands at `on`; its parts stand one level further in.
 fn stmt(
     text: &[u8],
     sheet: &[u8],
@@ -111,49 +113,51 @@ fn stmt(
     line: StmtLine,
     e: Emitter,
     c: Cursor,
+    on: Cursor,
 ) -> Walked
     requires { ⌜ Lent (now text) (ctx .variables) (now loops) ⌝ }
     requires { ⌜ Near (now text) (c .at) (c .row) ⌝ }
     requires { ⌜ Ready (world e (now code) (now book) (now pool)) ⌝ }
     requires { ⌜ ctx .inside + ctx .left ≤ maxNesting ⌝ }
     requires { ⌜ stmtLine line ≡ lineAt (stmtForms (ctx .variables)) (ctx .left) (now text) (c .at) ⌝ }
+    requires { ⌜ Behind (stmtLine line) (now text) c on ⌝ }
     ensures { λ r. ⌜ RanStmt (sheetIn (now (sheet .entry))) ctx (now (text .entry)) (cursorOf c) (world e (now (code .entry)) (now (book .entry)) (now (pool .entry))) (world (r .emitter) (now (code .exit)) (now (book .exit)) (now (pool .exit))) (now (loops .entry)) (now (loops .exit)) (r .cursor) ⌝ }
 {
     let ctx = ctx.inner();
     match line {
         StmtLine::Assign { variable: v, .. } => {
-            assign(text, sheet, code, book, pool, ctx, v, e, c)
+            assign(text, sheet, code, book, pool, ctx, v, e, on)
         }
         StmtLine::If {
             then: n,
             otherwise: m,
             ..
-        } => if_(text, sheet, code, book, pool, loops, ctx, n, m, e, c),
+        } => if_(text, sheet, code, book, pool, loops, ctx, n, m, e, on),
         StmtLine::Case {
             arms: n,
             otherwise: m,
             ..
-        } => case(text, sheet, code, book, pool, loops, ctx, n, m, e, c),
+        } => case(text, sheet, code, book, pool, loops, ctx, n, m, e, on),
         StmtLine::For {
             loop_number: i,
             variable: v,
             step: k,
             body: n,
             ..
-        } => for_(text, sheet, code, book, pool, loops, ctx, i, v, k, n, e, c),
+        } => for_(text, sheet, code, book, pool, loops, ctx, i, v, k, n, e, on),
         StmtLine::Loop {
             loop_number: i,
             body: n,
             continuing: m,
             ..
-        } => loop_(text, sheet, code, book, pool, loops, ctx, i, n, m, e, c),
+        } => loop_(text, sheet, code, book, pool, loops, ctx, i, n, m, e, on),
         StmtLine::Exit { loop_number: i, .. } => {
-            lent::exit(text, sheet, code, book, loops, ctx.inside, i, e, c)
+            lent::exit(text, sheet, code, book, loops, ctx.inside, i, e, c, on)
         }
         StmtLine::Continue { loop_number: i, .. } => {
-            lent::continue_(text, sheet, code, book, loops, ctx.inside, i, e, c)
+            lent::continue_(text, sheet, code, book, loops, ctx.inside, i, e, c, on)
         }
-        StmtLine::Return { .. } => return_(text, sheet, code, book, e, c),
+        StmtLine::Return { .. } => return_(text, sheet, code, book, e, on),
         StmtLine::Bad(n) => Walked {
             cursor: c,
             emitter: e.refuse(n, c.row),
@@ -161,7 +165,7 @@ fn stmt(
     }
 }
 
-// An assignment, whose line stands at c.
+// An assignment, behind its line.
 fn assign(
     text: &[u8],
     sheet: &[u8],
@@ -174,22 +178,20 @@ fn assign(
     c: Cursor,
 ) -> Walked
     requires { ⌜ Near (now text) (c .at) (c .row) ⌝ }
-    requires { ⌜ c .at < length (now text) ⌝ }
     requires { ⌜ Ready (world e (now code) (now book) (now pool)) ⌝ }
     requires { ⌜ ctx .left ≤ maxNesting ⌝ }
-    ensures { λ r. ⌜ Went (sheetIn (now (sheet .entry))) (emitAssign v (exprIn ctx (now (text .entry)) (nextLine (now (text .entry)) (cursorOf c)) .0)) (now (text .entry)) (exprIn ctx (now (text .entry)) (nextLine (now (text .entry)) (cursorOf c)) .1) (world e (now (code .entry)) (now (book .entry)) (now (pool .entry))) (world (r .emitter) (now (code .exit)) (now (book .exit)) (now (pool .exit))) (r .cursor) ⌝ }
+    ensures { λ r. ⌜ Went (sheetIn (now (sheet .entry))) (emitAssign v (exprIn ctx (now (text .entry)) (cursorOf c) .0)) (now (text .entry)) (exprIn ctx (now (text .entry)) (cursorOf c) .1) (world e (now (code .entry)) (now (book .entry)) (now (pool .entry))) (world (r .emitter) (now (code .exit)) (now (book .exit)) (now (pool .exit))) (r .cursor) ⌝ }
 {
     let vs = ctx.variables;
     let left = ctx.left;
-    let next = program::next_line(text, c);
-    let a = expr::emit_expr(text, sheet, code, book, pool, vs, left, 0, e, next);
+    let a = expr::emit_expr(text, sheet, code, book, pool, vs, left, 0, e, c);
     let cursor = a.cursor;
     let on = a.emitter;
     let emitter = compile_expr::emit_store_var(on, sheet, code, book, v);
     Walked { cursor, emitter }
 }
 
-// A RETURN, whose line stands at c.
+// A RETURN, behind its line.
 fn return_(
     text: &[u8],
     sheet: &[u8],
@@ -199,18 +201,16 @@ fn return_(
     c: Cursor,
 ) -> Walked
     requires { ⌜ Near (now text) (c .at) (c .row) ⌝ }
-    requires { ⌜ c .at < length (now text) ⌝ }
     requires { ⌜ Fine e ⌝ }
     requires { ⌜ length (now code) ≡ maxCode ⌝ }
     requires { ⌜ length (now book) ≡ bookSize ⌝ }
-    ensures { λ r. ⌜ Stepped (sheetIn (now (sheet .entry))) (say (emitOpcode ret)) (now (text .entry)) (nextLine (now (text .entry)) (cursorOf c)) e (now (code .entry)) (now (book .entry)) r (now (code .exit)) (now (book .exit)) ⌝ }
+    ensures { λ r. ⌜ Stepped (sheetIn (now (sheet .entry))) (say (emitOpcode ret)) (now (text .entry)) (cursorOf c) e (now (code .entry)) (now (book .entry)) r (now (code .exit)) (now (book .exit)) ⌝ }
 {
-    let cursor = program::next_line(text, c);
     let emitter = e.emit_opcode(sheet, code, book, Role::Ret);
-    Walked { cursor, emitter }
+    Walked { cursor: c, emitter }
 }
 
-// An IF, whose line stands at c.
+// An IF, behind its line.
 fn if_(
     text: &[u8],
     sheet: &[u8],
@@ -228,16 +228,14 @@ fn if_(
     requires { ⌜ Near (now text) (c .at) (c .row) ⌝ }
     requires { ⌜ Ready (world e (now code) (now book) (now pool)) ⌝ }
     requires { ⌜ ctx .inside + 1 + ctx .left ≤ maxNesting ⌝ }
-    requires { ⌜ c .at < length (now text) ⌝ }
-    ensures { λ r. ⌜ RanIf (sheetIn (now (sheet .entry))) ctx (now (text .entry)) n m (nextLine (now (text .entry)) (cursorOf c)) (world e (now (code .entry)) (now (book .entry)) (now (pool .entry))) (world (r .emitter) (now (code .exit)) (now (book .exit)) (now (pool .exit))) (now (loops .entry)) (now (loops .exit)) (r .cursor) ⌝ }
+    ensures { λ r. ⌜ RanIf (sheetIn (now (sheet .entry))) ctx (now (text .entry)) n m (cursorOf c) (world e (now (code .entry)) (now (book .entry)) (now (pool .entry))) (world (r .emitter) (now (code .exit)) (now (book .exit)) (now (pool .exit))) (now (loops .entry)) (now (loops .exit)) (r .cursor) ⌝ }
 {
     let n = n as usize;
     let m = m as usize;
-    let on = program::next_line(text, c);
     let next = e.create_label(book);
     let label = next.label;
     let e1 = next.emitter;
-    let a = conditions::branch_unless(text, sheet, code, book, pool, ctx, e1, on, label);
+    let a = conditions::branch_unless(text, sheet, code, book, pool, ctx, e1, c, label);
     let e2 = a.emitter;
     let c2 = a.cursor;
     let b = sequence(text, sheet, code, book, pool, loops, ctx, true, n, e2, c2);
@@ -282,7 +280,7 @@ fn else_(
     Walked { cursor, emitter }
 }
 
-// A CASE, whose line stands at c: n arms, and m statements if none fits.
+// A CASE, behind its line: n arms, and m statements if none fits.
 fn case(
     text: &[u8],
     sheet: &[u8],
@@ -300,15 +298,13 @@ fn case(
     requires { ⌜ Near (now text) (c .at) (c .row) ⌝ }
     requires { ⌜ Ready (world e (now code) (now book) (now pool)) ⌝ }
     requires { ⌜ ctx .inside + 1 + ctx .left ≤ maxNesting ⌝ }
-    requires { ⌜ c .at < length (now text) ⌝ }
-    ensures { λ r. ⌜ RanCase (sheetIn (now (sheet .entry))) ctx (now (text .entry)) n m (nextLine (now (text .entry)) (cursorOf c)) (world e (now (code .entry)) (now (book .entry)) (now (pool .entry))) (world (r .emitter) (now (code .exit)) (now (book .exit)) (now (pool .exit))) (now (loops .entry)) (now (loops .exit)) (r .cursor) ⌝ }
+    ensures { λ r. ⌜ RanCase (sheetIn (now (sheet .entry))) ctx (now (text .entry)) n m (cursorOf c) (world e (now (code .entry)) (now (book .entry)) (now (pool .entry))) (world (r .emitter) (now (code .exit)) (now (book .exit)) (now (pool .exit))) (now (loops .entry)) (now (loops .exit)) (r .cursor) ⌝ }
 {
     let n = n as usize;
     let m = m as usize;
     let vs = ctx.variables;
     let left = ctx.left;
-    let on = program::next_line(text, c);
-    let a = expr::emit_expr(text, sheet, code, book, pool, vs, left, 0, e, on);
+    let a = expr::emit_expr(text, sheet, code, book, pool, vs, left, 0, e, c);
     let e1 = a.emitter;
     let c1 = a.cursor;
     let made = e1.create_label(book);
@@ -352,7 +348,9 @@ fn arms(
     while more > 0 {
         let at = here.at;
         let row = here.row;
-        let p = labels::arm_parts(program_line::read_arm(text, left, at));
+        let read = program_line::next_arm(text, left, at);
+        let line = read.line;
+        let p = labels::arm_parts(line);
         if p.bad != 0 {
             let emitter = on.refuse(p.bad, row);
             return Walked {
@@ -360,7 +358,7 @@ fn arms(
                 emitter,
             };
         }
-        let next = program::next_line(text, here);
+        let next = program::next_line(text, here, read.end);
         let r = arm(text, sheet, code, book, pool, loops, ctx, p, on, next, end);
         on = r.emitter;
         here = r.cursor;
@@ -413,7 +411,7 @@ fn arm(
     Walked { cursor, emitter }
 }
 
-// A FOR, whose line stands at c. Its end is looked at before its start is emitted.
+// A FOR, behind its line. Its end is looked at before its start is emitted.
 fn for_(
     text: &[u8],
     sheet: &[u8],
@@ -433,16 +431,14 @@ fn for_(
     requires { ⌜ Near (now text) (c .at) (c .row) ⌝ }
     requires { ⌜ Ready (world e (now code) (now book) (now pool)) ⌝ }
     requires { ⌜ ctx .inside + 1 + ctx .left ≤ maxNesting ⌝ }
-    requires { ⌜ c .at < length (now text) ⌝ }
-    ensures { λ r. ⌜ RanFor (sheetIn (now (sheet .entry))) ctx (now (text .entry)) i v step n (nextLine (now (text .entry)) (cursorOf c)) (world e (now (code .entry)) (now (book .entry)) (now (pool .entry))) (world (r .emitter) (now (code .exit)) (now (book .exit)) (now (pool .exit))) (now (loops .entry)) (now (loops .exit)) (r .cursor) ⌝ }
+    ensures { λ r. ⌜ RanFor (sheetIn (now (sheet .entry))) ctx (now (text .entry)) i v step n (cursorOf c) (world e (now (code .entry)) (now (book .entry)) (now (pool .entry))) (world (r .emitter) (now (code .exit)) (now (book .exit)) (now (pool .exit))) (now (loops .entry)) (now (loops .exit)) (r .cursor) ⌝ }
 {
     let n = n as usize;
     let vs = ctx.variables;
     let left = ctx.left;
-    let on = program::next_line(text, c);
-    let to = program_shape::skip_expr(text, vs, left, on);
+    let to = program_shape::skip_expr(text, vs, left, c);
     let seen = program_shape::operand_at(text, vs, left, to);
-    let a = expr::emit_expr(text, sheet, code, book, pool, vs, left, 0, e, on);
+    let a = expr::emit_expr(text, sheet, code, book, pool, vs, left, 0, e, c);
     let e1 = a.emitter;
     let e2 = compile_expr::emit_store_var(e1, sheet, code, book, v);
     let made = e2.create_label(book);
@@ -475,7 +471,7 @@ fn for_(
     Walked { cursor, emitter }
 }
 
-// A loop, whose line stands at c, by its shape.
+// A loop, behind its line, by its shape.
 fn loop_(
     text: &[u8],
     sheet: &[u8],
@@ -494,11 +490,9 @@ fn loop_(
     requires { ⌜ Near (now text) (c .at) (c .row) ⌝ }
     requires { ⌜ Ready (world e (now code) (now book) (now pool)) ⌝ }
     requires { ⌜ ctx .inside + 1 + ctx .left ≤ maxNesting ⌝ }
-    requires { ⌜ c .at < length (now text) ⌝ }
-    ensures { λ r. ⌜ RanLoop (sheetIn (now (sheet .entry))) ctx (now (text .entry)) i n m (nextLine (now (text .entry)) (cursorOf c)) (world e (now (code .entry)) (now (book .entry)) (now (pool .entry))) (world (r .emitter) (now (code .exit)) (now (book .exit)) (now (pool .exit))) (now (loops .entry)) (now (loops .exit)) (r .cursor) ⌝ }
+    ensures { λ r. ⌜ RanLoop (sheetIn (now (sheet .entry))) ctx (now (text .entry)) i n m (cursorOf c) (world e (now (code .entry)) (now (book .entry)) (now (pool .entry))) (world (r .emitter) (now (code .exit)) (now (book .exit)) (now (pool .exit))) (now (loops .entry)) (now (loops .exit)) (r .cursor) ⌝ }
 {
-    let on = program::next_line(text, c);
-    let shape = lent::loop_shape(text, loops, ctx, on, i, n, m);
+    let shape = lent::loop_shape(text, loops, ctx, c, i, n, m);
     match shape {
         Shape::While { condition, rest } => {
             let k = stmt_parts::below(n as usize);
@@ -530,12 +524,12 @@ fn loop_(
                 i,
                 k,
                 e,
-                on,
+                c,
                 condition,
                 end,
             )
         }
-        Shape::Plain => plain(text, sheet, code, book, pool, loops, ctx, i, n, m, e, on),
+        Shape::Plain => plain(text, sheet, code, book, pool, loops, ctx, i, n, m, e, c),
     }
 }
 

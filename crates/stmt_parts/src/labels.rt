@@ -122,15 +122,17 @@ fn test_label(
 {
     let at = c.at;
     let row = c.row;
-    let line = program_line::read_label(text, left, at);
+    let r = program_line::next_label(text, left, at);
+    let end = r.end;
+    let line = r.line;
     match line {
         LabelLine::Value(k) => {
-            let cursor = program::next_line(text, c);
+            let cursor = program::next_line(text, c, end);
             let emitter = test_value(e, sheet, code, book, pool, k, fail);
             Walked { cursor, emitter }
         }
         LabelLine::Range(low, high) => {
-            let cursor = program::next_line(text, c);
+            let cursor = program::next_line(text, c, end);
             let emitter = test_range(e, sheet, code, book, pool, low, high, fail);
             Walked { cursor, emitter }
         }

@@ -7,7 +7,7 @@ ghost use Rattle.definition.specs.Limits.{maxCode, maxNesting};
 ghost use Rattle.definition.specs.Program.{nextLine};
 ghost use Rattle.definition.specs.Stmt.{labels, exitOf};
 ghost use Rattle.opcode.specs.Table.{sheetIn};
-ghost use Rattle.program.specs.Walk.{cursorOf, Near};
+ghost use Rattle.program.specs.Walk.{cursorOf, Skipped};
 ghost use Rattle.emit.specs.Book.{bookSize};
 ghost use Rattle.emit.specs.Steps.{Fine};
 ghost use Rattle.stmt_parts.specs.Loops.{loopsSize, openAt, opensIn, loopsOf, Opened, Finds};
@@ -54,7 +54,7 @@ pub fn labels(loops: &[u16], inside: usize, i: u16) -> usize
     0
 }
 
-// EXIT, whose line stands at c: to the end of its loop (4).
+// EXIT, whose line stands at c, and the next at `on`: to the end of its loop (4).
 pub fn exit(
     text: &[u8],
     sheet: &[u8],
@@ -65,9 +65,9 @@ pub fn exit(
     i: u16,
     e: Emitter,
     c: Cursor,
+    on: Cursor,
 ) -> Walked
-    requires { ⌜ Near (now text) (c .at) (c .row) ⌝ }
-    requires { ⌜ c .at < length (now text) ⌝ }
+    requires { ⌜ Skipped (now text) (nextLine (now text) (cursorOf c)) on ⌝ }
     requires { ⌜ Fine e ⌝ }
     requires { ⌜ length (now code) ≡ maxCode ⌝ }
     requires { ⌜ length (now book) ≡ bookSize ⌝ }
@@ -76,19 +76,24 @@ pub fn exit(
     ensures { λ r. ⌜ Stepped (sheetIn (now (sheet .entry))) (jumpRow (c .row) (exitOf (labels i (loopsOf (opensIn (now (loops .entry)) inside))))) (now (text .entry)) (nextLine (now (text .entry)) (cursorOf c)) e (now (code .entry)) (now (book .entry)) r (now (code .exit)) (now (book .exit)) ⌝ }
 {
     let row = c.row;
-    let cursor = program::next_line(text, c);
     let found = labels(loops, inside, i);
     if found == 0 {
         let emitter = e.refuse(NO_LOOP, row);
-        return Walked { cursor, emitter };
+        return Walked {
+            cursor: on,
+            emitter,
+        };
     }
     let at = LOOP_SIZE * (found - 1);
     let l = loops[at + 1];
     let emitter = e.emit_jmp(sheet, code, book, Label(l));
-    Walked { cursor, emitter }
+    Walked {
+        cursor: on,
+        emitter,
+    }
 }
 
-// CONTINUE, whose line stands at c: to where its loop goes on (4); that label is used from here on.
+// CONTINUE, whose line stands at c, and the next at `on`: to where its loop goes on (4); that label is used from here on.
 pub fn continue_(
     text: &[u8],
     sheet: &[u8],
@@ -99,9 +104,9 @@ pub fn continue_(
     i: u16,
     e: Emitter,
     c: Cursor,
+    on: Cursor,
 ) -> Walked
-    requires { ⌜ Near (now text) (c .at) (c .row) ⌝ }
-    requires { ⌜ c .at < length (now text) ⌝ }
+    requires { ⌜ Skipped (now text) (nextLine (now text) (cursorOf c)) on ⌝ }
     requires { ⌜ Fine e ⌝ }
     requires { ⌜ length (now code) ≡ maxCode ⌝ }
     requires { ⌜ length (now book) ≡ bookSize ⌝ }
@@ -110,17 +115,22 @@ pub fn continue_(
     ensures { λ r. ⌜ Continued (sheetIn (now (sheet .entry))) inside i (now (text .entry)) (cursorOf c) e (now (code .entry)) (now (book .entry)) (now (loops .entry)) r (now (code .exit)) (now (book .exit)) (now (loops .exit)) ⌝ }
 {
     let row = c.row;
-    let cursor = program::next_line(text, c);
     let k = labels(loops, inside, i);
     if k == 0 {
         let emitter = e.refuse(NO_LOOP, row);
-        return Walked { cursor, emitter };
+        return Walked {
+            cursor: on,
+            emitter,
+        };
     }
     let at = LOOP_SIZE * (k - 1);
     let l = loops[at + 2];
     loops[at + 3] = 1;
     let emitter = e.emit_jmp(sheet, code, book, Label(l));
-    Walked { cursor, emitter }
+    Walked {
+        cursor: on,
+        emitter,
+    }
 }
 
 // Did a CONTINUE lead to the loop that was opened here?
