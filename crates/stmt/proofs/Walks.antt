@@ -10,6 +10,7 @@ use Rattle.definition.specs.Walk.{Calls}
 use Rattle.definition.specs.Walk as walk
 use Rattle.definition.specs.Stmt.{Loops, recordPosition, sourceOf, emitStmt, emitBlock, emitStmts}
 use Rattle.program.specs.declared.Cursor.{Cursor}
+use Rattle.program.specs.Walk.{cursorOf, Near, Skipped}
 use Rattle.emit.specs.View.{World}
 use Rattle.emit.specs.Steps.{run, Filled}
 use Rattle.expr.specs.Went.{Went}
@@ -17,6 +18,10 @@ use Rattle.expr.proofs.Laws.{went}
 use Rattle.stmt_parts.specs.Loops.{Open, opensIn, loopsOf, marked}
 use Rattle.stmt.specs.Blocks.{recordedBy, emitSequence}
 use Rattle.stmt.specs.Ran.{Ran}
+
+-- a place that stands where it is
+pub stands-here : {text : List ℕ} {c : Cursor} → Near text (c .at) (c .row) → Skipped text (cursorOf c) c
+stands-here near = record { is = refl; near = near }
 
 -- ---- open loops
 

@@ -11,11 +11,10 @@ pub continue--spec : {M : Type 1} → statement M
 continue--spec =
     tie.close
     (tie.spec
-    (λ c κs. (c .before .before .before .before .before .pre .0, c .before .before .before .before .before .pre .1 .0))  -- next-line-requires
     (λ c κs. search needs)  -- labels-requires
     (λ c κs. search needs)  -- refuse-requires
     (λ c. search needs)  -- same-length
-    (λ c. continue-none _ _ _ _ _ (c .before .before .before .before .next-line .ensures) _ (c .before .before .labels .ensures) (c .before .if1 .taken) (c .before .before .before .before .before .before .before .before .before .before .pre .1 .1 .1 .0) (c .before .before .before .before .before .before .before .before .before .before .pre .1 .1 .1 .1 .0) (c .before .before .before .before .before .before .before .before .before .before .pre .1 .1 .1 .1 .1 .0) (c .refuse .ensures))  -- returns
+    (λ c. continue-none _ _ _ _ _ (c .before .before .before .before .before .before .before .before .before .pre .0) _ (c .before .before .labels .ensures) (c .before .if1 .taken) (c .before .before .before .before .before .before .before .before .before .pre .1 .1 .0) (c .before .before .before .before .before .before .before .before .before .pre .1 .1 .1 .0) (c .before .before .before .before .before .before .before .before .before .pre .1 .1 .1 .1 .0) (c .refuse .ensures))  -- returns
     (λ c. search needs)  -- sub-at
     (λ c. search needs)  -- mul-at
     (λ c. search needs)  -- add-l
@@ -28,4 +27,4 @@ continue--spec =
     (λ c. search needs)  -- same-length-2
     (λ c. search needs)  -- same-length-3
     (λ c. search needs)  -- same-length-4
-    (λ c. continue-found _ _ _ _ _ (c .before .before .before .before .before .before .before .before .before .before .before .next-line .ensures) _ (c .before .before .before .before .before .before .before .before .before .labels .ensures) (c .before .before .before .before .before .before .before .before .if1 .left) (c .before .before .before .before .before .before .before .before .before .before .before .before .before .before .before .before .before .pre .1 .1 .1 .1 .1 .1) (c .before .before .before .before .before .before .before .before .before .before .before .before .before .before .before .before .before .pre .1 .1 .1 .1 .1 .0) refl (c .before .before .before .before .emit-jmp .ensures)))  -- returns-2
+    (λ c. continue-found _ _ _ _ _ (c .before .before .before .before .before .before .before .before .before .before .before .before .before .before .before .before .pre .0) _ (c .before .before .before .before .before .before .before .before .before .labels .ensures) (c .before .before .before .before .before .before .before .before .if1 .left) (c .before .before .before .before .before .before .before .before .before .before .before .before .before .before .before .before .pre .1 .1 .1 .1 .1) (c .before .before .before .before .before .before .before .before .before .before .before .before .before .before .before .before .pre .1 .1 .1 .1 .0) refl (c .before .before .before .before .emit-jmp .ensures)))  -- returns-2
