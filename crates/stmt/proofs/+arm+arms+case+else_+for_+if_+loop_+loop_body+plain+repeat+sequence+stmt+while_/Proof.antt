@@ -3,11 +3,12 @@ use Prim.Native.Nat.{_+_, _*_, ℕ, _<_}
 use mathlib.Core.Path.{refl, _∙_, ap, sym}
 use native.Mathlib.Omega.{arith}
 use Rattle.opcode.specs.Table.{sheetIn}
-use Rattle.program.proofs.Laws.{line-there}
+use Rattle.program.proofs.Laws.{line-there, good-behind, end-inside, goes-behind}
+use Rattle.program_line.proofs.Laws.{good-end}
 use Rattle.program.specs.Walk.{cursorOf}
 use Rattle.program_line.specs.View.{stmtLine}
 use Rattle.emit.specs.View.{world}
-use Rattle.stmt.proofs.Walks.{nested, from-loops}
+use Rattle.stmt.proofs.Walks.{nested, from-loops, stands-here}
 use Rattle.stmt.proofs.Behind.{lent-behind, inner-lent, loop-lent}
 use Rattle.stmt_parts.proofs.Walks.{inner-left, inner-inside, loop-left, loop-inside}
 use Rattle.stmt_parts.proofs.Jumps.{bad-line}
@@ -63,9 +64,10 @@ use Rattle.emit.proofs.Emitter.emit_jmp.Reads as emit-jmp-reads
 use Rattle.emit.proofs.Emitter.emit_opcode.Reads as emit-opcode-reads
 use Rattle.emit.proofs.Emitter.refuse.Reads as refuse-reads
 use Rattle.expr.proofs.emit_expr.Reads as emit-expr-reads
+use Rattle.program.proofs.behind.Reads as behind-reads
 use Rattle.program.proofs.next_line.Reads as next-line-reads
-use Rattle.program_line.proofs.read_arm.Reads as read-arm-reads
-use Rattle.program_line.proofs.read_stmt.Reads as read-stmt-reads
+use Rattle.program_line.proofs.next_arm.Reads as next-arm-reads
+use Rattle.program_line.proofs.next_stmt.Reads as next-stmt-reads
 use Rattle.program_shape.proofs.operand_at.Reads as operand-at-reads
 use Rattle.program_shape.proofs.skip_block.Reads as skip-block-reads
 use Rattle.program_shape.proofs.skip_expr.Reads as skip-expr-reads
@@ -269,8 +271,8 @@ pub +arm+arms+case+else-+for-+if-+loop-+loop-body+plain+repeat+sequence+stmt+whi
     (λ c. c .before .before .before .before .before .before .before .before .before .before .before .before .before .before .before .before .before .sequence .ensures .slots .size ∙ sym (c .before .before .before .before .before .before .before .before .before .before .before .before .before .before .before .before .before .before .before .before .before .before .before .before .before .before .before .before .before .before .before .before .before .before .before .before .before .before .before .before .before .before .before .before .before .before .before .before .before .before .before .before .before .before .pre .1 .0 .size))  -- arm-same-length-4
     (λ c. arm-some _ _ _ _ _ _ _ (c .before .before .before .before .before .before .before .before .before .before .before .before .before .before .before .before .before .before .before .before .before .before .before .before .before .before .before .before .before .before .before .before .before .before .before .before .before .before .before .before .before .before .before .before .before .before .before .before .before .before .before .before .before .before .pre .1 .1 .1 .0) (c .before .before .before .before .before .before .before .before .before .before .before .before .before .before .before .before .before .before .before .before .before .before .before .before .before .before .before .before .before .before .before .before .before .before .before .before .before .before .before .before .before .before .before .before .before .before .before .if1 .left) (c .before .before .before .before .before .before .before .before .before .before .before .before .before .before .before .before .before .before .before .before .before .before .before .before .before .before .before .before .before .before .before .before .before .before .before .before .before .before .before .before .before .before .before .before .before .create-label .ensures) (c .before .before .before .before .before .before .before .before .before .before .before .before .before .before .before .before .before .before .before .before .before .before .before .before .before .before .before .before .before .before .before .before .before .before .before .before .before .open-arm .ensures) (c .before .before .before .before .before .before .before .before .before .before .before .before .before .before .before .before .before .before .before .before .before .before .before .before .before .before .emit-opcode .ensures) (nested _ (c .before .before .before .before .before .before .before .before .before .before .before .before .before .before .before .before .before .sequence .ensures)) (c .before .before .before .before .close-arm .ensures)))  -- arm-returns-2
     (λ t. arms-lts.spec (
-      read-arm-reads.Asked,
-      read-arm-reads.Learnt,
+      next-arm-reads.Asked,
+      next-arm-reads.Learnt,
       arm-parts-reads.Asked,
       arm-parts-reads.Learnt,
       refuse-reads.Asked,
@@ -285,27 +287,25 @@ pub +arm+arms+case+else-+for-+if-+loop-+loop-body+plain+repeat+sequence+stmt+whi
     arms-Inv-loop
     arms-μ-loop
     (λ c. arms-begin _ _ _ _ _ _ _ _ (c .before .before .before .before .before .before .pre .1 .0) (c .before .before .before .before .before .before .pre .1 .1 .0) (c .before .before .before .before .before .before .pre .1 .1 .1 .0))  -- arms-loop-holds
-    (λ c κs. search needs)  -- arms-read-arm-requires
+    (λ c κs. search needs)  -- arms-next-arm-requires
     (λ c κs. search needs)  -- arms-arm-parts-requires
-    (λ c κs. (c .before .before .before .before .before .loop .inv .ready .fine, bad-line _ _ _ _ _ (parts-not _ _ _ _ _ (c .before .before .arm-parts .ensures) (c .before .before .before .read-arm .ensures) (c .if1 .taken))))  -- arms-refuse-requires
+    (λ c κs. (c .before .before .before .before .before .loop .inv .ready .fine, bad-line _ _ _ _ _ (parts-not _ _ _ _ _ (c .before .before .arm-parts .ensures) (c .before .before .before .next-arm .ensures .is) (c .if1 .taken))))  -- arms-refuse-requires
     (λ c. c .before .before .before .before .before .before .loop .inv .ready .room ∙ sym (c .before .before .before .before .before .before .before .before .before .before .before .before .before .pre .1 .1 .1 .0 .room))  -- arms-same-length
     (λ c. c .before .before .before .before .before .before .loop .inv .ready .slots ∙ sym (c .before .before .before .before .before .before .before .before .before .before .before .before .before .pre .1 .1 .1 .0 .slots))  -- arms-same-length-2
     (λ c. c .before .before .before .before .before .before .loop .inv .ready .long .size ∙ sym (c .before .before .before .before .before .before .before .before .before .before .before .before .before .pre .1 .1 .1 .0 .long .size))  -- arms-same-length-3
     (λ c. c .before .before .before .before .before .before .loop .inv .slots .size ∙ sym (c .before .before .before .before .before .before .before .before .before .before .before .before .before .pre .1 .0 .size))  -- arms-same-length-4
-    (λ c. arms-bad (c .before .before .before .before .before .before .loop .inv) _ (parts-not _ _ _ _ _ (c .before .before .before .arm-parts .ensures) (c .before .before .before .before .read-arm .ensures) (c .before .if1 .taken)) (c .before .before .before .before .before .loop-test .taken) (c .refuse .ensures))  -- arms-returns
-    (λ c κs. (c .before .before .before .before .before .loop .inv .near, line-there _ _ _ _ _ (parts-is _ _ _ _ _ (c .before .before .arm-parts .ensures) (c .before .before .before .read-arm .ensures) (c .if1 .left)) .0))  -- arms-next-line-requires
+    (λ c. arms-bad (c .before .before .before .before .before .before .loop .inv) _ (parts-not _ _ _ _ _ (c .before .before .before .arm-parts .ensures) (c .before .before .before .before .next-arm .ensures .is) (c .before .if1 .taken)) (c .before .before .before .before .before .loop-test .taken) (c .refuse .ensures))  -- arms-returns
+    (λ c κs. (c .before .before .before .before .before .loop .inv .near, (line-there _ _ _ _ _ (parts-is _ _ _ _ _ (c .before .before .arm-parts .ensures) (c .before .before .before .next-arm .ensures .is) (c .if1 .left)) .0, good-end _ (c .before .before .before .next-arm .ensures) (c .before .before .before .next-arm .ensures .is ∙ parts-is _ _ _ _ _ (c .before .before .arm-parts .ensures) (c .before .before .before .next-arm .ensures .is) (c .if1 .left)))))  -- arms-next-line-requires
     (λ c κs. (omega (arith, c .before .before .before .before .before .before .before .before .before .before .before .before .before .before .before .before .before .pre .0), (c .before .before .before .before .before .before .before .before .before .before .loop .inv .slots, (c .before .before .before .before .next-line .ensures .near, (c .before .before .before .before .before .before .before .before .before .before .loop .inv .ready, c .before .before .before .before .before .before .before .before .before .before .before .before .before .before .before .before .before .pre .1 .1 .1 .1)))))  -- arms-arm-requires
     (λ c. omega (arith, c .before .before .before .before .before .before .before .before .before .before .before .before .before .before .before .before .before .before .before .before .loop-test .taken))  -- arms-sub-more
     (λ c. omega (arith, c .before .before .before .before .before .before .before .before .before .before .before .before .before .before .before .before .before .before .before .before .loop-test .taken))  -- arms-loop-less
-    (λ c. arms-on (c .before .before .before .before .before .before .before .before .before .before .before .before .before .before .before .before .before .before .before .before .before .loop .inv) _ _ (parts-is _ _ _ _ _ (c .before .before .before .before .before .before .before .before .before .before .before .before .before .before .before .before .before .before .arm-parts .ensures) (c .before .before .before .before .before .before .before .before .before .before .before .before .before .before .before .before .before .before .before .read-arm .ensures) (c .before .before .before .before .before .before .before .before .before .before .before .before .before .before .before .before .if1 .left)) (c .before .before .before .before .before .before .before .before .before .before .before .before .before .before .before .next-line .ensures) (c .before .before .before .before .before .before .before .before .before .before .arm .ensures) (c .before .before .before .before .before .before .before .before .before .before .before .before .before .before .before .before .before .before .before .before .loop-test .taken))  -- arms-loop-again
+    (λ c. arms-on (c .before .before .before .before .before .before .before .before .before .before .before .before .before .before .before .before .before .before .before .before .before .loop .inv) _ _ (parts-is _ _ _ _ _ (c .before .before .before .before .before .before .before .before .before .before .before .before .before .before .before .before .before .before .arm-parts .ensures) (c .before .before .before .before .before .before .before .before .before .before .before .before .before .before .before .before .before .before .before .next-arm .ensures .is) (c .before .before .before .before .before .before .before .before .before .before .before .before .before .before .before .before .if1 .left)) (c .before .before .before .before .before .before .before .before .before .before .before .before .before .before .before .next-line .ensures) (c .before .before .before .before .before .before .before .before .before .before .arm .ensures) (c .before .before .before .before .before .before .before .before .before .before .before .before .before .before .before .before .before .before .before .before .loop-test .taken))  -- arms-loop-again
     (λ c. c .before .loop .inv .ready .room ∙ sym (c .before .before .before .before .before .before .before .before .pre .1 .1 .1 .0 .room))  -- arms-same-length-5
     (λ c. c .before .loop .inv .ready .slots ∙ sym (c .before .before .before .before .before .before .before .before .pre .1 .1 .1 .0 .slots))  -- arms-same-length-6
     (λ c. c .before .loop .inv .ready .long .size ∙ sym (c .before .before .before .before .before .before .before .before .pre .1 .1 .1 .0 .long .size))  -- arms-same-length-7
     (λ c. c .before .loop .inv .slots .size ∙ sym (c .before .before .before .before .before .before .before .before .pre .1 .0 .size))  -- arms-same-length-8
     (λ c. arms-end (c .before .loop .inv) (c .loop-test .left)))  -- arms-returns-2
     (λ t. case-lts.spec (
-      next-line-reads.Asked,
-      next-line-reads.Learnt,
       emit-expr-reads.Asked,
       emit-expr-reads.Learnt,
       create-label-reads.Asked,
@@ -321,18 +321,17 @@ pub +arm+arms+case+else-+for-+if-+loop-+loop-body+plain+repeat+sequence+stmt+whi
     )
     (case-at t)
     case.Post
-    (λ c κs. (c .before .before .before .before .before .before .pre .1 .1 .0, c .before .before .before .before .before .before .pre .1 .1 .1 .1 .1))  -- case-next-line-requires
-    (λ c κs. (c .before .before .before .next-line .ensures .near, (c .before .before .before .before .before .before .before .before .before .before .pre .1 .1 .1 .0, omega (arith, c .before .before .before .before .before .before .before .before .before .before .pre .1 .1 .1 .1 .0))))  -- case-emit-expr-requires
+    (λ c κs. (c .before .before .before .before .before .before .before .before .before .pre .1 .1 .0, (c .before .before .before .before .before .before .before .before .before .pre .1 .1 .1 .0, omega (arith, c .before .before .before .before .before .before .before .before .before .pre .1 .1 .1 .1))))  -- case-emit-expr-requires
     (λ c κs. (c .before .before .before .before .before .before .before .before .before .emit-expr .ensures .ready .fine, c .before .before .before .before .before .before .before .before .before .emit-expr .ensures .ready .slots))  -- case-create-label-requires
-    (λ c κs. (omega (arith, c .before .before .before .before .before .before .before .before .before .before .before .before .before .before .before .before .before .before .before .before .before .before .before .before .before .before .before .before .before .pre .0), (c .before .before .before .before .before .before .before .before .before .before .before .before .before .before .before .before .before .before .before .before .before .before .before .before .before .before .before .before .before .pre .1 .0, (c .before .before .before .before .before .before .before .before .before .before .before .before .before .before .before .before .before .before .emit-expr .ensures .near, (record { fine = c .before .before .before .before .before .before .before .before .create-label .ensures .fine; room = c .before .before .before .before .before .before .before .before .before .before .before .before .before .before .before .before .before .before .emit-expr .ensures .ready .room; slots = c .before .before .before .before .before .before .before .before .create-label .ensures .slots; long = c .before .before .before .before .before .before .before .before .before .before .before .before .before .before .before .before .before .before .emit-expr .ensures .ready .long }, c .before .before .before .before .before .before .before .before .before .before .before .before .before .before .before .before .before .before .before .before .before .before .before .before .before .before .before .before .before .pre .1 .1 .1 .1 .0)))))  -- case-arms-requires
+    (λ c κs. (omega (arith, c .before .before .before .before .before .before .before .before .before .before .before .before .before .before .before .before .before .before .before .before .before .before .before .before .before .before .before .before .pre .0), (c .before .before .before .before .before .before .before .before .before .before .before .before .before .before .before .before .before .before .before .before .before .before .before .before .before .before .before .before .pre .1 .0, (c .before .before .before .before .before .before .before .before .before .before .before .before .before .before .before .before .before .before .emit-expr .ensures .near, (record { fine = c .before .before .before .before .before .before .before .before .create-label .ensures .fine; room = c .before .before .before .before .before .before .before .before .before .before .before .before .before .before .before .before .before .before .emit-expr .ensures .ready .room; slots = c .before .before .before .before .before .before .before .before .create-label .ensures .slots; long = c .before .before .before .before .before .before .before .before .before .before .before .before .before .before .before .before .before .before .emit-expr .ensures .ready .long }, c .before .before .before .before .before .before .before .before .before .before .before .before .before .before .before .before .before .before .before .before .before .before .before .before .before .before .before .before .pre .1 .1 .1 .1)))))  -- case-arms-requires
     (λ c κs. (c .before .before .before .before .before .before .before .before .before .before .before .before .arms .ensures .filled .ready .fine, (c .before .before .before .before .before .before .before .before .before .before .before .before .arms .ensures .filled .ready .room, c .before .before .before .before .before .before .before .before .before .before .before .before .arms .ensures .filled .ready .slots)))  -- case-emit-opcode-requires
-    (λ c κs. (omega (arith, c .before .before .before .before .before .before .before .before .before .before .before .before .before .before .before .before .before .before .before .before .before .before .before .before .before .before .before .before .before .before .before .before .before .before .before .before .before .before .before .before .before .before .before .before .before .before .before .before .before .before .before .pre .0), (c .before .before .before .before .before .before .before .before .before .before .before .before .before .before .before .before .before .before .before .before .before .arms .ensures .slots, (c .before .before .before .before .before .before .before .before .before .before .before .before .before .before .before .before .before .before .before .before .before .arms .ensures .place .near, (record { fine = c .before .before .before .before .before .before .before .before .emit-opcode .ensures .fine; room = c .before .before .before .before .before .before .before .before .emit-opcode .ensures .room; slots = c .before .before .before .before .before .before .before .before .emit-opcode .ensures .slots; long = c .before .before .before .before .before .before .before .before .before .before .before .before .before .before .before .before .before .before .before .before .before .arms .ensures .filled .ready .long }, omega (arith, c .before .before .before .before .before .before .before .before .before .before .before .before .before .before .before .before .before .before .before .before .before .before .before .before .before .before .before .before .before .before .before .before .before .before .before .before .before .before .before .before .before .before .before .before .before .before .before .before .before .before .before .pre .1 .1 .1 .1 .0))))))  -- case-sequence-requires
+    (λ c κs. (omega (arith, c .before .before .before .before .before .before .before .before .before .before .before .before .before .before .before .before .before .before .before .before .before .before .before .before .before .before .before .before .before .before .before .before .before .before .before .before .before .before .before .before .before .before .before .before .before .before .before .before .before .before .pre .0), (c .before .before .before .before .before .before .before .before .before .before .before .before .before .before .before .before .before .before .before .before .before .arms .ensures .slots, (c .before .before .before .before .before .before .before .before .before .before .before .before .before .before .before .before .before .before .before .before .before .arms .ensures .place .near, (record { fine = c .before .before .before .before .before .before .before .before .emit-opcode .ensures .fine; room = c .before .before .before .before .before .before .before .before .emit-opcode .ensures .room; slots = c .before .before .before .before .before .before .before .before .emit-opcode .ensures .slots; long = c .before .before .before .before .before .before .before .before .before .before .before .before .before .before .before .before .before .before .before .before .before .arms .ensures .filled .ready .long }, omega (arith, c .before .before .before .before .before .before .before .before .before .before .before .before .before .before .before .before .before .before .before .before .before .before .before .before .before .before .before .before .before .before .before .before .before .before .before .before .before .before .before .before .before .before .before .before .before .before .before .before .before .before .pre .1 .1 .1 .1))))))  -- case-sequence-requires
     (λ c κs. (c .before .before .before .before .before .before .before .before .before .before .before .sequence .ensures .filled .ready .fine, c .before .before .before .before .before .before .before .before .before .before .before .sequence .ensures .filled .ready .slots))  -- case-bind-label-requires
-    (λ c. c .before .before .before .before .before .before .before .before .before .before .before .before .before .before .sequence .ensures .filled .ready .room ∙ sym (c .before .before .before .before .before .before .before .before .before .before .before .before .before .before .before .before .before .before .before .before .before .before .before .before .before .before .before .before .before .before .before .before .before .before .before .before .before .before .before .before .before .before .before .before .before .before .before .before .before .before .before .before .before .before .before .before .before .before .before .before .before .before .before .before .before .before .pre .1 .1 .1 .0 .room))  -- case-same-length
-    (λ c. c .before .before .bind-label .ensures .slots ∙ sym (c .before .before .before .before .before .before .before .before .before .before .before .before .before .before .before .before .before .before .before .before .before .before .before .before .before .before .before .before .before .before .before .before .before .before .before .before .before .before .before .before .before .before .before .before .before .before .before .before .before .before .before .before .before .before .before .before .before .before .before .before .before .before .before .before .before .before .pre .1 .1 .1 .0 .slots))  -- case-same-length-2
-    (λ c. c .before .before .before .before .before .before .before .before .before .before .before .before .before .before .sequence .ensures .filled .ready .long .size ∙ sym (c .before .before .before .before .before .before .before .before .before .before .before .before .before .before .before .before .before .before .before .before .before .before .before .before .before .before .before .before .before .before .before .before .before .before .before .before .before .before .before .before .before .before .before .before .before .before .before .before .before .before .before .before .before .before .before .before .before .before .before .before .before .before .before .before .before .before .pre .1 .1 .1 .0 .long .size))  -- case-same-length-3
-    (λ c. c .before .before .before .before .before .before .before .before .before .before .before .before .before .before .sequence .ensures .slots .size ∙ sym (c .before .before .before .before .before .before .before .before .before .before .before .before .before .before .before .before .before .before .before .before .before .before .before .before .before .before .before .before .before .before .before .before .before .before .before .before .before .before .before .before .before .before .before .before .before .before .before .before .before .before .before .before .before .before .before .before .before .before .before .before .before .before .before .before .before .before .pre .1 .0 .size))  -- case-same-length-4
-    (λ c. case-done _ _ _ _ _ (c .before .before .before .before .before .before .before .before .before .before .before .before .before .before .before .before .before .before .before .before .before .before .before .before .before .before .before .before .before .before .before .before .before .before .before .before .before .before .before .before .before .before .before .before .before .before .before .before .before .before .before .before .before .before .before .before .before .before .before .next-line .ensures) (c .before .before .before .before .before .before .before .before .before .before .before .before .before .before .before .before .before .before .before .before .before .before .before .before .before .before .before .before .before .before .before .before .before .before .before .before .before .before .before .before .before .before .before .before .before .before .before .before .before .before .before .before .before .before .before .emit-expr .ensures) (c .before .before .before .before .before .before .before .before .before .before .before .before .before .before .before .before .before .before .before .before .before .before .before .before .before .before .before .before .before .before .before .before .before .before .before .before .before .before .before .before .before .before .before .before .before .create-label .ensures) (c .before .before .before .before .before .before .before .before .before .before .before .before .before .before .before .before .before .before .before .before .before .before .before .before .before .before .before .before .before .before .before .before .before .before .before .before .arms .ensures) (c .before .before .before .before .before .before .before .before .before .before .before .before .before .before .before .before .before .before .before .before .before .before .before .emit-opcode .ensures) (nested _ (c .before .before .before .before .before .before .before .before .before .before .before .before .before .before .sequence .ensures)) (c .before .before .bind-label .ensures)))  -- case-returns
+    (λ c. c .before .before .before .before .before .before .before .before .before .before .before .before .before .before .sequence .ensures .filled .ready .room ∙ sym (c .before .before .before .before .before .before .before .before .before .before .before .before .before .before .before .before .before .before .before .before .before .before .before .before .before .before .before .before .before .before .before .before .before .before .before .before .before .before .before .before .before .before .before .before .before .before .before .before .before .before .before .before .before .before .before .before .before .before .before .before .before .before .before .before .before .pre .1 .1 .1 .0 .room))  -- case-same-length
+    (λ c. c .before .before .bind-label .ensures .slots ∙ sym (c .before .before .before .before .before .before .before .before .before .before .before .before .before .before .before .before .before .before .before .before .before .before .before .before .before .before .before .before .before .before .before .before .before .before .before .before .before .before .before .before .before .before .before .before .before .before .before .before .before .before .before .before .before .before .before .before .before .before .before .before .before .before .before .before .before .pre .1 .1 .1 .0 .slots))  -- case-same-length-2
+    (λ c. c .before .before .before .before .before .before .before .before .before .before .before .before .before .before .sequence .ensures .filled .ready .long .size ∙ sym (c .before .before .before .before .before .before .before .before .before .before .before .before .before .before .before .before .before .before .before .before .before .before .before .before .before .before .before .before .before .before .before .before .before .before .before .before .before .before .before .before .before .before .before .before .before .before .before .before .before .before .before .before .before .before .before .before .before .before .before .before .before .before .before .before .before .pre .1 .1 .1 .0 .long .size))  -- case-same-length-3
+    (λ c. c .before .before .before .before .before .before .before .before .before .before .before .before .before .before .sequence .ensures .slots .size ∙ sym (c .before .before .before .before .before .before .before .before .before .before .before .before .before .before .before .before .before .before .before .before .before .before .before .before .before .before .before .before .before .before .before .before .before .before .before .before .before .before .before .before .before .before .before .before .before .before .before .before .before .before .before .before .before .before .before .before .before .before .before .before .before .before .before .before .before .pre .1 .0 .size))  -- case-same-length-4
+    (λ c. case-done _ _ _ _ _ (stands-here (c .before .before .before .before .before .before .before .before .before .before .before .before .before .before .before .before .before .before .before .before .before .before .before .before .before .before .before .before .before .before .before .before .before .before .before .before .before .before .before .before .before .before .before .before .before .before .before .before .before .before .before .before .before .before .before .before .before .before .before .before .before .before .before .before .before .pre .1 .1 .0)) (c .before .before .before .before .before .before .before .before .before .before .before .before .before .before .before .before .before .before .before .before .before .before .before .before .before .before .before .before .before .before .before .before .before .before .before .before .before .before .before .before .before .before .before .before .before .before .before .before .before .before .before .before .before .before .before .emit-expr .ensures) (c .before .before .before .before .before .before .before .before .before .before .before .before .before .before .before .before .before .before .before .before .before .before .before .before .before .before .before .before .before .before .before .before .before .before .before .before .before .before .before .before .before .before .before .before .before .create-label .ensures) (c .before .before .before .before .before .before .before .before .before .before .before .before .before .before .before .before .before .before .before .before .before .before .before .before .before .before .before .before .before .before .before .before .before .before .before .before .arms .ensures) (c .before .before .before .before .before .before .before .before .before .before .before .before .before .before .before .before .before .before .before .before .before .before .before .emit-opcode .ensures) (nested _ (c .before .before .before .before .before .before .before .before .before .before .before .before .before .before .sequence .ensures)) (c .before .before .bind-label .ensures)))  -- case-returns
     (λ t. else--lts.spec (
       bind-label-reads.Asked,
       bind-label-reads.Learnt,
@@ -359,8 +358,6 @@ pub +arm+arms+case+else-+for-+if-+loop-+loop-body+plain+repeat+sequence+stmt+whi
     (λ c. c .before .before .before .before .before .before .before .before .before .before .before .before .before .before .sequence .ensures .slots .size ∙ sym (c .before .before .before .before .before .before .before .before .before .before .before .before .before .before .before .before .before .before .before .before .before .before .before .before .before .before .before .before .before .before .before .before .before .before .before .before .before .before .before .before .before .before .before .pre .1 .0 .size))  -- else--same-length-5
     (λ c. else-some _ _ _ _ _ _ (c .before .before .before .before .before .before .before .before .before .before .before .before .before .before .before .before .before .before .before .before .before .before .before .before .before .before .before .before .before .before .before .before .before .before .before .before .before .before .before .before .before .before .before .pre .1 .1 .1 .0) (c .before .before .before .before .before .before .before .before .before .before .before .before .before .before .before .before .before .before .before .before .before .before .before .before .before .before .before .before .before .before .before .before .before .before .before .before .if1 .left) (c .before .before .before .before .before .before .before .before .before .before .before .before .before .before .before .before .before .before .before .before .before .before .before .before .before .before .before .before .before .before .before .before .before .before .create-label .ensures) (c .before .before .before .before .before .before .before .before .before .before .before .before .before .before .before .before .before .before .before .before .before .before .before .before .before .before .before .emit-jmp .ensures) (c .before .before .before .before .before .before .before .before .before .before .before .before .before .before .before .before .before .before .before .before .before .bind-label2 .ensures) (nested _ (c .before .before .before .before .before .before .before .before .before .before .before .before .before .before .sequence .ensures)) (c .before .before .bind-label3 .ensures)))  -- else--returns-2
     (λ t. for--lts.spec (
-      next-line-reads.Asked,
-      next-line-reads.Learnt,
       skip-expr-reads.Asked,
       skip-expr-reads.Learnt,
       operand-at-reads.Asked,
@@ -382,25 +379,22 @@ pub +arm+arms+case+else-+for-+if-+loop-+loop-body+plain+repeat+sequence+stmt+whi
     )
     (for--at t)
     for-.Post
-    (λ c κs. (c .before .before .before .before .before .before .pre .1 .1 .0, c .before .before .before .before .before .before .pre .1 .1 .1 .1 .1))  -- for--next-line-requires
-    (λ c κs. c .next-line .ensures .near)  -- for--skip-expr-requires
+    (λ c κs. c .before .before .before .before .before .before .pre .1 .1 .0)  -- for--skip-expr-requires
     (λ c κs. search needs)  -- for--operand-at-requires
-    (λ c κs. (c .before .before .before .before .before .next-line .ensures .near, (c .before .before .before .before .before .before .before .before .before .before .before .before .pre .1 .1 .1 .0, omega (arith, c .before .before .before .before .before .before .before .before .before .before .before .before .pre .1 .1 .1 .1 .0))))  -- for--emit-expr-requires
+    (λ c κs. (c .before .before .before .before .before .before .before .before .before .before .before .pre .1 .1 .0, (c .before .before .before .before .before .before .before .before .before .before .before .pre .1 .1 .1 .0, omega (arith, c .before .before .before .before .before .before .before .before .before .before .before .pre .1 .1 .1 .1))))  -- for--emit-expr-requires
     (λ c κs. (c .before .before .before .before .before .before .before .before .before .emit-expr .ensures .ready .fine, (c .before .before .before .before .before .before .before .before .before .emit-expr .ensures .ready .room, c .before .before .before .before .before .before .before .before .before .emit-expr .ensures .ready .slots)))  -- for--emit-store-var-requires
     (λ c κs. (c .before .before .before .before .before .emit-store-var .ensures .fine, c .before .before .before .before .before .emit-store-var .ensures .slots))  -- for--create-label-requires
     (λ c κs. (c .before .before .before .before .before .create-label .ensures .fine, c .before .before .before .before .before .create-label .ensures .slots))  -- for--create-label-requires-2
     (λ c κs. (c .before .before .before .before .before .create-label2 .ensures .fine, c .before .before .before .before .before .create-label2 .ensures .slots))  -- for--bind-label-requires
-    (λ c κs. (c .before .before .before .before .before .before .before .before .before .before .before .before .before .before .before .before .before .before .before .before .before .before .before .before .before .before .before .before .before .before .before .before .before .before .before .before .before .before .skip-expr .ensures .near, (record { fine = c .before .before .before .before .before .bind-label .ensures .fine; room = c .before .before .before .before .before .before .before .before .before .before .before .before .before .before .before .before .before .before .before .before .before .before .before .emit-store-var .ensures .room; slots = c .before .before .before .before .before .bind-label .ensures .slots; long = c .before .before .before .before .before .before .before .before .before .before .before .before .before .before .before .before .before .before .before .before .before .before .before .before .before .before .before .before .before .before .before .before .before .emit-expr .ensures .ready .long }, (omega (arith, c .before .before .before .before .before .before .before .before .before .before .before .before .before .before .before .before .before .before .before .before .before .before .before .before .before .before .before .before .before .before .before .before .before .before .before .before .before .before .before .before .before .before .before .before .before .before .pre .1 .1 .1 .1 .0), c .before .before .before .before .before .before .before .before .before .before .before .before .before .before .before .before .before .before .before .before .before .before .before .before .before .before .before .before .before .before .before .before .before .before .before .before .before .operand-at .ensures))))  -- for--end-test-requires
-    (λ c κs. (omega (arith, c .before .before .before .before .before .before .before .before .before .before .before .before .before .before .before .before .before .before .before .before .before .before .before .before .before .before .before .before .before .before .before .before .before .before .before .before .before .before .before .before .before .before .before .before .before .before .before .before .before .before .before .before .before .before .before .before .before .before .before .pre .0), (c .before .before .before .before .before .before .before .before .before .before .before .before .before .before .before .before .before .before .before .before .before .before .before .before .before .before .before .before .before .before .before .before .before .before .before .before .before .before .before .before .before .before .before .before .before .before .before .before .before .before .before .before .before .before .before .before .before .before .before .pre .1 .0, (c .before .before .before .before .before .before .before .before .before .before .before .before .end-test .ensures .near, (c .before .before .before .before .before .before .before .before .before .before .before .before .end-test .ensures .ready, c .before .before .before .before .before .before .before .before .before .before .before .before .before .before .before .before .before .before .before .before .before .before .before .before .before .before .before .before .before .before .before .before .before .before .before .before .before .before .before .before .before .before .before .before .before .before .before .before .before .before .before .before .before .before .before .before .before .before .before .pre .1 .1 .1 .1 .0)))))  -- for--loop-body-requires
+    (λ c κs. (c .before .before .before .before .before .before .before .before .before .before .before .before .before .before .before .before .before .before .before .before .before .before .before .before .before .before .before .before .before .before .before .before .before .before .before .before .before .before .skip-expr .ensures .near, (record { fine = c .before .before .before .before .before .bind-label .ensures .fine; room = c .before .before .before .before .before .before .before .before .before .before .before .before .before .before .before .before .before .before .before .before .before .before .before .emit-store-var .ensures .room; slots = c .before .before .before .before .before .bind-label .ensures .slots; long = c .before .before .before .before .before .before .before .before .before .before .before .before .before .before .before .before .before .before .before .before .before .before .before .before .before .before .before .before .before .before .before .before .before .emit-expr .ensures .ready .long }, (omega (arith, c .before .before .before .before .before .before .before .before .before .before .before .before .before .before .before .before .before .before .before .before .before .before .before .before .before .before .before .before .before .before .before .before .before .before .before .before .before .before .before .before .before .before .before .before .before .pre .1 .1 .1 .1), c .before .before .before .before .before .before .before .before .before .before .before .before .before .before .before .before .before .before .before .before .before .before .before .before .before .before .before .before .before .before .before .before .before .before .before .before .before .operand-at .ensures))))  -- for--end-test-requires
+    (λ c κs. (omega (arith, c .before .before .before .before .before .before .before .before .before .before .before .before .before .before .before .before .before .before .before .before .before .before .before .before .before .before .before .before .before .before .before .before .before .before .before .before .before .before .before .before .before .before .before .before .before .before .before .before .before .before .before .before .before .before .before .before .before .before .pre .0), (c .before .before .before .before .before .before .before .before .before .before .before .before .before .before .before .before .before .before .before .before .before .before .before .before .before .before .before .before .before .before .before .before .before .before .before .before .before .before .before .before .before .before .before .before .before .before .before .before .before .before .before .before .before .before .before .before .before .before .pre .1 .0, (c .before .before .before .before .before .before .before .before .before .before .before .before .end-test .ensures .near, (c .before .before .before .before .before .before .before .before .before .before .before .before .end-test .ensures .ready, c .before .before .before .before .before .before .before .before .before .before .before .before .before .before .before .before .before .before .before .before .before .before .before .before .before .before .before .before .before .before .before .before .before .before .before .before .before .before .before .before .before .before .before .before .before .before .before .before .before .before .before .before .before .before .before .before .before .before .pre .1 .1 .1 .1)))))  -- for--loop-body-requires
     (λ c κs. c .before .before .before .before .before .before .before .before .before .before .before .before .before .loop-body .ensures .filled .ready)  -- for--for-end-requires
-    (λ c. c .before .before .before .before .before .before .for-end .ensures .ready .room ∙ sym (c .before .before .before .before .before .before .before .before .before .before .before .before .before .before .before .before .before .before .before .before .before .before .before .before .before .before .before .before .before .before .before .before .before .before .before .before .before .before .before .before .before .before .before .before .before .before .before .before .before .before .before .before .before .before .before .before .before .before .before .before .before .before .before .before .before .before .before .before .before .before .before .before .before .before .before .before .before .before .before .before .pre .1 .1 .1 .0 .room))  -- for--same-length
-    (λ c. c .before .before .before .before .before .before .for-end .ensures .ready .slots ∙ sym (c .before .before .before .before .before .before .before .before .before .before .before .before .before .before .before .before .before .before .before .before .before .before .before .before .before .before .before .before .before .before .before .before .before .before .before .before .before .before .before .before .before .before .before .before .before .before .before .before .before .before .before .before .before .before .before .before .before .before .before .before .before .before .before .before .before .before .before .before .before .before .before .before .before .before .before .before .before .before .before .before .pre .1 .1 .1 .0 .slots))  -- for--same-length-2
-    (λ c. c .before .before .before .before .before .before .for-end .ensures .ready .long .size ∙ sym (c .before .before .before .before .before .before .before .before .before .before .before .before .before .before .before .before .before .before .before .before .before .before .before .before .before .before .before .before .before .before .before .before .before .before .before .before .before .before .before .before .before .before .before .before .before .before .before .before .before .before .before .before .before .before .before .before .before .before .before .before .before .before .before .before .before .before .before .before .before .before .before .before .before .before .before .before .before .before .before .before .pre .1 .1 .1 .0 .long .size))  -- for--same-length-3
-    (λ c. c .before .before .before .before .before .before .before .before .before .before .before .before .before .before .before .before .before .before .before .before .loop-body .ensures .slots .size ∙ sym (c .before .before .before .before .before .before .before .before .before .before .before .before .before .before .before .before .before .before .before .before .before .before .before .before .before .before .before .before .before .before .before .before .before .before .before .before .before .before .before .before .before .before .before .before .before .before .before .before .before .before .before .before .before .before .before .before .before .before .before .before .before .before .before .before .before .before .before .before .before .before .before .before .before .before .before .before .before .before .before .before .pre .1 .0 .size))  -- for--same-length-4
-    (λ c. for-done _ _ _ _ _ _ _ (c .before .before .before .before .before .before .before .before .before .before .before .before .before .before .before .before .before .before .before .before .before .before .before .before .before .before .before .before .before .before .before .before .before .before .before .before .before .before .before .before .before .before .before .before .before .before .before .before .before .before .before .before .before .before .before .before .before .before .before .before .before .before .before .before .before .before .before .before .before .before .before .before .before .next-line .ensures) (c .before .before .before .before .before .before .before .before .before .before .before .before .before .before .before .before .before .before .before .before .before .before .before .before .before .before .before .before .before .before .before .before .before .before .before .before .before .before .before .before .before .before .before .before .before .before .before .before .before .before .before .before .before .before .before .before .before .before .before .before .before .before .before .before .before .before .before .before .before .before .before .before .skip-expr .ensures) (c .before .before .before .before .before .before .before .before .before .before .before .before .before .before .before .before .before .before .before .before .before .before .before .before .before .before .before .before .before .before .before .before .before .before .before .before .before .before .before .before .before .before .before .before .before .before .before .before .before .before .before .before .before .before .before .before .before .before .before .before .before .before .before .before .before .before .before .emit-expr .ensures) (c .before .before .before .before .before .before .before .before .before .before .before .before .before .before .before .before .before .before .before .before .before .before .before .before .before .before .before .before .before .before .before .before .before .before .before .before .before .before .before .before .before .before .before .before .before .before .before .before .before .before .before .before .before .before .before .before .before .emit-store-var .ensures) (c .before .before .before .before .before .before .before .before .before .before .before .before .before .before .before .before .before .before .before .before .before .before .before .before .before .before .before .before .before .before .before .before .before .before .before .before .before .before .before .before .before .before .before .before .before .before .before .before .before .before .before .create-label .ensures) (c .before .before .before .before .before .before .before .before .before .before .before .before .before .before .before .before .before .before .before .before .before .before .before .before .before .before .before .before .before .before .before .before .before .before .before .before .before .before .before .before .before .before .before .before .before .create-label2 .ensures) (c .before .before .before .before .before .before .before .before .before .before .before .before .before .before .before .before .before .before .before .before .before .before .before .before .before .before .before .before .before .before .before .before .before .before .before .before .before .before .before .bind-label .ensures) (c .before .before .before .before .before .before .before .before .before .before .before .before .before .before .before .before .before .before .before .before .before .before .before .before .before .before .before .before .before .before .before .before .before .end-test .ensures) (c .before .before .before .before .before .before .before .before .before .before .before .before .before .before .before .before .before .before .before .before .loop-body .ensures) (c .before .before .before .before .before .before .for-end .ensures)))  -- for--returns
+    (λ c. c .before .before .before .before .before .before .for-end .ensures .ready .room ∙ sym (c .before .before .before .before .before .before .before .before .before .before .before .before .before .before .before .before .before .before .before .before .before .before .before .before .before .before .before .before .before .before .before .before .before .before .before .before .before .before .before .before .before .before .before .before .before .before .before .before .before .before .before .before .before .before .before .before .before .before .before .before .before .before .before .before .before .before .before .before .before .before .before .before .before .before .before .before .before .before .before .pre .1 .1 .1 .0 .room))  -- for--same-length
+    (λ c. c .before .before .before .before .before .before .for-end .ensures .ready .slots ∙ sym (c .before .before .before .before .before .before .before .before .before .before .before .before .before .before .before .before .before .before .before .before .before .before .before .before .before .before .before .before .before .before .before .before .before .before .before .before .before .before .before .before .before .before .before .before .before .before .before .before .before .before .before .before .before .before .before .before .before .before .before .before .before .before .before .before .before .before .before .before .before .before .before .before .before .before .before .before .before .before .before .pre .1 .1 .1 .0 .slots))  -- for--same-length-2
+    (λ c. c .before .before .before .before .before .before .for-end .ensures .ready .long .size ∙ sym (c .before .before .before .before .before .before .before .before .before .before .before .before .before .before .before .before .before .before .before .before .before .before .before .before .before .before .before .before .before .before .before .before .before .before .before .before .before .before .before .before .before .before .before .before .before .before .before .before .before .before .before .before .before .before .before .before .before .before .before .before .before .before .before .before .before .before .before .before .before .before .before .before .before .before .before .before .before .before .before .pre .1 .1 .1 .0 .long .size))  -- for--same-length-3
+    (λ c. c .before .before .before .before .before .before .before .before .before .before .before .before .before .before .before .before .before .before .before .before .loop-body .ensures .slots .size ∙ sym (c .before .before .before .before .before .before .before .before .before .before .before .before .before .before .before .before .before .before .before .before .before .before .before .before .before .before .before .before .before .before .before .before .before .before .before .before .before .before .before .before .before .before .before .before .before .before .before .before .before .before .before .before .before .before .before .before .before .before .before .before .before .before .before .before .before .before .before .before .before .before .before .before .before .before .before .before .before .before .before .pre .1 .0 .size))  -- for--same-length-4
+    (λ c. for-done _ _ _ _ _ _ _ (stands-here (c .before .before .before .before .before .before .before .before .before .before .before .before .before .before .before .before .before .before .before .before .before .before .before .before .before .before .before .before .before .before .before .before .before .before .before .before .before .before .before .before .before .before .before .before .before .before .before .before .before .before .before .before .before .before .before .before .before .before .before .before .before .before .before .before .before .before .before .before .before .before .before .before .before .before .before .before .before .before .before .pre .1 .1 .0)) (c .before .before .before .before .before .before .before .before .before .before .before .before .before .before .before .before .before .before .before .before .before .before .before .before .before .before .before .before .before .before .before .before .before .before .before .before .before .before .before .before .before .before .before .before .before .before .before .before .before .before .before .before .before .before .before .before .before .before .before .before .before .before .before .before .before .before .before .before .before .before .before .before .skip-expr .ensures) (c .before .before .before .before .before .before .before .before .before .before .before .before .before .before .before .before .before .before .before .before .before .before .before .before .before .before .before .before .before .before .before .before .before .before .before .before .before .before .before .before .before .before .before .before .before .before .before .before .before .before .before .before .before .before .before .before .before .before .before .before .before .before .before .before .before .before .before .emit-expr .ensures) (c .before .before .before .before .before .before .before .before .before .before .before .before .before .before .before .before .before .before .before .before .before .before .before .before .before .before .before .before .before .before .before .before .before .before .before .before .before .before .before .before .before .before .before .before .before .before .before .before .before .before .before .before .before .before .before .before .before .emit-store-var .ensures) (c .before .before .before .before .before .before .before .before .before .before .before .before .before .before .before .before .before .before .before .before .before .before .before .before .before .before .before .before .before .before .before .before .before .before .before .before .before .before .before .before .before .before .before .before .before .before .before .before .before .before .before .create-label .ensures) (c .before .before .before .before .before .before .before .before .before .before .before .before .before .before .before .before .before .before .before .before .before .before .before .before .before .before .before .before .before .before .before .before .before .before .before .before .before .before .before .before .before .before .before .before .before .create-label2 .ensures) (c .before .before .before .before .before .before .before .before .before .before .before .before .before .before .before .before .before .before .before .before .before .before .before .before .before .before .before .before .before .before .before .before .before .before .before .before .before .before .before .bind-label .ensures) (c .before .before .before .before .before .before .before .before .before .before .before .before .before .before .before .before .before .before .before .before .before .before .before .before .before .before .before .before .before .before .before .before .before .end-test .ensures) (c .before .before .before .before .before .before .before .before .before .before .before .before .before .before .before .before .before .before .before .before .loop-body .ensures) (c .before .before .before .before .before .before .for-end .ensures)))  -- for--returns
     (λ t. if--lts.spec (
-      next-line-reads.Asked,
-      next-line-reads.Learnt,
       create-label-reads.Asked,
       create-label-reads.Learnt,
       branch-unless-reads.Asked,
@@ -412,19 +406,16 @@ pub +arm+arms+case+else-+for-+if-+loop-+loop-body+plain+repeat+sequence+stmt+whi
     )
     (if--at t)
     if-.Post
-    (λ c κs. (c .before .before .before .before .before .before .pre .1 .1 .0, c .before .before .before .before .before .before .pre .1 .1 .1 .1 .1))  -- if--next-line-requires
-    (λ c κs. (c .before .before .before .before .before .before .before .before .pre .1 .1 .1 .0 .fine, c .before .before .before .before .before .before .before .before .pre .1 .1 .1 .0 .slots))  -- if--create-label-requires
-    (λ c κs. (c .before .before .before .before .before .before .before .before .before .next-line .ensures .near, (record { fine = c .before .before .before .before .before .before .before .create-label .ensures .fine; room = c .before .before .before .before .before .before .before .before .before .before .before .before .before .before .before .before .pre .1 .1 .1 .0 .room; slots = c .before .before .before .before .before .before .before .create-label .ensures .slots; long = c .before .before .before .before .before .before .before .before .before .before .before .before .before .before .before .before .pre .1 .1 .1 .0 .long }, omega (arith, c .before .before .before .before .before .before .before .before .before .before .before .before .before .before .before .before .pre .1 .1 .1 .1 .0))))  -- if--branch-unless-requires
-    (λ c κs. (omega (arith, c .before .before .before .before .before .before .before .before .before .before .before .before .before .before .before .before .before .before .before .before .before .before .before .before .before .before .before .before .before .pre .0), (c .before .before .before .before .before .before .before .before .before .before .before .before .before .before .before .before .before .before .before .before .before .before .before .before .before .before .before .before .before .pre .1 .0, (c .before .before .before .before .before .before .before .before .before .before .before .before .branch-unless .ensures .near, (c .before .before .before .before .before .before .before .before .before .before .before .before .branch-unless .ensures .ready, omega (arith, c .before .before .before .before .before .before .before .before .before .before .before .before .before .before .before .before .before .before .before .before .before .before .before .before .before .before .before .before .before .pre .1 .1 .1 .1 .0))))))  -- if--sequence-requires
-    (λ c κs. (omega (arith, c .before .before .before .before .before .before .before .before .before .before .before .before .before .before .before .before .before .before .before .before .before .before .before .before .before .before .before .before .before .before .before .before .before .before .before .before .before .before .before .before .before .before .before .before .pre .0), (c .before .before .before .before .before .before .before .before .before .before .before .before .before .before .sequence .ensures .slots, (c .before .before .before .before .before .before .before .before .before .before .before .before .before .before .sequence .ensures .place .near, (c .before .before .before .before .before .before .before .before .before .before .before .before .before .before .sequence .ensures .filled .ready, c .before .before .before .before .before .before .before .before .before .before .before .before .before .before .before .before .before .before .before .before .before .before .before .before .before .before .before .before .before .before .before .before .before .before .before .before .before .before .before .before .before .before .before .before .pre .1 .1 .1 .1 .0)))))  -- if--else--requires
-    (λ c. c .before .before .before .before .before .before .before .before .else- .ensures .filled .ready .room ∙ sym (c .before .before .before .before .before .before .before .before .before .before .before .before .before .before .before .before .before .before .before .before .before .before .before .before .before .before .before .before .before .before .before .before .before .before .before .before .before .before .before .before .before .before .before .before .before .before .before .before .before .before .before .before .before .pre .1 .1 .1 .0 .room))  -- if--same-length
-    (λ c. c .before .before .before .before .before .before .before .before .else- .ensures .filled .ready .slots ∙ sym (c .before .before .before .before .before .before .before .before .before .before .before .before .before .before .before .before .before .before .before .before .before .before .before .before .before .before .before .before .before .before .before .before .before .before .before .before .before .before .before .before .before .before .before .before .before .before .before .before .before .before .before .before .before .pre .1 .1 .1 .0 .slots))  -- if--same-length-2
-    (λ c. c .before .before .before .before .before .before .before .before .else- .ensures .filled .ready .long .size ∙ sym (c .before .before .before .before .before .before .before .before .before .before .before .before .before .before .before .before .before .before .before .before .before .before .before .before .before .before .before .before .before .before .before .before .before .before .before .before .before .before .before .before .before .before .before .before .before .before .before .before .before .before .before .before .before .pre .1 .1 .1 .0 .long .size))  -- if--same-length-3
-    (λ c. c .before .before .before .before .before .before .before .before .else- .ensures .slots .size ∙ sym (c .before .before .before .before .before .before .before .before .before .before .before .before .before .before .before .before .before .before .before .before .before .before .before .before .before .before .before .before .before .before .before .before .before .before .before .before .before .before .before .before .before .before .before .before .before .before .before .before .before .before .before .before .before .pre .1 .0 .size))  -- if--same-length-4
-    (λ c. if-done _ _ _ _ _ (c .before .before .before .before .before .before .before .before .before .before .before .before .before .before .before .before .before .before .before .before .before .before .before .before .before .before .before .before .before .before .before .before .before .before .before .before .before .before .before .before .before .before .before .before .before .before .next-line .ensures) (c .before .before .before .before .before .before .before .before .before .before .before .before .before .before .before .before .before .before .before .before .before .before .before .before .before .before .before .before .before .before .before .before .before .before .before .before .before .before .before .before .before .before .before .before .before .before .before .before .before .before .before .before .before .pre .1 .1 .1 .0) (c .before .before .before .before .before .before .before .before .before .before .before .before .before .before .before .before .before .before .before .before .before .before .before .before .before .before .before .before .before .before .before .before .before .before .before .before .before .before .before .before .before .before .before .before .create-label .ensures) (c .before .before .before .before .before .before .before .before .before .before .before .before .before .before .before .before .before .before .before .before .before .before .before .before .before .before .before .before .before .before .before .before .before .before .before .before .branch-unless .ensures) (nested _ (c .before .before .before .before .before .before .before .before .before .before .before .before .before .before .before .before .before .before .before .before .before .before .before .sequence .ensures)) (c .before .before .before .before .before .before .before .before .else- .ensures)))  -- if--returns
+    (λ c κs. (c .before .before .before .before .before .before .before .pre .1 .1 .1 .0 .fine, c .before .before .before .before .before .before .before .pre .1 .1 .1 .0 .slots))  -- if--create-label-requires
+    (λ c κs. (c .before .before .before .before .before .before .before .before .before .before .before .before .before .before .before .pre .1 .1 .0, (record { fine = c .before .before .before .before .before .before .before .create-label .ensures .fine; room = c .before .before .before .before .before .before .before .before .before .before .before .before .before .before .before .pre .1 .1 .1 .0 .room; slots = c .before .before .before .before .before .before .before .create-label .ensures .slots; long = c .before .before .before .before .before .before .before .before .before .before .before .before .before .before .before .pre .1 .1 .1 .0 .long }, omega (arith, c .before .before .before .before .before .before .before .before .before .before .before .before .before .before .before .pre .1 .1 .1 .1))))  -- if--branch-unless-requires
+    (λ c κs. (omega (arith, c .before .before .before .before .before .before .before .before .before .before .before .before .before .before .before .before .before .before .before .before .before .before .before .before .before .before .before .before .pre .0), (c .before .before .before .before .before .before .before .before .before .before .before .before .before .before .before .before .before .before .before .before .before .before .before .before .before .before .before .before .pre .1 .0, (c .before .before .before .before .before .before .before .before .before .before .before .before .branch-unless .ensures .near, (c .before .before .before .before .before .before .before .before .before .before .before .before .branch-unless .ensures .ready, omega (arith, c .before .before .before .before .before .before .before .before .before .before .before .before .before .before .before .before .before .before .before .before .before .before .before .before .before .before .before .before .pre .1 .1 .1 .1))))))  -- if--sequence-requires
+    (λ c κs. (omega (arith, c .before .before .before .before .before .before .before .before .before .before .before .before .before .before .before .before .before .before .before .before .before .before .before .before .before .before .before .before .before .before .before .before .before .before .before .before .before .before .before .before .before .before .before .pre .0), (c .before .before .before .before .before .before .before .before .before .before .before .before .before .before .sequence .ensures .slots, (c .before .before .before .before .before .before .before .before .before .before .before .before .before .before .sequence .ensures .place .near, (c .before .before .before .before .before .before .before .before .before .before .before .before .before .before .sequence .ensures .filled .ready, c .before .before .before .before .before .before .before .before .before .before .before .before .before .before .before .before .before .before .before .before .before .before .before .before .before .before .before .before .before .before .before .before .before .before .before .before .before .before .before .before .before .before .before .pre .1 .1 .1 .1)))))  -- if--else--requires
+    (λ c. c .before .before .before .before .before .before .before .before .else- .ensures .filled .ready .room ∙ sym (c .before .before .before .before .before .before .before .before .before .before .before .before .before .before .before .before .before .before .before .before .before .before .before .before .before .before .before .before .before .before .before .before .before .before .before .before .before .before .before .before .before .before .before .before .before .before .before .before .before .before .before .before .pre .1 .1 .1 .0 .room))  -- if--same-length
+    (λ c. c .before .before .before .before .before .before .before .before .else- .ensures .filled .ready .slots ∙ sym (c .before .before .before .before .before .before .before .before .before .before .before .before .before .before .before .before .before .before .before .before .before .before .before .before .before .before .before .before .before .before .before .before .before .before .before .before .before .before .before .before .before .before .before .before .before .before .before .before .before .before .before .before .pre .1 .1 .1 .0 .slots))  -- if--same-length-2
+    (λ c. c .before .before .before .before .before .before .before .before .else- .ensures .filled .ready .long .size ∙ sym (c .before .before .before .before .before .before .before .before .before .before .before .before .before .before .before .before .before .before .before .before .before .before .before .before .before .before .before .before .before .before .before .before .before .before .before .before .before .before .before .before .before .before .before .before .before .before .before .before .before .before .before .before .pre .1 .1 .1 .0 .long .size))  -- if--same-length-3
+    (λ c. c .before .before .before .before .before .before .before .before .else- .ensures .slots .size ∙ sym (c .before .before .before .before .before .before .before .before .before .before .before .before .before .before .before .before .before .before .before .before .before .before .before .before .before .before .before .before .before .before .before .before .before .before .before .before .before .before .before .before .before .before .before .before .before .before .before .before .before .before .before .before .pre .1 .0 .size))  -- if--same-length-4
+    (λ c. if-done _ _ _ _ _ (stands-here (c .before .before .before .before .before .before .before .before .before .before .before .before .before .before .before .before .before .before .before .before .before .before .before .before .before .before .before .before .before .before .before .before .before .before .before .before .before .before .before .before .before .before .before .before .before .before .before .before .before .before .before .before .pre .1 .1 .0)) (c .before .before .before .before .before .before .before .before .before .before .before .before .before .before .before .before .before .before .before .before .before .before .before .before .before .before .before .before .before .before .before .before .before .before .before .before .before .before .before .before .before .before .before .before .before .before .before .before .before .before .before .before .pre .1 .1 .1 .0) (c .before .before .before .before .before .before .before .before .before .before .before .before .before .before .before .before .before .before .before .before .before .before .before .before .before .before .before .before .before .before .before .before .before .before .before .before .before .before .before .before .before .before .before .before .create-label .ensures) (c .before .before .before .before .before .before .before .before .before .before .before .before .before .before .before .before .before .before .before .before .before .before .before .before .before .before .before .before .before .before .before .before .before .before .before .before .branch-unless .ensures) (nested _ (c .before .before .before .before .before .before .before .before .before .before .before .before .before .before .before .before .before .before .before .before .before .before .before .sequence .ensures)) (c .before .before .before .before .before .before .before .before .else- .ensures)))  -- if--returns
     (λ t. loop--lts.spec (
-      next-line-reads.Asked,
-      next-line-reads.Learnt,
       loop-shape-reads.Asked,
       loop-shape-reads.Learnt,
       below-reads.Asked,
@@ -438,30 +429,29 @@ pub +arm+arms+case+else-+for-+if-+loop-+loop-body+plain+repeat+sequence+stmt+whi
     )
     (loop--at t)
     loop-.Post
-    (λ c κs. (c .before .before .before .before .before .before .pre .1 .1 .0, c .before .before .before .before .before .before .pre .1 .1 .1 .1 .1))  -- loop--next-line-requires
-    (λ c κs. (c .before .next-line .ensures .near, c .before .before .before .before .before .before .before .before .pre .1 .0))  -- loop--loop-shape-requires
+    (λ c κs. (c .before .before .before .before .before .before .before .pre .1 .1 .0, c .before .before .before .before .before .before .before .pre .1 .0))  -- loop--loop-shape-requires
     (λ c. search needs)  -- loop--enum-known-shape
     (λ c κs. search needs)  -- loop--below-requires
-    (λ c κs. (omega (arith, c .before .before .before .before .before .before .before .before .before .before .before .before .before .before .before .before .before .before .before .pre .0), (c .before .before .before .before .before .before .before .before .before .before .loop-shape .ensures .1 .lent, (while-places (c .before .before .before .before .before .before .before .before .before .before .loop-shape .ensures .0) (c .before .before .before .before .before .before .shape .given .1) .0 .near, (while-places (c .before .before .before .before .before .before .before .before .before .before .loop-shape .ensures .0) (c .before .before .before .before .before .before .shape .given .1) .1 .near, (c .before .before .before .before .before .before .before .before .before .before .before .before .before .before .before .before .before .before .before .pre .1 .1 .1 .0, c .before .before .before .before .before .before .before .before .before .before .before .before .before .before .before .before .before .before .before .pre .1 .1 .1 .1 .0))))))  -- loop--while--requires
+    (λ c κs. (omega (arith, c .before .before .before .before .before .before .before .before .before .before .before .before .before .before .before .before .before .before .pre .0), (c .before .before .before .before .before .before .before .before .before .before .loop-shape .ensures .1 .lent, (while-places (c .before .before .before .before .before .before .before .before .before .before .loop-shape .ensures .0) (c .before .before .before .before .before .before .shape .given .1) .0 .near, (while-places (c .before .before .before .before .before .before .before .before .before .before .loop-shape .ensures .0) (c .before .before .before .before .before .before .shape .given .1) .1 .near, (c .before .before .before .before .before .before .before .before .before .before .before .before .before .before .before .before .before .before .pre .1 .1 .1 .0, c .before .before .before .before .before .before .before .before .before .before .before .before .before .before .before .before .before .before .pre .1 .1 .1 .1))))))  -- loop--while--requires
     (λ c. search needs)  -- loop--enum-known-shape-2
-    (λ c κs. (omega (arith, c .before .before .before .before .before .before .before .before .before .before .before .before .before .before .before .before .before .before .pre .0), (c .before .before .before .before .before .before .before .before .before .loop-shape .ensures .1 .lent, (c .before .before .before .before .before .before .before .before .before .before .before .next-line .ensures .near, (repeat-places (c .before .before .before .before .before .before .before .before .before .loop-shape .ensures .0) (c .before .before .before .before .before .shape2 .given .1) .0 .near, (repeat-places (c .before .before .before .before .before .before .before .before .before .loop-shape .ensures .0) (c .before .before .before .before .before .shape2 .given .1) .1 .near, (c .before .before .before .before .before .before .before .before .before .before .before .before .before .before .before .before .before .before .pre .1 .1 .1 .0, c .before .before .before .before .before .before .before .before .before .before .before .before .before .before .before .before .before .before .pre .1 .1 .1 .1 .0)))))))  -- loop--repeat-requires
+    (λ c κs. (omega (arith, c .before .before .before .before .before .before .before .before .before .before .before .before .before .before .before .before .before .pre .0), (c .before .before .before .before .before .before .before .before .before .loop-shape .ensures .1 .lent, (c .before .before .before .before .before .before .before .before .before .before .before .before .before .before .before .before .before .pre .1 .1 .0, (repeat-places (c .before .before .before .before .before .before .before .before .before .loop-shape .ensures .0) (c .before .before .before .before .before .shape2 .given .1) .0 .near, (repeat-places (c .before .before .before .before .before .before .before .before .before .loop-shape .ensures .0) (c .before .before .before .before .before .shape2 .given .1) .1 .near, (c .before .before .before .before .before .before .before .before .before .before .before .before .before .before .before .before .before .pre .1 .1 .1 .0, c .before .before .before .before .before .before .before .before .before .before .before .before .before .before .before .before .before .pre .1 .1 .1 .1)))))))  -- loop--repeat-requires
     (λ c. search needs)  -- loop--enum-told
-    (λ c κs. (omega (arith, c .before .before .before .before .before .before .before .before .before .before .before .before .before .before .before .before .before .pre .0), (c .before .before .before .before .before .before .before .before .loop-shape .ensures .1 .lent, (c .before .before .before .before .before .before .before .before .before .before .next-line .ensures .near, (c .before .before .before .before .before .before .before .before .before .before .before .before .before .before .before .before .before .pre .1 .1 .1 .0, c .before .before .before .before .before .before .before .before .before .before .before .before .before .before .before .before .before .pre .1 .1 .1 .1 .0)))))  -- loop--plain-requires
-    (λ c. c .before .before .before .before .before .before .before .before .while- .ensures .filled .ready .room ∙ sym (c .before .before .before .before .before .before .before .before .before .before .before .before .before .before .before .before .before .before .before .before .before .before .before .before .before .before .before .before .pre .1 .1 .1 .0 .room))  -- loop--same-length
-    (λ c. c .before .before .before .before .before .before .before .before .while- .ensures .filled .ready .slots ∙ sym (c .before .before .before .before .before .before .before .before .before .before .before .before .before .before .before .before .before .before .before .before .before .before .before .before .before .before .before .before .pre .1 .1 .1 .0 .slots))  -- loop--same-length-2
-    (λ c. c .before .before .before .before .before .before .before .before .while- .ensures .filled .ready .long .size ∙ sym (c .before .before .before .before .before .before .before .before .before .before .before .before .before .before .before .before .before .before .before .before .before .before .before .before .before .before .before .before .pre .1 .1 .1 .0 .long .size))  -- loop--same-length-3
-    (λ c. c .before .before .before .before .before .before .before .before .while- .ensures .slots .size ∙ sym (c .before .before .before .before .before .before .before .before .before .before .before .before .before .before .before .before .before .before .before .before .before .before .before .before .before .before .before .before .pre .1 .0 .size))  -- loop--same-length-4
-    (λ c. is-while _ _ _ _ _ _ (c .before .before .before .before .before .before .before .before .before .before .before .before .before .before .before .before .before .before .before .before .before .next-line .ensures) (c .before .before .before .before .before .before .before .before .before .before .before .before .before .before .before .before .before .before .before .loop-shape .ensures .0) (c .before .before .before .before .before .before .before .before .before .before .before .before .before .before .before .shape .given .1) (c .before .before .before .before .before .before .before .before .before .before .before .before .before .below .ensures) (from-loops (c .before .before .before .before .before .before .before .before .before .before .before .before .before .before .before .before .before .before .before .loop-shape .ensures .1 .opens (c .before .before .before .before .before .before .before .before .before .before .before .before .before .before .before .before .before .before .before .before .before .before .before .before .before .before .before .before .args .ctx .inside) (omega (arith, c .before .before .before .before .before .before .before .before .before .before .before .before .before .before .before .before .before .before .before .before .before .before .before .before .before .before .before .before .pre .1 .1 .1 .1 .0))) (c .before .before .before .before .before .before .before .before .while- .ensures)))  -- loop--returns
-    (λ c. c .before .before .before .before .before .before .before .before .repeat .ensures .filled .ready .room ∙ sym (c .before .before .before .before .before .before .before .before .before .before .before .before .before .before .before .before .before .before .before .before .before .before .before .before .before .before .before .pre .1 .1 .1 .0 .room))  -- loop--same-length-5
-    (λ c. c .before .before .before .before .before .before .before .before .repeat .ensures .filled .ready .slots ∙ sym (c .before .before .before .before .before .before .before .before .before .before .before .before .before .before .before .before .before .before .before .before .before .before .before .before .before .before .before .pre .1 .1 .1 .0 .slots))  -- loop--same-length-6
-    (λ c. c .before .before .before .before .before .before .before .before .repeat .ensures .filled .ready .long .size ∙ sym (c .before .before .before .before .before .before .before .before .before .before .before .before .before .before .before .before .before .before .before .before .before .before .before .before .before .before .before .pre .1 .1 .1 .0 .long .size))  -- loop--same-length-7
-    (λ c. c .before .before .before .before .before .before .before .before .repeat .ensures .slots .size ∙ sym (c .before .before .before .before .before .before .before .before .before .before .before .before .before .before .before .before .before .before .before .before .before .before .before .before .before .before .before .pre .1 .0 .size))  -- loop--same-length-8
-    (λ c. is-repeat _ _ _ _ _ _ (c .before .before .before .before .before .before .before .before .before .before .before .before .before .before .before .before .before .before .before .before .next-line .ensures) (c .before .before .before .before .before .before .before .before .before .before .before .before .before .before .before .before .before .before .loop-shape .ensures .0) (c .before .before .before .before .before .before .before .before .before .before .before .before .before .before .shape2 .given .1) (from-loops (c .before .before .before .before .before .before .before .before .before .before .before .before .before .before .before .before .before .before .loop-shape .ensures .1 .opens (c .before .before .before .before .before .before .before .before .before .before .before .before .before .before .before .before .before .before .before .before .before .before .before .before .before .before .before .args .ctx .inside) (omega (arith, c .before .before .before .before .before .before .before .before .before .before .before .before .before .before .before .before .before .before .before .before .before .before .before .before .before .before .before .pre .1 .1 .1 .1 .0))) (c .before .before .before .before .before .before .before .before .repeat .ensures)))  -- loop--returns-2
-    (λ c. c .before .before .before .before .before .before .before .before .plain .ensures .filled .ready .room ∙ sym (c .before .before .before .before .before .before .before .before .before .before .before .before .before .before .before .before .before .before .before .before .before .before .before .before .before .before .pre .1 .1 .1 .0 .room))  -- loop--same-length-9
-    (λ c. c .before .before .before .before .before .before .before .before .plain .ensures .filled .ready .slots ∙ sym (c .before .before .before .before .before .before .before .before .before .before .before .before .before .before .before .before .before .before .before .before .before .before .before .before .before .before .pre .1 .1 .1 .0 .slots))  -- loop--same-length-10
-    (λ c. c .before .before .before .before .before .before .before .before .plain .ensures .filled .ready .long .size ∙ sym (c .before .before .before .before .before .before .before .before .before .before .before .before .before .before .before .before .before .before .before .before .before .before .before .before .before .before .pre .1 .1 .1 .0 .long .size))  -- loop--same-length-11
-    (λ c. c .before .before .before .before .before .before .before .before .plain .ensures .slots .size ∙ sym (c .before .before .before .before .before .before .before .before .before .before .before .before .before .before .before .before .before .before .before .before .before .before .before .before .before .before .pre .1 .0 .size))  -- loop--same-length-12
-    (λ c. is-plain _ _ _ _ _ _ (c .before .before .before .before .before .before .before .before .before .before .before .before .before .before .before .before .before .before .before .next-line .ensures) (c .before .before .before .before .before .before .before .before .before .before .before .before .before .before .before .before .before .loop-shape .ensures .0) (c .before .before .before .before .before .before .before .before .before .before .before .before .before .enum-told .given .1) (from-loops (c .before .before .before .before .before .before .before .before .before .before .before .before .before .before .before .before .before .loop-shape .ensures .1 .opens (c .before .before .before .before .before .before .before .before .before .before .before .before .before .before .before .before .before .before .before .before .before .before .before .before .before .before .args .ctx .inside) (omega (arith, c .before .before .before .before .before .before .before .before .before .before .before .before .before .before .before .before .before .before .before .before .before .before .before .before .before .before .pre .1 .1 .1 .1 .0))) (c .before .before .before .before .before .before .before .before .plain .ensures))))  -- loop--returns-3
+    (λ c κs. (omega (arith, c .before .before .before .before .before .before .before .before .before .before .before .before .before .before .before .before .pre .0), (c .before .before .before .before .before .before .before .before .loop-shape .ensures .1 .lent, (c .before .before .before .before .before .before .before .before .before .before .before .before .before .before .before .before .pre .1 .1 .0, (c .before .before .before .before .before .before .before .before .before .before .before .before .before .before .before .before .pre .1 .1 .1 .0, c .before .before .before .before .before .before .before .before .before .before .before .before .before .before .before .before .pre .1 .1 .1 .1)))))  -- loop--plain-requires
+    (λ c. c .before .before .before .before .before .before .before .before .while- .ensures .filled .ready .room ∙ sym (c .before .before .before .before .before .before .before .before .before .before .before .before .before .before .before .before .before .before .before .before .before .before .before .before .before .before .before .pre .1 .1 .1 .0 .room))  -- loop--same-length
+    (λ c. c .before .before .before .before .before .before .before .before .while- .ensures .filled .ready .slots ∙ sym (c .before .before .before .before .before .before .before .before .before .before .before .before .before .before .before .before .before .before .before .before .before .before .before .before .before .before .before .pre .1 .1 .1 .0 .slots))  -- loop--same-length-2
+    (λ c. c .before .before .before .before .before .before .before .before .while- .ensures .filled .ready .long .size ∙ sym (c .before .before .before .before .before .before .before .before .before .before .before .before .before .before .before .before .before .before .before .before .before .before .before .before .before .before .before .pre .1 .1 .1 .0 .long .size))  -- loop--same-length-3
+    (λ c. c .before .before .before .before .before .before .before .before .while- .ensures .slots .size ∙ sym (c .before .before .before .before .before .before .before .before .before .before .before .before .before .before .before .before .before .before .before .before .before .before .before .before .before .before .before .pre .1 .0 .size))  -- loop--same-length-4
+    (λ c. is-while _ _ _ _ _ _ (stands-here (c .before .before .before .before .before .before .before .before .before .before .before .before .before .before .before .before .before .before .before .before .before .before .before .before .before .before .before .pre .1 .1 .0)) (c .before .before .before .before .before .before .before .before .before .before .before .before .before .before .before .before .before .before .before .loop-shape .ensures .0) (c .before .before .before .before .before .before .before .before .before .before .before .before .before .before .before .shape .given .1) (c .before .before .before .before .before .before .before .before .before .before .before .before .before .below .ensures) (from-loops (c .before .before .before .before .before .before .before .before .before .before .before .before .before .before .before .before .before .before .before .loop-shape .ensures .1 .opens (c .before .before .before .before .before .before .before .before .before .before .before .before .before .before .before .before .before .before .before .before .before .before .before .before .before .before .before .args .ctx .inside) (omega (arith, c .before .before .before .before .before .before .before .before .before .before .before .before .before .before .before .before .before .before .before .before .before .before .before .before .before .before .before .pre .1 .1 .1 .1))) (c .before .before .before .before .before .before .before .before .while- .ensures)))  -- loop--returns
+    (λ c. c .before .before .before .before .before .before .before .before .repeat .ensures .filled .ready .room ∙ sym (c .before .before .before .before .before .before .before .before .before .before .before .before .before .before .before .before .before .before .before .before .before .before .before .before .before .before .pre .1 .1 .1 .0 .room))  -- loop--same-length-5
+    (λ c. c .before .before .before .before .before .before .before .before .repeat .ensures .filled .ready .slots ∙ sym (c .before .before .before .before .before .before .before .before .before .before .before .before .before .before .before .before .before .before .before .before .before .before .before .before .before .before .pre .1 .1 .1 .0 .slots))  -- loop--same-length-6
+    (λ c. c .before .before .before .before .before .before .before .before .repeat .ensures .filled .ready .long .size ∙ sym (c .before .before .before .before .before .before .before .before .before .before .before .before .before .before .before .before .before .before .before .before .before .before .before .before .before .before .pre .1 .1 .1 .0 .long .size))  -- loop--same-length-7
+    (λ c. c .before .before .before .before .before .before .before .before .repeat .ensures .slots .size ∙ sym (c .before .before .before .before .before .before .before .before .before .before .before .before .before .before .before .before .before .before .before .before .before .before .before .before .before .before .pre .1 .0 .size))  -- loop--same-length-8
+    (λ c. is-repeat _ _ _ _ _ _ (stands-here (c .before .before .before .before .before .before .before .before .before .before .before .before .before .before .before .before .before .before .before .before .before .before .before .before .before .before .pre .1 .1 .0)) (c .before .before .before .before .before .before .before .before .before .before .before .before .before .before .before .before .before .before .loop-shape .ensures .0) (c .before .before .before .before .before .before .before .before .before .before .before .before .before .before .shape2 .given .1) (from-loops (c .before .before .before .before .before .before .before .before .before .before .before .before .before .before .before .before .before .before .loop-shape .ensures .1 .opens (c .before .before .before .before .before .before .before .before .before .before .before .before .before .before .before .before .before .before .before .before .before .before .before .before .before .before .args .ctx .inside) (omega (arith, c .before .before .before .before .before .before .before .before .before .before .before .before .before .before .before .before .before .before .before .before .before .before .before .before .before .before .pre .1 .1 .1 .1))) (c .before .before .before .before .before .before .before .before .repeat .ensures)))  -- loop--returns-2
+    (λ c. c .before .before .before .before .before .before .before .before .plain .ensures .filled .ready .room ∙ sym (c .before .before .before .before .before .before .before .before .before .before .before .before .before .before .before .before .before .before .before .before .before .before .before .before .before .pre .1 .1 .1 .0 .room))  -- loop--same-length-9
+    (λ c. c .before .before .before .before .before .before .before .before .plain .ensures .filled .ready .slots ∙ sym (c .before .before .before .before .before .before .before .before .before .before .before .before .before .before .before .before .before .before .before .before .before .before .before .before .before .pre .1 .1 .1 .0 .slots))  -- loop--same-length-10
+    (λ c. c .before .before .before .before .before .before .before .before .plain .ensures .filled .ready .long .size ∙ sym (c .before .before .before .before .before .before .before .before .before .before .before .before .before .before .before .before .before .before .before .before .before .before .before .before .before .pre .1 .1 .1 .0 .long .size))  -- loop--same-length-11
+    (λ c. c .before .before .before .before .before .before .before .before .plain .ensures .slots .size ∙ sym (c .before .before .before .before .before .before .before .before .before .before .before .before .before .before .before .before .before .before .before .before .before .before .before .before .before .pre .1 .0 .size))  -- loop--same-length-12
+    (λ c. is-plain _ _ _ _ _ _ (stands-here (c .before .before .before .before .before .before .before .before .before .before .before .before .before .before .before .before .before .before .before .before .before .before .before .before .before .pre .1 .1 .0)) (c .before .before .before .before .before .before .before .before .before .before .before .before .before .before .before .before .before .loop-shape .ensures .0) (c .before .before .before .before .before .before .before .before .before .before .before .before .before .enum-told .given .1) (from-loops (c .before .before .before .before .before .before .before .before .before .before .before .before .before .before .before .before .before .loop-shape .ensures .1 .opens (c .before .before .before .before .before .before .before .before .before .before .before .before .before .before .before .before .before .before .before .before .before .before .before .before .before .args .ctx .inside) (omega (arith, c .before .before .before .before .before .before .before .before .before .before .before .before .before .before .before .before .before .before .before .before .before .before .before .before .before .pre .1 .1 .1 .1))) (c .before .before .before .before .before .before .before .before .plain .ensures))))  -- loop--returns-3
     (λ t. loop-body-lts.spec (
       in-loop-reads.Asked,
       in-loop-reads.Learnt,
@@ -545,8 +535,10 @@ pub +arm+arms+case+else-+for-+if-+loop-+loop-body+plain+repeat+sequence+stmt+whi
     (λ c. c .before .before .before .before .before .before .before .before .before .before .before .before .before .before .before .before .before .before .before .before .before .before .before .before .loop-body .ensures .slots .size ∙ sym (c .before .before .before .before .before .before .before .before .before .before .before .before .before .before .before .before .before .before .before .before .before .before .before .before .before .before .before .before .before .before .before .before .before .before .before .before .before .before .before .before .before .before .before .before .before .before .before .before .before .before .before .before .before .before .before .before .pre .1 .0 .size))  -- repeat-same-length-4
     (λ c. repeat-done _ _ _ _ _ _ (c .before .before .before .before .before .before .before .before .before .before .before .before .before .before .before .before .before .before .before .before .before .before .before .before .before .before .before .before .before .before .before .before .before .before .before .before .before .before .before .before .before .before .before .before .before .before .before .before .before .inner .ensures) _ _ (c .before .before .before .before .before .before .before .before .before .before .before .before .before .before .before .before .before .before .before .before .before .before .before .before .before .before .before .before .before .before .before .before .before .before .before .before .before .before .before .before .before .before .before .before .before .before .before .before .before .before .before .before .before .before .before .before .pre .1 .1 .1 .1 .1 .0) (c .before .before .before .before .before .before .before .before .before .before .before .before .before .before .before .before .before .before .before .before .before .before .before .before .before .before .before .before .before .before .before .before .before .before .before .before .before .before .before .before .before .before .before .before .before .before .before .before .before .before .before .before .before .before .before .before .pre .1 .1 .1 .1 .0) (c .before .before .before .before .before .before .before .before .before .before .before .before .before .before .before .before .before .before .before .before .before .before .before .before .before .before .before .before .before .before .before .before .before .before .before .before .before .before .before .before .before .before .before .before .before .before .before .create-label .ensures) (c .before .before .before .before .before .before .before .before .before .before .before .before .before .before .before .before .before .before .before .before .before .before .before .before .before .before .before .before .before .before .before .before .before .before .before .before .before .before .before .before .before .create-label2 .ensures) (c .before .before .before .before .before .before .before .before .before .before .before .before .before .before .before .before .before .before .before .before .before .before .before .before .before .before .before .before .before .before .before .before .before .before .before .pool-first .ensures) (c .before .before .before .before .before .before .before .before .before .before .before .before .before .before .before .before .before .before .before .before .before .before .before .before .before .before .before .before .before .before .before .bind-label .ensures) (c .before .before .before .before .before .before .before .before .before .before .before .before .before .before .before .before .before .before .before .before .before .before .before .before .loop-body .ensures) (c .before .before .before .before .before .before .before .before .before .before .before .branch-unless .ensures) (c .before .before .bind-label2 .ensures)))  -- repeat-returns
     (λ t. sequence-lts.spec (
-      read-stmt-reads.Asked,
-      read-stmt-reads.Learnt,
+      next-stmt-reads.Asked,
+      next-stmt-reads.Learnt,
+      behind-reads.Asked,
+      behind-reads.Learnt,
       record-position-reads.Asked,
       record-position-reads.Learnt,
       stmt-below t,
@@ -557,12 +549,13 @@ pub +arm+arms+case+else-+for-+if-+loop-+loop-body+plain+repeat+sequence+stmt+whi
     sequence-Inv-loop
     sequence-μ-loop
     (λ c. begins _ _ _ _ _ _ _ _ (c .before .before .before .before .before .before .pre .1 .0) (c .before .before .before .before .before .before .pre .1 .1 .0) (c .before .before .before .before .before .before .pre .1 .1 .1 .0))  -- sequence-loop-holds
-    (λ c κs. search needs)  -- sequence-read-stmt-requires
-    (λ c κs. c .before .before .loop .inv .ready .fine)  -- sequence-record-position-requires
-    (λ c κs. (omega (arith, c .before .before .before .before .before .before .before .before .before .before .before .before .before .before .pre .0), (c .before .before .before .before .before .before .before .loop .inv .slots, (c .before .before .before .before .before .before .before .loop .inv .near, (record { fine = c .before .before .before .before .record-position .ensures .fine; room = c .before .before .before .before .before .before .before .loop .inv .ready .room; slots = c .before .before .before .before .before .before .before .loop .inv .ready .slots; long = c .before .before .before .before .before .before .before .loop .inv .ready .long }, (c .before .before .before .before .before .before .before .before .before .before .before .before .before .before .pre .1 .1 .1 .1, c .before .before .before .before .before .read-stmt .ensures))))))  -- sequence-stmt-requires
+    (λ c κs. search needs)  -- sequence-next-stmt-requires
+    (λ c κs. (c .before .before .loop .inv .near, end-inside _ _ _ (c .before .before .loop .here) _ (c .next-stmt .ensures)))  -- sequence-behind-requires
+    (λ c κs. c .before .before .before .loop .inv .ready .fine)  -- sequence-record-position-requires
+    (λ c κs. (omega (arith, c .before .before .before .before .before .before .before .before .before .before .before .before .before .before .before .pre .0), (c .before .before .before .before .before .before .before .before .loop .inv .slots, (c .before .before .before .before .before .before .before .before .loop .inv .near, (record { fine = c .before .before .before .before .record-position .ensures .fine; room = c .before .before .before .before .before .before .before .before .loop .inv .ready .room; slots = c .before .before .before .before .before .before .before .before .loop .inv .ready .slots; long = c .before .before .before .before .before .before .before .before .loop .inv .ready .long }, (c .before .before .before .before .before .before .before .before .before .before .before .before .before .before .before .pre .1 .1 .1 .1, (c .before .before .before .before .before .before .next-stmt .ensures .is, goes-behind _ _ _ _ _ (c .before .before .before .before .before .before .next-stmt .ensures) (c .before .before .before .before .before .before .before .before .loop .inv .near) (c .before .before .before .before .before .behind .ensures))))))))  -- sequence-stmt-requires
     (λ c. search needs)  -- sequence-sub-more
     (λ c. search needs)  -- sequence-loop-less
-    (λ c. goes-on (c .before .before .before .before .before .before .before .before .before .before .before .before .before .before .before .before .before .before .loop .inv) _ (c .before .before .before .before .before .before .before .before .before .before .before .before .before .before .before .before .read-stmt .ensures) (c .before .before .before .before .before .before .before .before .before .before .before .before .before .before .before .record-position .ensures) (c .before .before .before .before .before .before .before .before .before .before .stmt .ensures) (c .before .before .before .before .before .before .before .before .before .before .before .before .before .before .before .before .before .loop-test .taken))  -- sequence-loop-again
+    (λ c. goes-on (c .before .before .before .before .before .before .before .before .before .before .before .before .before .before .before .before .before .before .before .loop .inv) _ (c .before .before .before .before .before .before .before .before .before .before .before .before .before .before .before .before .before .next-stmt .ensures .is) (c .before .before .before .before .before .before .before .before .before .before .before .before .before .before .before .record-position .ensures) (c .before .before .before .before .before .before .before .before .before .before .stmt .ensures) (c .before .before .before .before .before .before .before .before .before .before .before .before .before .before .before .before .before .before .loop-test .taken))  -- sequence-loop-again
     (λ c. c .before .loop .inv .ready .room ∙ sym (c .before .before .before .before .before .before .before .before .pre .1 .1 .1 .0 .room))  -- sequence-same-length
     (λ c. c .before .loop .inv .ready .slots ∙ sym (c .before .before .before .before .before .before .before .before .pre .1 .1 .1 .0 .slots))  -- sequence-same-length-2
     (λ c. c .before .loop .inv .ready .long .size ∙ sym (c .before .before .before .before .before .before .before .before .pre .1 .1 .1 .0 .long .size))  -- sequence-same-length-3
@@ -594,59 +587,59 @@ pub +arm+arms+case+else-+for-+if-+loop-+loop-body+plain+repeat+sequence+stmt+whi
     stmt.Post
     (λ c κs. search needs)  -- stmt-inner-requires
     (λ c. search needs)  -- stmt-enum-known-line
-    (λ c κs. (c .before .before .before .before .before .before .before .before .before .before .before .before .before .pre .1 .1 .0, (line-there _ _ _ _ _ (sym (c .before .before .before .before .before .before .before .before .before .before .before .before .before .pre .1 .1 .1 .1 .1) ∙ ap stmtLine (c .before .before .before .before .line .given .1)) .0, (c .before .before .before .before .before .before .before .before .before .before .before .before .before .pre .1 .1 .1 .0, omega (arith, c .before .before .before .before .before .before .before .before .before .before .before .before .before .pre .1 .1 .1 .1 .0, inner-left _ (c .before .before .before .before .before .before .inner .ensures))))))  -- stmt-assign-requires
+    (λ c κs. (good-behind _ _ _ _ (c .before .before .before .before .before .before .before .before .before .before .before .before .before .pre .1 .1 .1 .1 .1 .1) (ap stmtLine (c .before .before .before .before .line .given .1)) .near, (c .before .before .before .before .before .before .before .before .before .before .before .before .before .pre .1 .1 .1 .0, omega (arith, c .before .before .before .before .before .before .before .before .before .before .before .before .before .pre .1 .1 .1 .1 .0, inner-left _ (c .before .before .before .before .before .before .inner .ensures)))))  -- stmt-assign-requires
     (λ c. search needs)  -- stmt-enum-known-line-2
-    (λ c κs. (omega (arith, c .before .before .before .before .before .before .before .before .before .before .before .before .before .before .pre .0, line-there _ _ _ _ _ (sym (c .before .before .before .before .before .before .before .before .before .before .before .before .before .before .pre .1 .1 .1 .1 .1) ∙ ap stmtLine (c .before .before .before .before .before .line2 .given .1)) .1, inner-left _ (c .before .before .before .before .before .before .before .inner .ensures)), (inner-lent _ (c .before .before .before .before .before .before .before .inner .ensures) (c .before .before .before .before .before .before .before .before .before .before .before .before .before .before .pre .1 .0), (c .before .before .before .before .before .before .before .before .before .before .before .before .before .before .pre .1 .1 .0, (c .before .before .before .before .before .before .before .before .before .before .before .before .before .before .pre .1 .1 .1 .0, (omega (arith, c .before .before .before .before .before .before .before .before .before .before .before .before .before .before .pre .1 .1 .1 .1 .0, line-there _ _ _ _ _ (sym (c .before .before .before .before .before .before .before .before .before .before .before .before .before .before .pre .1 .1 .1 .1 .1) ∙ ap stmtLine (c .before .before .before .before .before .line2 .given .1)) .1, inner-left _ (c .before .before .before .before .before .before .before .inner .ensures), inner-inside _ (c .before .before .before .before .before .before .before .inner .ensures)), line-there _ _ _ _ _ (sym (c .before .before .before .before .before .before .before .before .before .before .before .before .before .before .pre .1 .1 .1 .1 .1) ∙ ap stmtLine (c .before .before .before .before .before .line2 .given .1)) .0))))))  -- stmt-if--requires
+    (λ c κs. (omega (arith, c .before .before .before .before .before .before .before .before .before .before .before .before .before .before .pre .0, line-there _ _ _ _ _ (sym (c .before .before .before .before .before .before .before .before .before .before .before .before .before .before .pre .1 .1 .1 .1 .1 .0) ∙ ap stmtLine (c .before .before .before .before .before .line2 .given .1)) .1, inner-left _ (c .before .before .before .before .before .before .before .inner .ensures)), (inner-lent _ (c .before .before .before .before .before .before .before .inner .ensures) (c .before .before .before .before .before .before .before .before .before .before .before .before .before .before .pre .1 .0), (good-behind _ _ _ _ (c .before .before .before .before .before .before .before .before .before .before .before .before .before .before .pre .1 .1 .1 .1 .1 .1) (ap stmtLine (c .before .before .before .before .before .line2 .given .1)) .near, (c .before .before .before .before .before .before .before .before .before .before .before .before .before .before .pre .1 .1 .1 .0, omega (arith, c .before .before .before .before .before .before .before .before .before .before .before .before .before .before .pre .1 .1 .1 .1 .0, line-there _ _ _ _ _ (sym (c .before .before .before .before .before .before .before .before .before .before .before .before .before .before .pre .1 .1 .1 .1 .1 .0) ∙ ap stmtLine (c .before .before .before .before .before .line2 .given .1)) .1, inner-left _ (c .before .before .before .before .before .before .before .inner .ensures), inner-inside _ (c .before .before .before .before .before .before .before .inner .ensures)))))))  -- stmt-if--requires
     (λ c. search needs)  -- stmt-enum-known-line-3
-    (λ c κs. (omega (arith, c .before .before .before .before .before .before .before .before .before .before .before .before .before .before .pre .0, line-there _ _ _ _ _ (sym (c .before .before .before .before .before .before .before .before .before .before .before .before .before .before .pre .1 .1 .1 .1 .1) ∙ ap stmtLine (c .before .before .before .before .before .line3 .given .1)) .1, inner-left _ (c .before .before .before .before .before .before .before .inner .ensures)), (inner-lent _ (c .before .before .before .before .before .before .before .inner .ensures) (c .before .before .before .before .before .before .before .before .before .before .before .before .before .before .pre .1 .0), (c .before .before .before .before .before .before .before .before .before .before .before .before .before .before .pre .1 .1 .0, (c .before .before .before .before .before .before .before .before .before .before .before .before .before .before .pre .1 .1 .1 .0, (omega (arith, c .before .before .before .before .before .before .before .before .before .before .before .before .before .before .pre .1 .1 .1 .1 .0, line-there _ _ _ _ _ (sym (c .before .before .before .before .before .before .before .before .before .before .before .before .before .before .pre .1 .1 .1 .1 .1) ∙ ap stmtLine (c .before .before .before .before .before .line3 .given .1)) .1, inner-left _ (c .before .before .before .before .before .before .before .inner .ensures), inner-inside _ (c .before .before .before .before .before .before .before .inner .ensures)), line-there _ _ _ _ _ (sym (c .before .before .before .before .before .before .before .before .before .before .before .before .before .before .pre .1 .1 .1 .1 .1) ∙ ap stmtLine (c .before .before .before .before .before .line3 .given .1)) .0))))))  -- stmt-case-requires
+    (λ c κs. (omega (arith, c .before .before .before .before .before .before .before .before .before .before .before .before .before .before .pre .0, line-there _ _ _ _ _ (sym (c .before .before .before .before .before .before .before .before .before .before .before .before .before .before .pre .1 .1 .1 .1 .1 .0) ∙ ap stmtLine (c .before .before .before .before .before .line3 .given .1)) .1, inner-left _ (c .before .before .before .before .before .before .before .inner .ensures)), (inner-lent _ (c .before .before .before .before .before .before .before .inner .ensures) (c .before .before .before .before .before .before .before .before .before .before .before .before .before .before .pre .1 .0), (good-behind _ _ _ _ (c .before .before .before .before .before .before .before .before .before .before .before .before .before .before .pre .1 .1 .1 .1 .1 .1) (ap stmtLine (c .before .before .before .before .before .line3 .given .1)) .near, (c .before .before .before .before .before .before .before .before .before .before .before .before .before .before .pre .1 .1 .1 .0, omega (arith, c .before .before .before .before .before .before .before .before .before .before .before .before .before .before .pre .1 .1 .1 .1 .0, line-there _ _ _ _ _ (sym (c .before .before .before .before .before .before .before .before .before .before .before .before .before .before .pre .1 .1 .1 .1 .1 .0) ∙ ap stmtLine (c .before .before .before .before .before .line3 .given .1)) .1, inner-left _ (c .before .before .before .before .before .before .before .inner .ensures), inner-inside _ (c .before .before .before .before .before .before .before .inner .ensures)))))))  -- stmt-case-requires
     (λ c. search needs)  -- stmt-enum-known-line-4
-    (λ c κs. (omega (arith, c .before .before .before .before .before .before .before .before .before .before .before .before .before .before .pre .0, line-there _ _ _ _ _ (sym (c .before .before .before .before .before .before .before .before .before .before .before .before .before .before .pre .1 .1 .1 .1 .1) ∙ ap stmtLine (c .before .before .before .before .before .line4 .given .1)) .1, inner-left _ (c .before .before .before .before .before .before .before .inner .ensures)), (inner-lent _ (c .before .before .before .before .before .before .before .inner .ensures) (c .before .before .before .before .before .before .before .before .before .before .before .before .before .before .pre .1 .0), (c .before .before .before .before .before .before .before .before .before .before .before .before .before .before .pre .1 .1 .0, (c .before .before .before .before .before .before .before .before .before .before .before .before .before .before .pre .1 .1 .1 .0, (omega (arith, c .before .before .before .before .before .before .before .before .before .before .before .before .before .before .pre .1 .1 .1 .1 .0, line-there _ _ _ _ _ (sym (c .before .before .before .before .before .before .before .before .before .before .before .before .before .before .pre .1 .1 .1 .1 .1) ∙ ap stmtLine (c .before .before .before .before .before .line4 .given .1)) .1, inner-left _ (c .before .before .before .before .before .before .before .inner .ensures), inner-inside _ (c .before .before .before .before .before .before .before .inner .ensures)), line-there _ _ _ _ _ (sym (c .before .before .before .before .before .before .before .before .before .before .before .before .before .before .pre .1 .1 .1 .1 .1) ∙ ap stmtLine (c .before .before .before .before .before .line4 .given .1)) .0))))))  -- stmt-for--requires
+    (λ c κs. (omega (arith, c .before .before .before .before .before .before .before .before .before .before .before .before .before .before .pre .0, line-there _ _ _ _ _ (sym (c .before .before .before .before .before .before .before .before .before .before .before .before .before .before .pre .1 .1 .1 .1 .1 .0) ∙ ap stmtLine (c .before .before .before .before .before .line4 .given .1)) .1, inner-left _ (c .before .before .before .before .before .before .before .inner .ensures)), (inner-lent _ (c .before .before .before .before .before .before .before .inner .ensures) (c .before .before .before .before .before .before .before .before .before .before .before .before .before .before .pre .1 .0), (good-behind _ _ _ _ (c .before .before .before .before .before .before .before .before .before .before .before .before .before .before .pre .1 .1 .1 .1 .1 .1) (ap stmtLine (c .before .before .before .before .before .line4 .given .1)) .near, (c .before .before .before .before .before .before .before .before .before .before .before .before .before .before .pre .1 .1 .1 .0, omega (arith, c .before .before .before .before .before .before .before .before .before .before .before .before .before .before .pre .1 .1 .1 .1 .0, line-there _ _ _ _ _ (sym (c .before .before .before .before .before .before .before .before .before .before .before .before .before .before .pre .1 .1 .1 .1 .1 .0) ∙ ap stmtLine (c .before .before .before .before .before .line4 .given .1)) .1, inner-left _ (c .before .before .before .before .before .before .before .inner .ensures), inner-inside _ (c .before .before .before .before .before .before .before .inner .ensures)))))))  -- stmt-for--requires
     (λ c. search needs)  -- stmt-enum-known-line-5
-    (λ c κs. (omega (arith, c .before .before .before .before .before .before .before .before .before .before .before .before .before .before .pre .0, line-there _ _ _ _ _ (sym (c .before .before .before .before .before .before .before .before .before .before .before .before .before .before .pre .1 .1 .1 .1 .1) ∙ ap stmtLine (c .before .before .before .before .before .line5 .given .1)) .1, inner-left _ (c .before .before .before .before .before .before .before .inner .ensures)), (inner-lent _ (c .before .before .before .before .before .before .before .inner .ensures) (c .before .before .before .before .before .before .before .before .before .before .before .before .before .before .pre .1 .0), (c .before .before .before .before .before .before .before .before .before .before .before .before .before .before .pre .1 .1 .0, (c .before .before .before .before .before .before .before .before .before .before .before .before .before .before .pre .1 .1 .1 .0, (omega (arith, c .before .before .before .before .before .before .before .before .before .before .before .before .before .before .pre .1 .1 .1 .1 .0, line-there _ _ _ _ _ (sym (c .before .before .before .before .before .before .before .before .before .before .before .before .before .before .pre .1 .1 .1 .1 .1) ∙ ap stmtLine (c .before .before .before .before .before .line5 .given .1)) .1, inner-left _ (c .before .before .before .before .before .before .before .inner .ensures), inner-inside _ (c .before .before .before .before .before .before .before .inner .ensures)), line-there _ _ _ _ _ (sym (c .before .before .before .before .before .before .before .before .before .before .before .before .before .before .pre .1 .1 .1 .1 .1) ∙ ap stmtLine (c .before .before .before .before .before .line5 .given .1)) .0))))))  -- stmt-loop--requires
+    (λ c κs. (omega (arith, c .before .before .before .before .before .before .before .before .before .before .before .before .before .before .pre .0, line-there _ _ _ _ _ (sym (c .before .before .before .before .before .before .before .before .before .before .before .before .before .before .pre .1 .1 .1 .1 .1 .0) ∙ ap stmtLine (c .before .before .before .before .before .line5 .given .1)) .1, inner-left _ (c .before .before .before .before .before .before .before .inner .ensures)), (inner-lent _ (c .before .before .before .before .before .before .before .inner .ensures) (c .before .before .before .before .before .before .before .before .before .before .before .before .before .before .pre .1 .0), (good-behind _ _ _ _ (c .before .before .before .before .before .before .before .before .before .before .before .before .before .before .pre .1 .1 .1 .1 .1 .1) (ap stmtLine (c .before .before .before .before .before .line5 .given .1)) .near, (c .before .before .before .before .before .before .before .before .before .before .before .before .before .before .pre .1 .1 .1 .0, omega (arith, c .before .before .before .before .before .before .before .before .before .before .before .before .before .before .pre .1 .1 .1 .1 .0, line-there _ _ _ _ _ (sym (c .before .before .before .before .before .before .before .before .before .before .before .before .before .before .pre .1 .1 .1 .1 .1 .0) ∙ ap stmtLine (c .before .before .before .before .before .line5 .given .1)) .1, inner-left _ (c .before .before .before .before .before .before .before .inner .ensures), inner-inside _ (c .before .before .before .before .before .before .before .inner .ensures)))))))  -- stmt-loop--requires
     (λ c. search needs)  -- stmt-enum-known-line-6
-    (λ c κs. (c .before .before .before .before .before .before .before .before .before .before .before .before .before .pre .1 .1 .0, (line-there _ _ _ _ _ (sym (c .before .before .before .before .before .before .before .before .before .before .before .before .before .pre .1 .1 .1 .1 .1) ∙ ap stmtLine (c .before .before .before .before .line6 .given .1)) .0, (c .before .before .before .before .before .before .before .before .before .before .before .before .before .pre .1 .1 .1 .0 .fine, (c .before .before .before .before .before .before .before .before .before .before .before .before .before .pre .1 .1 .1 .0 .room, (c .before .before .before .before .before .before .before .before .before .before .before .before .before .pre .1 .1 .1 .0 .slots, (c .before .before .before .before .before .before .before .before .before .before .before .before .before .pre .1 .0 .size, omega (arith, c .before .before .before .before .before .before .before .before .before .before .before .before .before .pre .1 .1 .1 .1 .0, inner-inside _ (c .before .before .before .before .before .before .inner .ensures)))))))))  -- stmt-exit-requires
+    (λ c κs. (good-behind _ _ _ _ (c .before .before .before .before .before .before .before .before .before .before .before .before .before .pre .1 .1 .1 .1 .1 .1) (ap stmtLine (c .before .before .before .before .line6 .given .1)), (c .before .before .before .before .before .before .before .before .before .before .before .before .before .pre .1 .1 .1 .0 .fine, (c .before .before .before .before .before .before .before .before .before .before .before .before .before .pre .1 .1 .1 .0 .room, (c .before .before .before .before .before .before .before .before .before .before .before .before .before .pre .1 .1 .1 .0 .slots, (c .before .before .before .before .before .before .before .before .before .before .before .before .before .pre .1 .0 .size, omega (arith, c .before .before .before .before .before .before .before .before .before .before .before .before .before .pre .1 .1 .1 .1 .0, inner-inside _ (c .before .before .before .before .before .before .inner .ensures))))))))  -- stmt-exit-requires
     (λ c. search needs)  -- stmt-enum-known-line-7
-    (λ c κs. (c .before .before .before .before .before .before .before .before .before .before .before .before .before .pre .1 .1 .0, (line-there _ _ _ _ _ (sym (c .before .before .before .before .before .before .before .before .before .before .before .before .before .pre .1 .1 .1 .1 .1) ∙ ap stmtLine (c .before .before .before .before .line7 .given .1)) .0, (c .before .before .before .before .before .before .before .before .before .before .before .before .before .pre .1 .1 .1 .0 .fine, (c .before .before .before .before .before .before .before .before .before .before .before .before .before .pre .1 .1 .1 .0 .room, (c .before .before .before .before .before .before .before .before .before .before .before .before .before .pre .1 .1 .1 .0 .slots, (c .before .before .before .before .before .before .before .before .before .before .before .before .before .pre .1 .0 .size, omega (arith, c .before .before .before .before .before .before .before .before .before .before .before .before .before .pre .1 .1 .1 .1 .0, inner-inside _ (c .before .before .before .before .before .before .inner .ensures)))))))))  -- stmt-continue--requires
+    (λ c κs. (good-behind _ _ _ _ (c .before .before .before .before .before .before .before .before .before .before .before .before .before .pre .1 .1 .1 .1 .1 .1) (ap stmtLine (c .before .before .before .before .line7 .given .1)), (c .before .before .before .before .before .before .before .before .before .before .before .before .before .pre .1 .1 .1 .0 .fine, (c .before .before .before .before .before .before .before .before .before .before .before .before .before .pre .1 .1 .1 .0 .room, (c .before .before .before .before .before .before .before .before .before .before .before .before .before .pre .1 .1 .1 .0 .slots, (c .before .before .before .before .before .before .before .before .before .before .before .before .before .pre .1 .0 .size, omega (arith, c .before .before .before .before .before .before .before .before .before .before .before .before .before .pre .1 .1 .1 .1 .0, inner-inside _ (c .before .before .before .before .before .before .inner .ensures))))))))  -- stmt-continue--requires
     (λ c. search needs)  -- stmt-enum-told
-    (λ c κs. (c .before .before .before .before .before .before .before .before .before .before .before .pre .1 .1 .0, (line-there _ _ _ _ _ (sym (c .before .before .before .before .before .before .before .before .before .before .before .pre .1 .1 .1 .1 .1) ∙ ap stmtLine (c .before .before .enum-told .given .1)) .0, (c .before .before .before .before .before .before .before .before .before .before .before .pre .1 .1 .1 .0 .fine, (c .before .before .before .before .before .before .before .before .before .before .before .pre .1 .1 .1 .0 .room, c .before .before .before .before .before .before .before .before .before .before .before .pre .1 .1 .1 .0 .slots)))))  -- stmt-return--requires
+    (λ c κs. (good-behind _ _ _ _ (c .before .before .before .before .before .before .before .before .before .before .before .pre .1 .1 .1 .1 .1 .1) (ap stmtLine (c .before .before .enum-told .given .1)) .near, (c .before .before .before .before .before .before .before .before .before .before .before .pre .1 .1 .1 .0 .fine, (c .before .before .before .before .before .before .before .before .before .before .before .pre .1 .1 .1 .0 .room, c .before .before .before .before .before .before .before .before .before .before .before .pre .1 .1 .1 .0 .slots))))  -- stmt-return--requires
     (λ c. search needs)  -- stmt-enum-known-line-8
-    (λ c κs. (c .before .before .before .before .before .before .before .before .before .before .pre .1 .1 .1 .0 .fine, bad-line _ _ _ _ _ (sym (c .before .before .before .before .before .before .before .before .before .before .pre .1 .1 .1 .1 .1) ∙ ap stmtLine (c .before .line8 .given .1))))  -- stmt-refuse-requires
+    (λ c κs. (c .before .before .before .before .before .before .before .before .before .before .pre .1 .1 .1 .0 .fine, bad-line _ _ _ _ _ (sym (c .before .before .before .before .before .before .before .before .before .before .pre .1 .1 .1 .1 .1 .0) ∙ ap stmtLine (c .before .line8 .given .1))))  -- stmt-refuse-requires
     (λ c. c .before .before .before .before .before .before .assign .ensures .ready .room ∙ sym (c .before .before .before .before .before .before .before .before .before .before .before .before .before .before .before .before .before .before .before .before .pre .1 .1 .1 .0 .room))  -- stmt-same-length
     (λ c. c .before .before .before .before .before .before .assign .ensures .ready .slots ∙ sym (c .before .before .before .before .before .before .before .before .before .before .before .before .before .before .before .before .before .before .before .before .pre .1 .1 .1 .0 .slots))  -- stmt-same-length-2
     (λ c. c .before .before .before .before .before .before .assign .ensures .ready .long .size ∙ sym (c .before .before .before .before .before .before .before .before .before .before .before .before .before .before .before .before .before .before .before .before .pre .1 .1 .1 .0 .long .size))  -- stmt-same-length-3
-    (λ c. ran-assign _ _ _ _ (c .before .before .before .before .before .before .before .before .before .before .before .before .before .inner .ensures) _ _ (c .before .before .before .before .before .before .before .before .before .before .before .before .before .before .before .before .before .before .before .before .pre .1 .0) (sym (c .before .before .before .before .before .before .before .before .before .before .before .before .before .before .before .before .before .before .before .before .pre .1 .1 .1 .1 .1) ∙ ap stmtLine (c .before .before .before .before .before .before .before .before .before .before .before .line .given .1)) (c .before .before .before .before .before .before .assign .ensures))  -- stmt-returns
+    (λ c. ran-assign _ _ _ _ (c .before .before .before .before .before .before .before .before .before .before .before .before .before .inner .ensures) _ _ (c .before .before .before .before .before .before .before .before .before .before .before .before .before .before .before .before .before .before .before .before .pre .1 .0) (sym (c .before .before .before .before .before .before .before .before .before .before .before .before .before .before .before .before .before .before .before .before .pre .1 .1 .1 .1 .1 .0) ∙ ap stmtLine (c .before .before .before .before .before .before .before .before .before .before .before .line .given .1)) (rw (← good-behind _ _ _ _ (c .before .before .before .before .before .before .before .before .before .before .before .before .before .before .before .before .before .before .before .before .pre .1 .1 .1 .1 .1 .1) (ap stmtLine (c .before .before .before .before .before .before .before .before .before .before .before .line .given .1)) .is) (c .before .before .before .before .before .before .assign .ensures)))  -- stmt-returns
     (λ c. c .before .before .before .before .before .before .before .before .if- .ensures .filled .ready .room ∙ sym (c .before .before .before .before .before .before .before .before .before .before .before .before .before .before .before .before .before .before .before .before .before .before .before .pre .1 .1 .1 .0 .room))  -- stmt-same-length-4
     (λ c. c .before .before .before .before .before .before .before .before .if- .ensures .filled .ready .slots ∙ sym (c .before .before .before .before .before .before .before .before .before .before .before .before .before .before .before .before .before .before .before .before .before .before .before .pre .1 .1 .1 .0 .slots))  -- stmt-same-length-5
     (λ c. c .before .before .before .before .before .before .before .before .if- .ensures .filled .ready .long .size ∙ sym (c .before .before .before .before .before .before .before .before .before .before .before .before .before .before .before .before .before .before .before .before .before .before .before .pre .1 .1 .1 .0 .long .size))  -- stmt-same-length-6
     (λ c. c .before .before .before .before .before .before .before .before .if- .ensures .slots .size ∙ sym (c .before .before .before .before .before .before .before .before .before .before .before .before .before .before .before .before .before .before .before .before .before .before .before .pre .1 .0 .size))  -- stmt-same-length-7
-    (λ c. ran-if _ _ _ _ (c .before .before .before .before .before .before .before .before .before .before .before .before .before .before .before .before .inner .ensures) _ _ _ (sym (c .before .before .before .before .before .before .before .before .before .before .before .before .before .before .before .before .before .before .before .before .before .before .before .pre .1 .1 .1 .1 .1) ∙ ap stmtLine (c .before .before .before .before .before .before .before .before .before .before .before .before .before .before .line2 .given .1)) (c .before .before .before .before .before .before .before .before .if- .ensures))  -- stmt-returns-2
+    (λ c. ran-if _ _ _ _ (c .before .before .before .before .before .before .before .before .before .before .before .before .before .before .before .before .inner .ensures) _ _ _ (sym (c .before .before .before .before .before .before .before .before .before .before .before .before .before .before .before .before .before .before .before .before .before .before .before .pre .1 .1 .1 .1 .1 .0) ∙ ap stmtLine (c .before .before .before .before .before .before .before .before .before .before .before .before .before .before .line2 .given .1)) (rw (← good-behind _ _ _ _ (c .before .before .before .before .before .before .before .before .before .before .before .before .before .before .before .before .before .before .before .before .before .before .before .pre .1 .1 .1 .1 .1 .1) (ap stmtLine (c .before .before .before .before .before .before .before .before .before .before .before .before .before .before .line2 .given .1)) .is) (c .before .before .before .before .before .before .before .before .if- .ensures)))  -- stmt-returns-2
     (λ c. c .before .before .before .before .before .before .before .before .case .ensures .filled .ready .room ∙ sym (c .before .before .before .before .before .before .before .before .before .before .before .before .before .before .before .before .before .before .before .before .before .before .before .pre .1 .1 .1 .0 .room))  -- stmt-same-length-8
     (λ c. c .before .before .before .before .before .before .before .before .case .ensures .filled .ready .slots ∙ sym (c .before .before .before .before .before .before .before .before .before .before .before .before .before .before .before .before .before .before .before .before .before .before .before .pre .1 .1 .1 .0 .slots))  -- stmt-same-length-9
     (λ c. c .before .before .before .before .before .before .before .before .case .ensures .filled .ready .long .size ∙ sym (c .before .before .before .before .before .before .before .before .before .before .before .before .before .before .before .before .before .before .before .before .before .before .before .pre .1 .1 .1 .0 .long .size))  -- stmt-same-length-10
     (λ c. c .before .before .before .before .before .before .before .before .case .ensures .slots .size ∙ sym (c .before .before .before .before .before .before .before .before .before .before .before .before .before .before .before .before .before .before .before .before .before .before .before .pre .1 .0 .size))  -- stmt-same-length-11
-    (λ c. ran-case _ _ _ _ (c .before .before .before .before .before .before .before .before .before .before .before .before .before .before .before .before .inner .ensures) _ _ _ (sym (c .before .before .before .before .before .before .before .before .before .before .before .before .before .before .before .before .before .before .before .before .before .before .before .pre .1 .1 .1 .1 .1) ∙ ap stmtLine (c .before .before .before .before .before .before .before .before .before .before .before .before .before .before .line3 .given .1)) (c .before .before .before .before .before .before .before .before .case .ensures))  -- stmt-returns-3
+    (λ c. ran-case _ _ _ _ (c .before .before .before .before .before .before .before .before .before .before .before .before .before .before .before .before .inner .ensures) _ _ _ (sym (c .before .before .before .before .before .before .before .before .before .before .before .before .before .before .before .before .before .before .before .before .before .before .before .pre .1 .1 .1 .1 .1 .0) ∙ ap stmtLine (c .before .before .before .before .before .before .before .before .before .before .before .before .before .before .line3 .given .1)) (rw (← good-behind _ _ _ _ (c .before .before .before .before .before .before .before .before .before .before .before .before .before .before .before .before .before .before .before .before .before .before .before .pre .1 .1 .1 .1 .1 .1) (ap stmtLine (c .before .before .before .before .before .before .before .before .before .before .before .before .before .before .line3 .given .1)) .is) (c .before .before .before .before .before .before .before .before .case .ensures)))  -- stmt-returns-3
     (λ c. c .before .before .before .before .before .before .before .before .for- .ensures .filled .ready .room ∙ sym (c .before .before .before .before .before .before .before .before .before .before .before .before .before .before .before .before .before .before .before .before .before .before .before .pre .1 .1 .1 .0 .room))  -- stmt-same-length-12
     (λ c. c .before .before .before .before .before .before .before .before .for- .ensures .filled .ready .slots ∙ sym (c .before .before .before .before .before .before .before .before .before .before .before .before .before .before .before .before .before .before .before .before .before .before .before .pre .1 .1 .1 .0 .slots))  -- stmt-same-length-13
     (λ c. c .before .before .before .before .before .before .before .before .for- .ensures .filled .ready .long .size ∙ sym (c .before .before .before .before .before .before .before .before .before .before .before .before .before .before .before .before .before .before .before .before .before .before .before .pre .1 .1 .1 .0 .long .size))  -- stmt-same-length-14
     (λ c. c .before .before .before .before .before .before .before .before .for- .ensures .slots .size ∙ sym (c .before .before .before .before .before .before .before .before .before .before .before .before .before .before .before .before .before .before .before .before .before .before .before .pre .1 .0 .size))  -- stmt-same-length-15
-    (λ c. ran-for _ _ _ _ (c .before .before .before .before .before .before .before .before .before .before .before .before .before .before .before .before .inner .ensures) _ _ _ _ _ (sym (c .before .before .before .before .before .before .before .before .before .before .before .before .before .before .before .before .before .before .before .before .before .before .before .pre .1 .1 .1 .1 .1) ∙ ap stmtLine (c .before .before .before .before .before .before .before .before .before .before .before .before .before .before .line4 .given .1)) (c .before .before .before .before .before .before .before .before .for- .ensures))  -- stmt-returns-4
+    (λ c. ran-for _ _ _ _ (c .before .before .before .before .before .before .before .before .before .before .before .before .before .before .before .before .inner .ensures) _ _ _ _ _ (sym (c .before .before .before .before .before .before .before .before .before .before .before .before .before .before .before .before .before .before .before .before .before .before .before .pre .1 .1 .1 .1 .1 .0) ∙ ap stmtLine (c .before .before .before .before .before .before .before .before .before .before .before .before .before .before .line4 .given .1)) (rw (← good-behind _ _ _ _ (c .before .before .before .before .before .before .before .before .before .before .before .before .before .before .before .before .before .before .before .before .before .before .before .pre .1 .1 .1 .1 .1 .1) (ap stmtLine (c .before .before .before .before .before .before .before .before .before .before .before .before .before .before .line4 .given .1)) .is) (c .before .before .before .before .before .before .before .before .for- .ensures)))  -- stmt-returns-4
     (λ c. c .before .before .before .before .before .before .before .before .loop- .ensures .filled .ready .room ∙ sym (c .before .before .before .before .before .before .before .before .before .before .before .before .before .before .before .before .before .before .before .before .before .before .before .pre .1 .1 .1 .0 .room))  -- stmt-same-length-16
     (λ c. c .before .before .before .before .before .before .before .before .loop- .ensures .filled .ready .slots ∙ sym (c .before .before .before .before .before .before .before .before .before .before .before .before .before .before .before .before .before .before .before .before .before .before .before .pre .1 .1 .1 .0 .slots))  -- stmt-same-length-17
     (λ c. c .before .before .before .before .before .before .before .before .loop- .ensures .filled .ready .long .size ∙ sym (c .before .before .before .before .before .before .before .before .before .before .before .before .before .before .before .before .before .before .before .before .before .before .before .pre .1 .1 .1 .0 .long .size))  -- stmt-same-length-18
     (λ c. c .before .before .before .before .before .before .before .before .loop- .ensures .slots .size ∙ sym (c .before .before .before .before .before .before .before .before .before .before .before .before .before .before .before .before .before .before .before .before .before .before .before .pre .1 .0 .size))  -- stmt-same-length-19
-    (λ c. ran-loop _ _ _ _ (c .before .before .before .before .before .before .before .before .before .before .before .before .before .before .before .before .inner .ensures) _ _ _ _ (sym (c .before .before .before .before .before .before .before .before .before .before .before .before .before .before .before .before .before .before .before .before .before .before .before .pre .1 .1 .1 .1 .1) ∙ ap stmtLine (c .before .before .before .before .before .before .before .before .before .before .before .before .before .before .line5 .given .1)) (c .before .before .before .before .before .before .before .before .loop- .ensures))  -- stmt-returns-5
+    (λ c. ran-loop _ _ _ _ (c .before .before .before .before .before .before .before .before .before .before .before .before .before .before .before .before .inner .ensures) _ _ _ _ (sym (c .before .before .before .before .before .before .before .before .before .before .before .before .before .before .before .before .before .before .before .before .before .before .before .pre .1 .1 .1 .1 .1 .0) ∙ ap stmtLine (c .before .before .before .before .before .before .before .before .before .before .before .before .before .before .line5 .given .1)) (rw (← good-behind _ _ _ _ (c .before .before .before .before .before .before .before .before .before .before .before .before .before .before .before .before .before .before .before .before .before .before .before .pre .1 .1 .1 .1 .1 .1) (ap stmtLine (c .before .before .before .before .before .before .before .before .before .before .before .before .before .before .line5 .given .1)) .is) (c .before .before .before .before .before .before .before .before .loop- .ensures)))  -- stmt-returns-5
     (λ c. c .before .before .before .before .exit .ensures .coded .room ∙ sym (c .before .before .before .before .before .before .before .before .before .before .before .before .before .before .before .before .before .before .pre .1 .1 .1 .0 .room))  -- stmt-same-length-20
     (λ c. c .before .before .before .before .exit .ensures .coded .slots ∙ sym (c .before .before .before .before .before .before .before .before .before .before .before .before .before .before .before .before .before .before .pre .1 .1 .1 .0 .slots))  -- stmt-same-length-21
     (λ c. search needs)  -- stmt-same-length-22
-    (λ c. ran-exit _ _ _ _ (c .before .before .before .before .before .before .before .before .before .before .before .before .before .before .before .before .before .before .pre .1 .1 .1 .0) (c .before .before .before .before .before .before .before .before .before .before .before .inner .ensures) _ _ (c .before .before .before .before .before .before .before .before .before .before .before .before .before .before .before .before .before .before .pre .1 .0) (sym (c .before .before .before .before .before .before .before .before .before .before .before .before .before .before .before .before .before .before .pre .1 .1 .1 .1 .1) ∙ ap stmtLine (c .before .before .before .before .before .before .before .before .before .line6 .given .1)) (c .before .before .before .before .exit .ensures))  -- stmt-returns-6
+    (λ c. ran-exit _ _ _ _ (c .before .before .before .before .before .before .before .before .before .before .before .before .before .before .before .before .before .before .pre .1 .1 .1 .0) (c .before .before .before .before .before .before .before .before .before .before .before .inner .ensures) _ _ (c .before .before .before .before .before .before .before .before .before .before .before .before .before .before .before .before .before .before .pre .1 .0) (sym (c .before .before .before .before .before .before .before .before .before .before .before .before .before .before .before .before .before .before .pre .1 .1 .1 .1 .1 .0) ∙ ap stmtLine (c .before .before .before .before .before .before .before .before .before .line6 .given .1)) (c .before .before .before .before .exit .ensures))  -- stmt-returns-6
     (λ c. c .before .before .before .before .before .before .continue- .ensures .stepped .coded .room ∙ sym (c .before .before .before .before .before .before .before .before .before .before .before .before .before .before .before .before .before .before .before .before .pre .1 .1 .1 .0 .room))  -- stmt-same-length-23
     (λ c. c .before .before .before .before .before .before .continue- .ensures .stepped .coded .slots ∙ sym (c .before .before .before .before .before .before .before .before .before .before .before .before .before .before .before .before .before .before .before .before .pre .1 .1 .1 .0 .slots))  -- stmt-same-length-24
     (λ c. c .before .before .before .before .before .before .continue- .ensures .behind .size ∙ sym (c .before .before .before .before .before .before .before .before .before .before .before .before .before .before .before .before .before .before .before .before .pre .1 .0 .size))  -- stmt-same-length-25
-    (λ c. ran-continue _ _ _ _ (c .before .before .before .before .before .before .before .before .before .before .before .before .before .before .before .before .before .before .before .before .pre .1 .1 .1 .0) (c .before .before .before .before .before .before .before .before .before .before .before .before .before .inner .ensures) _ _ (c .before .before .before .before .before .before .before .before .before .before .before .before .before .before .before .before .before .before .before .before .pre .1 .0) (sym (c .before .before .before .before .before .before .before .before .before .before .before .before .before .before .before .before .before .before .before .before .pre .1 .1 .1 .1 .1) ∙ ap stmtLine (c .before .before .before .before .before .before .before .before .before .before .before .line7 .given .1)) (c .before .before .before .before .before .before .continue- .ensures))  -- stmt-returns-7
+    (λ c. ran-continue _ _ _ _ (c .before .before .before .before .before .before .before .before .before .before .before .before .before .before .before .before .before .before .before .before .pre .1 .1 .1 .0) (c .before .before .before .before .before .before .before .before .before .before .before .before .before .inner .ensures) _ _ (c .before .before .before .before .before .before .before .before .before .before .before .before .before .before .before .before .before .before .before .before .pre .1 .0) (sym (c .before .before .before .before .before .before .before .before .before .before .before .before .before .before .before .before .before .before .before .before .pre .1 .1 .1 .1 .1 .0) ∙ ap stmtLine (c .before .before .before .before .before .before .before .before .before .before .before .line7 .given .1)) (c .before .before .before .before .before .before .continue- .ensures))  -- stmt-returns-7
     (λ c. c .before .before .before .before .return- .ensures .coded .room ∙ sym (c .before .before .before .before .before .before .before .before .before .before .before .before .before .before .before .before .pre .1 .1 .1 .0 .room))  -- stmt-same-length-26
     (λ c. c .before .before .before .before .return- .ensures .coded .slots ∙ sym (c .before .before .before .before .before .before .before .before .before .before .before .before .before .before .before .before .pre .1 .1 .1 .0 .slots))  -- stmt-same-length-27
-    (λ c. ran-return _ _ _ _ (c .before .before .before .before .before .before .before .before .before .before .before .before .before .before .before .before .pre .1 .1 .1 .0) _ (c .before .before .before .before .before .before .before .before .before .before .before .before .before .before .before .before .pre .1 .0) (sym (c .before .before .before .before .before .before .before .before .before .before .before .before .before .before .before .before .pre .1 .1 .1 .1 .1) ∙ ap stmtLine (c .before .before .before .before .before .before .before .enum-told .given .1)) (c .before .before .before .before .return- .ensures))  -- stmt-returns-8
-    (λ c. ran-bad _ _ _ _ _ (c .before .before .before .before .before .before .before .before .before .before .before .pre .1 .0) (c .before .before .before .before .before .before .before .before .before .before .before .pre .1 .1 .0) (c .before .before .before .before .before .before .before .before .before .before .before .pre .1 .1 .1 .0) (sym (c .before .before .before .before .before .before .before .before .before .before .before .pre .1 .1 .1 .1 .1) ∙ ap stmtLine (c .before .before .line8 .given .1)) (c .refuse .ensures)))  -- stmt-returns-9
+    (λ c. ran-return _ _ _ _ (c .before .before .before .before .before .before .before .before .before .before .before .before .before .before .before .before .pre .1 .1 .1 .0) _ (c .before .before .before .before .before .before .before .before .before .before .before .before .before .before .before .before .pre .1 .0) (sym (c .before .before .before .before .before .before .before .before .before .before .before .before .before .before .before .before .pre .1 .1 .1 .1 .1 .0) ∙ ap stmtLine (c .before .before .before .before .before .before .before .enum-told .given .1)) (rw (← good-behind _ _ _ _ (c .before .before .before .before .before .before .before .before .before .before .before .before .before .before .before .before .pre .1 .1 .1 .1 .1 .1) (ap stmtLine (c .before .before .before .before .before .before .before .enum-told .given .1)) .is) (c .before .before .before .before .return- .ensures)))  -- stmt-returns-8
+    (λ c. ran-bad _ _ _ _ _ (c .before .before .before .before .before .before .before .before .before .before .before .pre .1 .0) (c .before .before .before .before .before .before .before .before .before .before .before .pre .1 .1 .0) (c .before .before .before .before .before .before .before .before .before .before .before .pre .1 .1 .1 .0) (sym (c .before .before .before .before .before .before .before .before .before .before .before .pre .1 .1 .1 .1 .1 .0) ∙ ap stmtLine (c .before .before .line8 .given .1)) (c .refuse .ensures)))  -- stmt-returns-9
     λ t. while--lts.spec (
       inner-reads.Asked,
       inner-reads.Learnt,

@@ -9,10 +9,9 @@ pub assign-spec : {M : Type 1} → statement M
 assign-spec =
     tie.close
     (tie.spec
-    (λ c κs. (c .before .before .before .before .before .pre .0, c .before .before .before .before .before .pre .1 .0))  -- next-line-requires
-    (λ c κs. (c .before .before .before .next-line .ensures .near, (c .before .before .before .before .before .before .before .before .before .pre .1 .1 .0, omega (arith, c .before .before .before .before .before .before .before .before .before .pre .1 .1 .1))))  -- emit-expr-requires
+    (λ c κs. (c .before .before .before .before .before .before .before .before .pre .0, (c .before .before .before .before .before .before .before .before .pre .1 .0, omega (arith, c .before .before .before .before .before .before .before .before .pre .1 .1))))  -- emit-expr-requires
     (λ c κs. (c .before .before .before .before .before .before .before .before .before .before .emit-expr .ensures .ready .fine, (c .before .before .before .before .before .before .before .before .before .before .emit-expr .ensures .ready .room, c .before .before .before .before .before .before .before .before .before .before .emit-expr .ensures .ready .slots)))  -- emit-store-var-requires
-    (λ c. c .before .before .before .before .emit-store-var .ensures .room ∙ sym (c .before .before .before .before .before .before .before .before .before .before .before .before .before .before .before .before .before .before .before .before .before .before .before .before .before .pre .1 .1 .0 .room))  -- same-length
-    (λ c. c .before .before .before .before .emit-store-var .ensures .slots ∙ sym (c .before .before .before .before .before .before .before .before .before .before .before .before .before .before .before .before .before .before .before .before .before .before .before .before .before .pre .1 .1 .0 .slots))  -- same-length-2
-    (λ c. c .before .before .before .before .before .before .before .before .before .before .before .before .before .before .before .emit-expr .ensures .ready .long .size ∙ sym (c .before .before .before .before .before .before .before .before .before .before .before .before .before .before .before .before .before .before .before .before .before .before .before .before .before .pre .1 .1 .0 .long .size))  -- same-length-3
-    (λ c. rw (← (c .before .before .before .before .before .before .before .before .before .before .before .before .before .before .before .before .before .before .before .next-line) .ensures .is) (assigned _ _ _ _ (c .before .before .before .before .before .before .before .before .before .before .before .before .before .before .before .emit-expr .ensures) (c .before .before .before .before .emit-store-var .ensures))))  -- returns
+    (λ c. c .before .before .before .before .emit-store-var .ensures .room ∙ sym (c .before .before .before .before .before .before .before .before .before .before .before .before .before .before .before .before .before .before .before .before .before .before .before .before .pre .1 .0 .room))  -- same-length
+    (λ c. c .before .before .before .before .emit-store-var .ensures .slots ∙ sym (c .before .before .before .before .before .before .before .before .before .before .before .before .before .before .before .before .before .before .before .before .before .before .before .before .pre .1 .0 .slots))  -- same-length-2
+    (λ c. c .before .before .before .before .before .before .before .before .before .before .before .before .before .before .before .emit-expr .ensures .ready .long .size ∙ sym (c .before .before .before .before .before .before .before .before .before .before .before .before .before .before .before .before .before .before .before .before .before .before .before .before .pre .1 .0 .long .size))  -- same-length-3
+    (λ c. assigned _ _ _ _ (c .before .before .before .before .before .before .before .before .before .before .before .before .before .before .before .emit-expr .ensures) (c .before .before .before .before .emit-store-var .ensures)))  -- returns
