@@ -1,5 +1,5 @@
 -- What this crate's functions give, said of the definition.
-use Prim.Native.Nat.{ℕ, _+_, _≤_}
+use Prim.Native.Nat.{ℕ, _+_, _/_, _≤_}
 use mathlib.Core.Path.{_≡_}
 use mathlib.Core.List.{List, map}
 use mathlib.Core.Option.{Option}
@@ -14,6 +14,7 @@ use Rattle.definition.specs.Lent.{filled, entryNumbers}
 use Rattle.definition.specs.Compile as compile
 use Rattle.definition.specs.Compile.{boundLabel, jumpTargets, finalizeFunction}
 use Rattle.definition.specs.Claims.{Each}
+use Rattle.rewrite.specs.View.{smallCode}
 use Rattle.optimize.specs.View.{mapIn}
 use Rattle.emit.specs.declared.Emitter.{Emitter}
 use Rattle.emit.specs.Book.{labelsIn, patchesIn}
@@ -21,6 +22,10 @@ use Rattle.emit.specs.View.{world, state}
 use Rattle.compile.specs.declared.FinalizedFunction.{FinalizedFunction}
 
 -- ---- branches
+
+-- targets of small code: a branch has three bytes or more
+abbrev pub smallBranches : ℕ
+smallBranches = smallCode / 3
 
 -- the places where the labels of pending patches are bound
 unfoldable pub targetsOf : List (Option ℕ) → List PendingPatch → List ℕ

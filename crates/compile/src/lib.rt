@@ -24,6 +24,9 @@ use emit::patch::PendingPatch;
 pub mod call; // call.rt: the call, but for emission
 pub mod entry; // entry.rt: the call
 
+// Targets of small code: a branch has three bytes or more.
+const SMALL_BRANCHES: usize = rewrite::SMALL_CODE / 3;
+
 // Finished code: its bytes and depth, and how many line entries it has.
 pub struct FinalizedFunction {
     pub size: usize,
@@ -174,6 +177,21 @@ pub fn finalize_function(
 {
     let branches = e.patches;
     let end = e.size + 1;
+    if e.size <= rewrite::SMALL_CODE {
+        let mut targets = [0u16; SMALL_BRANCHES];
+        let mut total = [0u16; rewrite::SMALL_SLOTS];
+        return finalize_in(
+            sheet,
+            rules,
+            count,
+            e,
+            code,
+            book,
+            lines,
+            &mut targets[..branches],
+            &mut total[..end],
+        );
+    }
     let mut targets = [0u16; MAX_BRANCHES];
     let mut total = [0u16; rewrite::SLOTS];
     finalize_in(

@@ -12,8 +12,7 @@ use lib.Dec.{eqb, leb}
 use lib.Seq.{length-take-le, getD-set-same, getD-set-other, drop-cons, take-suc-set, drop-set-lt, take-all, append-snoc}
 use Rattle.definition.specs.Field.{has}
 use Rattle.definition.specs.Rewrite.{movedTo}
-use Rattle.rewrite.specs.View.{isMark, slotCount, Clear}
-use Rattle.definition.specs.Limits.{maxCode}
+use Rattle.rewrite.specs.View.{isMark, Clear}
 use Rattle.store.specs.Fill.{zeroedFrom}
 use Rattle.store.proofs.Fills.{replicate-none, zeros-replicate, length-zeros, zero-all}
 use Rattle.field.proofs.Lists.{has-here}
@@ -121,21 +120,18 @@ module _ (f : ℕ → ℕ) (list₀ : List ℕ) where
 
 -- ---- a table that is made empty
 
--- the part of it that code of m bytes needs
+-- the part of it that is needed: of a table by offset, for code of m bytes, m + 1 elements
 part-none : (k n x : ℕ) → _≡_ {A = ℕ} (getD (take k (replicate n 0)) x 0) 0
 part-none zero n x = refl
 part-none (suc k) zero x = refl
 part-none (suc k) (suc n) zero = refl
 part-none (suc k) (suc n) (suc x) = part-none k n x
 
-abbrev slots-for : ℕ → List ℕ
-slots-for m = take (m + 1) (replicate slotCount 0)
+pub part-long : (n k : ℕ) → k ≤ n → length {A = ℕ} (take k (replicate n 0)) ≡ k
+part-long n k h = length-take-le {A = ℕ} k (replicate n 0) (let l = length-replicate {A = ℕ} n 0 in omega arith)
 
-pub slots-long : (m : ℕ) → m ≤ maxCode → length (slots-for m) ≡ m + 1
-slots-long m h = length-take-le {A = ℕ} (m + 1) (replicate slotCount 0) (let l = length-replicate {A = ℕ} slotCount 0 in omega arith)
-
-pub slots-clear : (m : ℕ) → m ≤ maxCode → Clear m (slots-for m)
-slots-clear m h = record { slots = rw (slots-long m h) (omega arith); none = part-none (m + 1) slotCount }
+pub part-clear : (n m : ℕ) → m + 1 ≤ n → Clear m (take (m + 1) (replicate n 0))
+part-clear n m h = record { slots = rw (part-long n (m + 1) h) (omega arith); none = part-none (m + 1) n }
 
 -- cleared again
 pub cleared : {out : List ℕ} {n : ℕ} (l : List ℕ) → out ≡ zeroedFrom 0 l → n < length l → Clear n out

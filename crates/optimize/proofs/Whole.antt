@@ -122,7 +122,7 @@ limits : (s : Sheet) (rs : List Rule) (g : Given) → afterRules s rs g
 unfolding afterRules
 limits s rs g = refl
 
-limit-kept : (code protected entries : ℕ) {n : ℕ} → n ≡ overLimit code protected entries → n ≡ 0 → (code ≤ maxCode) × (protected ≤ maxProtected) × (entries ≤ maxLines)
+pub limit-kept : (code protected entries : ℕ) {n : ℕ} → n ≡ overLimit code protected entries → n ≡ 0 → (code ≤ maxCode) × (protected ≤ maxProtected) × (entries ≤ maxLines)
 unfolding overLimit
 limit-kept code protected entries = go (leb code maxCode) refl (leb protected maxProtected) refl (leb entries maxLines) refl
   where
@@ -155,7 +155,7 @@ module _ (s : Sheet) (rs : List Rule) (g : Given) (r : Room) {n : ℕ} (e : n �
   pub within-limits : {a : def-alone.Answer} → n ≡ 0 → a ≡ answer r (afterLimits s rs g) → a ≡ answer r (afterRules s rs g)
   within-limits z is = is ∙ ap (answer r) (sym (tested .1 z))
 
-  pub holds : n ≡ 0 → Roomy r → Within g r
-  holds z m =
-      let k = limit-kept _ _ _ e z in
-      record { few = k .0; code = omega (arith, m .code, k .0); protected = omega (arith, m .protected, k .1); lines = omega (arith, m .lines, k .2) }
+pub holds : {g : Given} {r : Room} {n : ℕ} → n ≡ overLimit (length (g .code)) (length (g .protected)) (length (g .lines) / entrySize) → n ≡ 0 → Roomy r → Within g r
+holds e z m =
+    let k = limit-kept _ _ _ e z in
+    record { few = k .0; code = omega (arith, m .code, k .0); protected = omega (arith, m .protected, k .1); lines = omega (arith, m .lines, k .2) }

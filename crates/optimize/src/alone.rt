@@ -151,6 +151,21 @@ fn rewrite_limited(
         return refuse(over, 0, bytes, offsets, entries);
     }
     let end = code.len() + 1;
+    if code.len() <= rewrite::SMALL_CODE {
+        let mut total = [0u16; rewrite::SMALL_SLOTS];
+        return rewrite_checked(
+            sheet,
+            rules,
+            count,
+            code,
+            protected,
+            lines,
+            &mut total[..end],
+            bytes,
+            offsets,
+            entries,
+        );
+    }
     let mut total = [0u16; rewrite::SLOTS];
     rewrite_checked(
         sheet,

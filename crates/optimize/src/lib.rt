@@ -284,6 +284,20 @@ pub fn optimize(
     ensures { λ r. ⌜ Ran (passes (sheetIn (now (sheet .entry))) (rulesIn (now (rules .entry)) count) (pipeline (now (code .entry)) (now (protected .entry)) (now (total .entry)))) (now (code .entry)) (now (code .exit)) (now (protected .exit)) (now (total .exit)) r ⌝ }
 {
     let end = code.len() + 1;
+    if code.len() <= rewrite::SMALL_CODE {
+        let mut marks = [0u8; rewrite::SMALL_SLOTS];
+        let mut moves = [0u16; rewrite::SMALL_SLOTS];
+        return passes(
+            sheet,
+            rules,
+            count,
+            code,
+            protected,
+            total,
+            &mut marks[..end],
+            &mut moves[..end],
+        );
+    }
     let mut marks = [0u8; rewrite::SLOTS];
     let mut moves = [0u16; rewrite::SLOTS];
     passes(

@@ -82,6 +82,13 @@ pub record Ready (sheet rules : List ℕ) (count : ℕ) (marks code : List ℕ) 
 abbrev pub slotCount : ℕ
 slotCount = maxCode + 1
 
+-- the longest code that has small tables, and the elements of one by offset
+abbrev pub smallCode : ℕ
+smallCode = 1024
+
+abbrev pub smallSlots : ℕ
+smallSlots = smallCode + 1
+
 -- a table by offset with nothing in it, and an element for each offset of code of n bytes, its end among them
 pub record Clear (n : ℕ) (table : List ℕ) : Type 0 where
   pub slots : n < length table

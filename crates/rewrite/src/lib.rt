@@ -15,6 +15,11 @@ use rules::Instruction;
 // Elements of a table by offset: one for each offset of the longest code, its end among them.
 pub const SLOTS: usize = MAX_CODE + 1;
 
+// An array is cleared where it is made: code of up to so many bytes has small tables, and does not pay for the longest code's.
+pub const SMALL_CODE: usize = 1024;
+
+pub const SMALL_SLOTS: usize = SMALL_CODE + 1;
+
 // What is known of the next instruction's action: the second of a matched pair is decided with the first.
 pub enum Next {
     Ask,

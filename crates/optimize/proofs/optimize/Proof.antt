@@ -1,6 +1,7 @@
 -- Made by `answers` from crates/optimize/answers/optimize.txt: edit that file, not this one.
 use mathlib.Core.Path.{sym}
-use Rattle.optimize.proofs.Tables.{slots-clear, slots-long}
+use Rattle.rewrite.specs.View.{slotCount, smallSlots}
+use Rattle.optimize.proofs.Tables.{part-clear, part-long}
 use borrow.Author.Needs.{needs}
 use Rattle.optimize.proofs.optimize.Statement.{statement}
 use Rattle.optimize.proofs.optimize.Tie as tie
@@ -11,11 +12,20 @@ optimize-spec =
     (tie.spec
     (λ c. search needs)  -- add-end
     (λ c. search needs)  -- array-borrow-prefix-marks
-    (λ c. sym (slots-long _ (c .before .before .before .before .before .before .before .before .before .pre .few)))  -- slice-aggregate-passes
+    (λ c. sym (part-long smallSlots _ (search needs)))  -- slice-aggregate-passes
     (λ c. search needs)  -- array-borrow-prefix-moves
-    (λ c. sym (slots-long _ (c .before .before .before .before .before .before .before .before .before .before .pre .few)))  -- slice-aggregate-passes-2
-    (λ c κs. (c .before .before .before .before .before .before .before .before .before .before .pre, (slots-clear _ (c .before .before .before .before .before .before .before .before .before .before .pre .few), slots-clear _ (c .before .before .before .before .before .before .before .before .before .before .pre .few))))  -- passes-requires
+    (λ c. sym (part-long smallSlots _ (search needs)))  -- slice-aggregate-passes-2
+    (λ c κs. (c .before .before .before .before .before .before .before .before .before .before .before .pre, (part-clear smallSlots _ (search needs), part-clear smallSlots _ (search needs))))  -- passes-requires
     (λ c. search needs)  -- same-length
     (λ c. search needs)  -- same-length-2
     (λ c. search needs)  -- same-length-3
-    (λ c. search needs))  -- returns
+    (λ c. search needs)  -- returns
+    (λ c. search needs)  -- array-borrow-prefix-marks-2
+    (λ c. sym (part-long slotCount _ (search needs)))  -- slice-aggregate-passes-3
+    (λ c. search needs)  -- array-borrow-prefix-moves-2
+    (λ c. sym (part-long slotCount _ (search needs)))  -- slice-aggregate-passes-4
+    (λ c κs. (c .before .before .before .before .before .before .before .before .before .before .before .pre, (part-clear slotCount _ (search needs), part-clear slotCount _ (search needs))))  -- passes-requires-2
+    (λ c. search needs)  -- same-length-4
+    (λ c. search needs)  -- same-length-5
+    (λ c. search needs)  -- same-length-6
+    (λ c. search needs))  -- returns-2
