@@ -91,7 +91,7 @@ unfolding act cmpOperand
 cmp-br-done s c v k l {p = p} {i = i} {code = code} {book = book} {code′ = code′} {pool′ = pool′} room q is at a n =
     let d = branch-did s cmpBr (comparisonByte s c ∷ le16 v ++ le16 (i .index)) p (q .pooled .fine) room (ap (λ (z : def.PendingPatch). z .instructionOffset) is ∙ at) (a .coded .did pool′) (n .did code′ pool′ (a .coded .room)) in
     record {
-      ready = record { fine = n .fine; room = a .coded .room; slots = n .slots; long = q .pooled .long };
+      ready = record { fine = n .fine; room = a .coded .room; slots = n .slots; held = q .pooled .held };
       kept = kept-then (q .pooled .kept code book) (kept-then (a .coded .kept pool′) (n .kept code′ pool′));
       did = then (q .pooled .did s code book) (by-step (λ on. rw (← (q .index on))) (rw is at d));
     }

@@ -84,7 +84,7 @@ module _ (pool : List ℕ) (n k : ℕ) where
 
 module _ (k : ℕ) {e : Emitter} {pool : List ℕ} (h : Fine e) (long : Held pool) where
   pub intern-stays : (e .refused ≡ 0 → ⊥) → Interns k e pool (record { emitter = e; index = 0 }) pool
-  intern-stays off = record { pooled = record { fine = h; long = long; kept = λ code book. kept-self (world e code book pool); did = λ s code book. stays (act s (addConstant k)) off }; index = λ z. absurd (off z) }
+  intern-stays off = record { pooled = record { fine = h; held = long; kept = λ code book. kept-self (world e code book pool); did = λ s code book. stays (act s (addConstant k)) off }; index = λ z. absurd (off z) }
 
   module _ {i x : ℕ} (is : i ≡ indexOf k (take (e .constants) pool)) (is-x : x ≡ i) where
     pub intern-has : e .refused ≡ 0 → i < e .constants → Interns k e pool (record { emitter = e; index = x }) pool
@@ -92,7 +92,7 @@ module _ (k : ℕ) {e : Emitter} {pool : List ℕ} (h : Fine e) (long : Held poo
     intern-has on few = record {
       pooled = record {
         fine = h;
-        long = long;
+        held = long;
         kept = λ code book. kept-self (world e code book pool);
         did = λ s code book. goes (act s (addConstant k)) (world e code book pool) (world e code book pool) on on (rw (count-of pool h long, ← is, lt-ltb _ _ few));
       };
@@ -105,7 +105,7 @@ module _ (k : ℕ) {e : Emitter} {pool : List ℕ} (h : Fine e) (long : Held poo
       intern-full full b = record {
         pooled = record {
           fine = b .fine;
-          long = long;
+          held = long;
           kept = λ code book. b .kept code book pool;
           did = λ s code book. stops (act s (addConstant k)) constantsFull 0 code book pool b (rw (count-of pool h long, ← is, le-ltb _ _ absent, count-of pool h long, le-ltb _ _ full));
         };
@@ -124,7 +124,7 @@ module _ (k : ℕ) {e : Emitter} {pool : List ℕ} (h : Fine e) (long : Held poo
           record {
             pooled = record {
               fine = record { size = h .size; labels = h .labels; patches = h .patches; lines = h .lines; constants = omega arith; last = h .last; depth = h .depth; deepest = h .deepest; place = h .place };
-              long = a .held;
+              held = a .held;
               kept = λ code book. record {
                 grown = record { size = omega arith; labels = omega arith; patches = omega arith; lines = omega arith; constants = omega arith };
                 code = refl;
@@ -144,7 +144,7 @@ pub constant-loaded : (s : Sheet) (k : ℕ) {e r : Emitter} {i : Interned} {code
     → Filled (act s (loadConstant k)) (world e code book pool) (world r code′ book′ pool′)
 unfolding act
 constant-loaded s k {i = i} {code = code} {book = book} {pool′ = pool′} p a = record {
-  ready = record { fine = a .coded .fine; room = a .coded .room; slots = a .coded .slots; long = p .pooled .long };
+  ready = record { fine = a .coded .fine; room = a .coded .room; slots = a .coded .slots; held = p .pooled .held };
   kept = kept-then (p .pooled .kept code book) (a .coded .kept pool′);
   did = then (p .pooled .did s code book) (by-step (λ on. rw (p .index on)) (a .coded .did pool′));
 }

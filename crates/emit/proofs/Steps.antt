@@ -83,23 +83,23 @@ filled-by e a = record { ready = a .ready; kept = a .kept; did = by-step e (a .d
 
 module _ {e r : Emitter} {code book pool : List ℕ} (w : Ready (world e code book pool)) where
   pub bare-filled : (s : Sheet) {c : Call} → Bare c e r → Filled (act s c) (world e code book pool) (world r code book pool)
-  bare-filled s b = record { ready = record { fine = b .fine; room = w .room; slots = w .slots; long = w .long }; kept = b .kept code book pool; did = b .did s code book pool }
+  bare-filled s b = record { ready = record { fine = b .fine; room = w .room; slots = w .slots; held = w .held }; kept = b .kept code book pool; did = b .did s code book pool }
 
   pub booked-filled : (s : Sheet) {c : Call} {book′ : List ℕ} → Booked c e book r book′ → Filled (act s c) (world e code book pool) (world r code book′ pool)
-  booked-filled s b = record { ready = record { fine = b .fine; room = w .room; slots = b .slots; long = w .long }; kept = b .kept code pool; did = b .did s code pool (w .room) }
+  booked-filled s b = record { ready = record { fine = b .fine; room = w .room; slots = b .slots; held = w .held }; kept = b .kept code pool; did = b .did s code pool (w .room) }
 
   pub created-filled : (s : Sheet) (h : ℕ) {book′ : List ℕ} {l : ℕ} → Created e book r book′ l → Filled (act s (createLabel h)) (world e code book pool) (world r code book′ pool)
-  created-filled s h b = record { ready = record { fine = b .fine; room = w .room; slots = b .slots; long = w .long }; kept = b .kept code pool; did = b .did s h code pool }
+  created-filled s h b = record { ready = record { fine = b .fine; room = w .room; slots = b .slots; held = w .held }; kept = b .kept code pool; did = b .did s h code pool }
 
   pub pooled-filled : (s : Sheet) {c : Call} {pool′ : List ℕ} → Pooled c e pool r pool′ → Filled (act s c) (world e code book pool) (world r code book pool′)
-  pooled-filled s b = record { ready = record { fine = b .fine; room = w .room; slots = w .slots; long = b .long }; kept = b .kept code book; did = b .did s code book }
+  pooled-filled s b = record { ready = record { fine = b .fine; room = w .room; slots = w .slots; held = b .held }; kept = b .kept code book; did = b .did s code book }
 
   pub coded-filled : {f : Step} {code′ book′ : List ℕ} → Coded f e code book r code′ book′ → Filled f (world e code book pool) (world r code′ book′ pool)
-  coded-filled b = record { ready = record { fine = b .fine; room = b .room; slots = b .slots; long = w .long }; kept = b .kept pool; did = b .did pool }
+  coded-filled b = record { ready = record { fine = b .fine; room = b .room; slots = b .slots; held = w .held }; kept = b .kept pool; did = b .did pool }
 
 -- the first state of a call
 pub begun-ready : {p : Pos} {r : Emitter} {code book pool : List ℕ} → Begun p r → length code ≡ maxCode → length book ≡ bookSize → Held pool → Ready (world r code book pool)
-begun-ready b room slots long = record { fine = b .fine; room = room; slots = slots; long = long }
+begun-ready b room slots held = record { fine = b .fine; room = room; slots = slots; held = held }
 
 -- ---- what the view is
 

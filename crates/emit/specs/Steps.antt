@@ -59,7 +59,7 @@ pub record Ready (w : World) : Type 0 where
   pub fine : Fine (w .e)
   pub room : length (w .code) ≡ maxCode
   pub slots : length (w .book) ≡ bookSize
-  pub long : Held (w .pool)
+  pub held : Held (w .pool)
 
 -- ---- what no state shows
 
@@ -114,7 +114,7 @@ pub record Created (e : Emitter) (book : List ℕ) (r : Emitter) (book′ : List
 -- the pool
 pub record Pooled (c : Call) (e : Emitter) (pool : List ℕ) (r : Emitter) (pool′ : List ℕ) : Type 0 where
   pub fine : Fine r
-  pub long : Held pool′
+  pub held : Held pool′
   pub kept : (code book : List ℕ) → Kept (world e code book pool) (world r code book pool′)
   pub did : (s : Sheet) (code book : List ℕ) → Did (act s c) (world e code book pool) (world r code book pool′)
 

@@ -317,7 +317,7 @@ fn decide(kind: Kind, minus: bool, number: Number) -> Read
     }
 }
 
-// The field that starts at `at` of a text, and where it ends: all of it by one look at each byte.
+// The field that starts at `at` of a text, and where it ends: all of it by one scan.
 pub fn next_field(text: &[u8], at: usize, kind: Kind) -> Next
     ensures { λ r. ⌜ Reads (kindOf kind) (now (text .entry)) at (readOf (r .read)) (r .end) (r .stop) ⌝ }
 {

@@ -97,7 +97,7 @@ poolFirst none k = k
 
 pub record PoolsFirst (o : Option ClassifiedCmp) (e : Emitter) (pool : List ℕ) (r : Emitter) (pool′ : List ℕ) : Type 0 where
   pub fine : Fine r
-  pub long : Held pool′
+  pub held : Held pool′
   pub did : (s : Sheet) (code book : List ℕ) (k : Calls) (u : World) → Ready (world e code book pool) → Filled (run s k) (world r code book pool′) u → Filled (run s (poolFirst o k)) (world e code book pool) u
 
 -- the label of a loop's CONTINUEs was bound, if one leads there

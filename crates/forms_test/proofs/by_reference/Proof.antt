@@ -14,7 +14,7 @@ by-reference-spec =
     (λ c. search needs)  -- slice-aggregate-statements
     (λ c. search needs)  -- slice-aggregate-statements-2
     (λ c. search needs)  -- slice-aggregate-statements-3
-    (λ c κs. (search needs, record { fine = search needs; room = search needs; slots = search needs; long = held-empty }))  -- statements-requires
+    (λ c κs. (search needs, record { fine = search needs; room = search needs; slots = search needs; held = held-empty }))  -- statements-requires
     (λ c. sym (c .before .before .before .before .before .statements .ensures .ready .room))  -- slice-aggregate-print-emitted
     (λ c. sym (c .before .before .before .before .before .before .statements .ensures .ready .slots))  -- slice-aggregate-print-emitted-2
     (λ c κs. (c .before .before .before .before .before .before .statements .ensures .ready .fine, (c .before .before .before .before .before .before .statements .ensures .ready .room, c .before .before .before .before .before .before .statements .ensures .ready .slots)))  -- print-emitted-requires

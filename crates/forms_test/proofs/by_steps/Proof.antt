@@ -13,7 +13,7 @@ by-steps-spec =
     (λ c. search needs)  -- slice-aggregate-loop-statement
     (λ c. search needs)  -- slice-aggregate-loop-statement-2
     (λ c. search needs)  -- slice-aggregate-loop-statement-3
-    (λ c κs. record { fine = search needs; room = search needs; slots = search needs; long = held-empty })  -- loop-statement-requires
+    (λ c κs. record { fine = search needs; room = search needs; slots = search needs; held = held-empty })  -- loop-statement-requires
     (λ c. sym (c .before .before .before .before .loop-statement .ensures .room))  -- slice-aggregate-print-emitted
     (λ c. sym (c .before .before .before .before .before .loop-statement .ensures .slots))  -- slice-aggregate-print-emitted-2
     (λ c κs. (c .before .before .before .before .before .loop-statement .ensures .fine, (c .before .before .before .before .before .loop-statement .ensures .room, c .before .before .before .before .before .loop-statement .ensures .slots)))  -- print-emitted-requires

@@ -14,7 +14,7 @@ by-value-spec =
     (λ c. search needs)  -- slice-aggregate-emit-stmts-2
     (λ c. search needs)  -- slice-aggregate-emit-stmts-3
     (λ c κs. search needs)  -- start-requires
-    (λ c κs. (search needs, record { fine = search needs; room = search needs; slots = search needs; long = held-empty }))  -- emit-stmts-requires
+    (λ c κs. (search needs, record { fine = search needs; room = search needs; slots = search needs; held = held-empty }))  -- emit-stmts-requires
     (λ c. sym (c .before .before .before .before .emit-stmts .ensures .ready .room))  -- slice-aggregate-print-emitted
     (λ c. sym (c .before .before .before .before .before .emit-stmts .ensures .ready .slots))  -- slice-aggregate-print-emitted-2
     (λ c κs. (c .before .before .before .before .before .emit-stmts .ensures .ready .fine, (c .before .before .before .before .before .emit-stmts .ensures .ready .room, c .before .before .before .before .before .emit-stmts .ensures .ready .slots)))  -- print-emitted-requires

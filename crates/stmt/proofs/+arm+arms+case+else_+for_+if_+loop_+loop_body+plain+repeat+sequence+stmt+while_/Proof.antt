@@ -261,13 +261,13 @@ pub +arm+arms+case+else-+for-+if-+loop-+loop-body+plain+repeat+sequence+stmt+whi
     (λ c κs. c .before .before .before .before .before .before .before .pre .1 .1 .0)  -- arm-skip-block-requires
     (λ c. arm-none _ _ _ _ _ _ _ (c .before .before .before .before .before .before .before .before .pre .1 .0) (c .before .if1 .taken) (c .before .before .before .before .before .before .before .before .pre .1 .1 .1 .0) (c .skip-block .ensures))  -- arm-returns
     (λ c κs. (c .before .before .before .before .before .before .before .before .pre .1 .1 .1 .0 .fine, c .before .before .before .before .before .before .before .before .pre .1 .1 .1 .0 .slots))  -- arm-create-label-requires
-    (λ c κs. (c .before .before .before .before .before .before .before .before .before .before .before .before .before .before .before .before .pre .1 .1 .0, (record { fine = c .before .before .before .before .before .before .before .create-label .ensures .fine; room = c .before .before .before .before .before .before .before .before .before .before .before .before .before .before .before .before .pre .1 .1 .1 .0 .room; slots = c .before .before .before .before .before .before .before .create-label .ensures .slots; long = c .before .before .before .before .before .before .before .before .before .before .before .before .before .before .before .before .pre .1 .1 .1 .0 .long }, omega (arith, c .before .before .before .before .before .before .before .before .before .if1 .left))))  -- arm-open-arm-requires
+    (λ c κs. (c .before .before .before .before .before .before .before .before .before .before .before .before .before .before .before .before .pre .1 .1 .0, (record { fine = c .before .before .before .before .before .before .before .create-label .ensures .fine; room = c .before .before .before .before .before .before .before .before .before .before .before .before .before .before .before .before .pre .1 .1 .1 .0 .room; slots = c .before .before .before .before .before .before .before .create-label .ensures .slots; held = c .before .before .before .before .before .before .before .before .before .before .before .before .before .before .before .before .pre .1 .1 .1 .0 .held }, omega (arith, c .before .before .before .before .before .before .before .before .before .if1 .left))))  -- arm-open-arm-requires
     (λ c κs. (c .before .before .before .before .before .before .before .before .before .before .open-arm .ensures .ready .fine, (c .before .before .before .before .before .before .before .before .before .before .open-arm .ensures .ready .room, c .before .before .before .before .before .before .before .before .before .before .open-arm .ensures .ready .slots)))  -- arm-emit-opcode-requires
-    (λ c κs. (omega (arith, c .before .before .before .before .before .before .before .before .before .before .before .before .before .before .before .before .before .before .before .before .before .before .before .before .before .before .before .before .before .before .before .before .before .before .before .before .pre .0), (c .before .before .before .before .before .before .before .before .before .before .before .before .before .before .before .before .before .before .before .before .before .before .before .before .before .before .before .before .before .before .before .before .before .before .before .before .pre .1 .0, (c .before .before .before .before .before .before .before .before .before .before .before .before .before .before .before .before .before .before .before .open-arm .ensures .place .near, (record { fine = c .before .before .before .before .before .before .before .before .emit-opcode .ensures .fine; room = c .before .before .before .before .before .before .before .before .emit-opcode .ensures .room; slots = c .before .before .before .before .before .before .before .before .emit-opcode .ensures .slots; long = c .before .before .before .before .before .before .before .before .before .before .before .before .before .before .before .before .before .before .before .open-arm .ensures .ready .long }, omega (arith, c .before .before .before .before .before .before .before .before .before .before .before .before .before .before .before .before .before .before .before .before .before .before .before .before .before .before .before .before .before .before .before .before .before .before .before .before .pre .1 .1 .1 .1))))))  -- arm-sequence-requires
+    (λ c κs. (omega (arith, c .before .before .before .before .before .before .before .before .before .before .before .before .before .before .before .before .before .before .before .before .before .before .before .before .before .before .before .before .before .before .before .before .before .before .before .before .pre .0), (c .before .before .before .before .before .before .before .before .before .before .before .before .before .before .before .before .before .before .before .before .before .before .before .before .before .before .before .before .before .before .before .before .before .before .before .before .pre .1 .0, (c .before .before .before .before .before .before .before .before .before .before .before .before .before .before .before .before .before .before .before .open-arm .ensures .place .near, (record { fine = c .before .before .before .before .before .before .before .before .emit-opcode .ensures .fine; room = c .before .before .before .before .before .before .before .before .emit-opcode .ensures .room; slots = c .before .before .before .before .before .before .before .before .emit-opcode .ensures .slots; held = c .before .before .before .before .before .before .before .before .before .before .before .before .before .before .before .before .before .before .before .open-arm .ensures .ready .held }, omega (arith, c .before .before .before .before .before .before .before .before .before .before .before .before .before .before .before .before .before .before .before .before .before .before .before .before .before .before .before .before .before .before .before .before .before .before .before .before .pre .1 .1 .1 .1))))))  -- arm-sequence-requires
     (λ c κs. (c .before .before .before .before .before .before .before .before .before .before .before .before .sequence .ensures .filled .ready .fine, (c .before .before .before .before .before .before .before .before .before .before .before .before .sequence .ensures .filled .ready .room, c .before .before .before .before .before .before .before .before .before .before .before .before .sequence .ensures .filled .ready .slots)))  -- arm-close-arm-requires
     (λ c. c .before .before .before .before .close-arm .ensures .room ∙ sym (c .before .before .before .before .before .before .before .before .before .before .before .before .before .before .before .before .before .before .before .before .before .before .before .before .before .before .before .before .before .before .before .before .before .before .before .before .before .before .before .before .before .before .before .before .before .before .before .before .before .before .before .before .before .before .pre .1 .1 .1 .0 .room))  -- arm-same-length
     (λ c. c .before .before .before .before .close-arm .ensures .slots ∙ sym (c .before .before .before .before .before .before .before .before .before .before .before .before .before .before .before .before .before .before .before .before .before .before .before .before .before .before .before .before .before .before .before .before .before .before .before .before .before .before .before .before .before .before .before .before .before .before .before .before .before .before .before .before .before .before .pre .1 .1 .1 .0 .slots))  -- arm-same-length-2
-    (λ c. c .before .before .before .before .before .before .before .before .before .before .before .before .before .before .before .before .before .sequence .ensures .filled .ready .long .size ∙ sym (c .before .before .before .before .before .before .before .before .before .before .before .before .before .before .before .before .before .before .before .before .before .before .before .before .before .before .before .before .before .before .before .before .before .before .before .before .before .before .before .before .before .before .before .before .before .before .before .before .before .before .before .before .before .before .pre .1 .1 .1 .0 .long .size))  -- arm-same-length-3
+    (λ c. c .before .before .before .before .before .before .before .before .before .before .before .before .before .before .before .before .before .sequence .ensures .filled .ready .held .size ∙ sym (c .before .before .before .before .before .before .before .before .before .before .before .before .before .before .before .before .before .before .before .before .before .before .before .before .before .before .before .before .before .before .before .before .before .before .before .before .before .before .before .before .before .before .before .before .before .before .before .before .before .before .before .before .before .before .pre .1 .1 .1 .0 .held .size))  -- arm-same-length-3
     (λ c. c .before .before .before .before .before .before .before .before .before .before .before .before .before .before .before .before .before .sequence .ensures .slots .size ∙ sym (c .before .before .before .before .before .before .before .before .before .before .before .before .before .before .before .before .before .before .before .before .before .before .before .before .before .before .before .before .before .before .before .before .before .before .before .before .before .before .before .before .before .before .before .before .before .before .before .before .before .before .before .before .before .before .pre .1 .0 .size))  -- arm-same-length-4
     (λ c. arm-some _ _ _ _ _ _ _ (c .before .before .before .before .before .before .before .before .before .before .before .before .before .before .before .before .before .before .before .before .before .before .before .before .before .before .before .before .before .before .before .before .before .before .before .before .before .before .before .before .before .before .before .before .before .before .before .before .before .before .before .before .before .before .pre .1 .1 .1 .0) (c .before .before .before .before .before .before .before .before .before .before .before .before .before .before .before .before .before .before .before .before .before .before .before .before .before .before .before .before .before .before .before .before .before .before .before .before .before .before .before .before .before .before .before .before .before .before .before .if1 .left) (c .before .before .before .before .before .before .before .before .before .before .before .before .before .before .before .before .before .before .before .before .before .before .before .before .before .before .before .before .before .before .before .before .before .before .before .before .before .before .before .before .before .before .before .before .before .create-label .ensures) (c .before .before .before .before .before .before .before .before .before .before .before .before .before .before .before .before .before .before .before .before .before .before .before .before .before .before .before .before .before .before .before .before .before .before .before .before .before .open-arm .ensures) (c .before .before .before .before .before .before .before .before .before .before .before .before .before .before .before .before .before .before .before .before .before .before .before .before .before .before .emit-opcode .ensures) (nested _ (c .before .before .before .before .before .before .before .before .before .before .before .before .before .before .before .before .before .sequence .ensures)) (c .before .before .before .before .close-arm .ensures)))  -- arm-returns-2
     (λ t. arms-lts.spec (
@@ -292,7 +292,7 @@ pub +arm+arms+case+else-+for-+if-+loop-+loop-body+plain+repeat+sequence+stmt+whi
     (λ c κs. (c .before .before .before .before .before .loop .inv .ready .fine, bad-line _ _ _ _ _ (parts-not _ _ _ _ _ (c .before .before .arm-parts .ensures) (c .before .before .before .next-arm .ensures .is) (c .if1 .taken))))  -- arms-refuse-requires
     (λ c. c .before .before .before .before .before .before .loop .inv .ready .room ∙ sym (c .before .before .before .before .before .before .before .before .before .before .before .before .before .pre .1 .1 .1 .0 .room))  -- arms-same-length
     (λ c. c .before .before .before .before .before .before .loop .inv .ready .slots ∙ sym (c .before .before .before .before .before .before .before .before .before .before .before .before .before .pre .1 .1 .1 .0 .slots))  -- arms-same-length-2
-    (λ c. c .before .before .before .before .before .before .loop .inv .ready .long .size ∙ sym (c .before .before .before .before .before .before .before .before .before .before .before .before .before .pre .1 .1 .1 .0 .long .size))  -- arms-same-length-3
+    (λ c. c .before .before .before .before .before .before .loop .inv .ready .held .size ∙ sym (c .before .before .before .before .before .before .before .before .before .before .before .before .before .pre .1 .1 .1 .0 .held .size))  -- arms-same-length-3
     (λ c. c .before .before .before .before .before .before .loop .inv .slots .size ∙ sym (c .before .before .before .before .before .before .before .before .before .before .before .before .before .pre .1 .0 .size))  -- arms-same-length-4
     (λ c. arms-bad (c .before .before .before .before .before .before .loop .inv) _ (parts-not _ _ _ _ _ (c .before .before .before .arm-parts .ensures) (c .before .before .before .before .next-arm .ensures .is) (c .before .if1 .taken)) (c .before .before .before .before .before .loop-test .taken) (c .refuse .ensures))  -- arms-returns
     (λ c κs. (c .before .before .before .before .before .loop .inv .near, (line-there _ _ _ _ _ (parts-is _ _ _ _ _ (c .before .before .arm-parts .ensures) (c .before .before .before .next-arm .ensures .is) (c .if1 .left)) .0, good-end _ (c .before .before .before .next-arm .ensures) (c .before .before .before .next-arm .ensures .is ∙ parts-is _ _ _ _ _ (c .before .before .arm-parts .ensures) (c .before .before .before .next-arm .ensures .is) (c .if1 .left)))))  -- arms-next-line-requires
@@ -302,7 +302,7 @@ pub +arm+arms+case+else-+for-+if-+loop-+loop-body+plain+repeat+sequence+stmt+whi
     (λ c. arms-on (c .before .before .before .before .before .before .before .before .before .before .before .before .before .before .before .before .before .before .before .before .before .loop .inv) _ _ (parts-is _ _ _ _ _ (c .before .before .before .before .before .before .before .before .before .before .before .before .before .before .before .before .before .before .arm-parts .ensures) (c .before .before .before .before .before .before .before .before .before .before .before .before .before .before .before .before .before .before .before .next-arm .ensures .is) (c .before .before .before .before .before .before .before .before .before .before .before .before .before .before .before .before .if1 .left)) (c .before .before .before .before .before .before .before .before .before .before .before .before .before .before .before .next-line .ensures) (c .before .before .before .before .before .before .before .before .before .before .arm .ensures) (c .before .before .before .before .before .before .before .before .before .before .before .before .before .before .before .before .before .before .before .before .loop-test .taken))  -- arms-loop-again
     (λ c. c .before .loop .inv .ready .room ∙ sym (c .before .before .before .before .before .before .before .before .pre .1 .1 .1 .0 .room))  -- arms-same-length-5
     (λ c. c .before .loop .inv .ready .slots ∙ sym (c .before .before .before .before .before .before .before .before .pre .1 .1 .1 .0 .slots))  -- arms-same-length-6
-    (λ c. c .before .loop .inv .ready .long .size ∙ sym (c .before .before .before .before .before .before .before .before .pre .1 .1 .1 .0 .long .size))  -- arms-same-length-7
+    (λ c. c .before .loop .inv .ready .held .size ∙ sym (c .before .before .before .before .before .before .before .before .pre .1 .1 .1 .0 .held .size))  -- arms-same-length-7
     (λ c. c .before .loop .inv .slots .size ∙ sym (c .before .before .before .before .before .before .before .before .pre .1 .0 .size))  -- arms-same-length-8
     (λ c. arms-end (c .before .loop .inv) (c .loop-test .left)))  -- arms-returns-2
     (λ t. case-lts.spec (
@@ -323,13 +323,13 @@ pub +arm+arms+case+else-+for-+if-+loop-+loop-body+plain+repeat+sequence+stmt+whi
     case.Post
     (λ c κs. (c .before .before .before .before .before .before .before .before .before .pre .1 .1 .0, (c .before .before .before .before .before .before .before .before .before .pre .1 .1 .1 .0, omega (arith, c .before .before .before .before .before .before .before .before .before .pre .1 .1 .1 .1))))  -- case-emit-expr-requires
     (λ c κs. (c .before .before .before .before .before .before .before .before .before .emit-expr .ensures .ready .fine, c .before .before .before .before .before .before .before .before .before .emit-expr .ensures .ready .slots))  -- case-create-label-requires
-    (λ c κs. (omega (arith, c .before .before .before .before .before .before .before .before .before .before .before .before .before .before .before .before .before .before .before .before .before .before .before .before .before .before .before .before .pre .0), (c .before .before .before .before .before .before .before .before .before .before .before .before .before .before .before .before .before .before .before .before .before .before .before .before .before .before .before .before .pre .1 .0, (c .before .before .before .before .before .before .before .before .before .before .before .before .before .before .before .before .before .before .emit-expr .ensures .near, (record { fine = c .before .before .before .before .before .before .before .before .create-label .ensures .fine; room = c .before .before .before .before .before .before .before .before .before .before .before .before .before .before .before .before .before .before .emit-expr .ensures .ready .room; slots = c .before .before .before .before .before .before .before .before .create-label .ensures .slots; long = c .before .before .before .before .before .before .before .before .before .before .before .before .before .before .before .before .before .before .emit-expr .ensures .ready .long }, c .before .before .before .before .before .before .before .before .before .before .before .before .before .before .before .before .before .before .before .before .before .before .before .before .before .before .before .before .pre .1 .1 .1 .1)))))  -- case-arms-requires
+    (λ c κs. (omega (arith, c .before .before .before .before .before .before .before .before .before .before .before .before .before .before .before .before .before .before .before .before .before .before .before .before .before .before .before .before .pre .0), (c .before .before .before .before .before .before .before .before .before .before .before .before .before .before .before .before .before .before .before .before .before .before .before .before .before .before .before .before .pre .1 .0, (c .before .before .before .before .before .before .before .before .before .before .before .before .before .before .before .before .before .before .emit-expr .ensures .near, (record { fine = c .before .before .before .before .before .before .before .before .create-label .ensures .fine; room = c .before .before .before .before .before .before .before .before .before .before .before .before .before .before .before .before .before .before .emit-expr .ensures .ready .room; slots = c .before .before .before .before .before .before .before .before .create-label .ensures .slots; held = c .before .before .before .before .before .before .before .before .before .before .before .before .before .before .before .before .before .before .emit-expr .ensures .ready .held }, c .before .before .before .before .before .before .before .before .before .before .before .before .before .before .before .before .before .before .before .before .before .before .before .before .before .before .before .before .pre .1 .1 .1 .1)))))  -- case-arms-requires
     (λ c κs. (c .before .before .before .before .before .before .before .before .before .before .before .before .arms .ensures .filled .ready .fine, (c .before .before .before .before .before .before .before .before .before .before .before .before .arms .ensures .filled .ready .room, c .before .before .before .before .before .before .before .before .before .before .before .before .arms .ensures .filled .ready .slots)))  -- case-emit-opcode-requires
-    (λ c κs. (omega (arith, c .before .before .before .before .before .before .before .before .before .before .before .before .before .before .before .before .before .before .before .before .before .before .before .before .before .before .before .before .before .before .before .before .before .before .before .before .before .before .before .before .before .before .before .before .before .before .before .before .before .before .pre .0), (c .before .before .before .before .before .before .before .before .before .before .before .before .before .before .before .before .before .before .before .before .before .arms .ensures .slots, (c .before .before .before .before .before .before .before .before .before .before .before .before .before .before .before .before .before .before .before .before .before .arms .ensures .place .near, (record { fine = c .before .before .before .before .before .before .before .before .emit-opcode .ensures .fine; room = c .before .before .before .before .before .before .before .before .emit-opcode .ensures .room; slots = c .before .before .before .before .before .before .before .before .emit-opcode .ensures .slots; long = c .before .before .before .before .before .before .before .before .before .before .before .before .before .before .before .before .before .before .before .before .before .arms .ensures .filled .ready .long }, omega (arith, c .before .before .before .before .before .before .before .before .before .before .before .before .before .before .before .before .before .before .before .before .before .before .before .before .before .before .before .before .before .before .before .before .before .before .before .before .before .before .before .before .before .before .before .before .before .before .before .before .before .before .pre .1 .1 .1 .1))))))  -- case-sequence-requires
+    (λ c κs. (omega (arith, c .before .before .before .before .before .before .before .before .before .before .before .before .before .before .before .before .before .before .before .before .before .before .before .before .before .before .before .before .before .before .before .before .before .before .before .before .before .before .before .before .before .before .before .before .before .before .before .before .before .before .pre .0), (c .before .before .before .before .before .before .before .before .before .before .before .before .before .before .before .before .before .before .before .before .before .arms .ensures .slots, (c .before .before .before .before .before .before .before .before .before .before .before .before .before .before .before .before .before .before .before .before .before .arms .ensures .place .near, (record { fine = c .before .before .before .before .before .before .before .before .emit-opcode .ensures .fine; room = c .before .before .before .before .before .before .before .before .emit-opcode .ensures .room; slots = c .before .before .before .before .before .before .before .before .emit-opcode .ensures .slots; held = c .before .before .before .before .before .before .before .before .before .before .before .before .before .before .before .before .before .before .before .before .before .arms .ensures .filled .ready .held }, omega (arith, c .before .before .before .before .before .before .before .before .before .before .before .before .before .before .before .before .before .before .before .before .before .before .before .before .before .before .before .before .before .before .before .before .before .before .before .before .before .before .before .before .before .before .before .before .before .before .before .before .before .before .pre .1 .1 .1 .1))))))  -- case-sequence-requires
     (λ c κs. (c .before .before .before .before .before .before .before .before .before .before .before .sequence .ensures .filled .ready .fine, c .before .before .before .before .before .before .before .before .before .before .before .sequence .ensures .filled .ready .slots))  -- case-bind-label-requires
     (λ c. c .before .before .before .before .before .before .before .before .before .before .before .before .before .before .sequence .ensures .filled .ready .room ∙ sym (c .before .before .before .before .before .before .before .before .before .before .before .before .before .before .before .before .before .before .before .before .before .before .before .before .before .before .before .before .before .before .before .before .before .before .before .before .before .before .before .before .before .before .before .before .before .before .before .before .before .before .before .before .before .before .before .before .before .before .before .before .before .before .before .before .before .pre .1 .1 .1 .0 .room))  -- case-same-length
     (λ c. c .before .before .bind-label .ensures .slots ∙ sym (c .before .before .before .before .before .before .before .before .before .before .before .before .before .before .before .before .before .before .before .before .before .before .before .before .before .before .before .before .before .before .before .before .before .before .before .before .before .before .before .before .before .before .before .before .before .before .before .before .before .before .before .before .before .before .before .before .before .before .before .before .before .before .before .before .before .pre .1 .1 .1 .0 .slots))  -- case-same-length-2
-    (λ c. c .before .before .before .before .before .before .before .before .before .before .before .before .before .before .sequence .ensures .filled .ready .long .size ∙ sym (c .before .before .before .before .before .before .before .before .before .before .before .before .before .before .before .before .before .before .before .before .before .before .before .before .before .before .before .before .before .before .before .before .before .before .before .before .before .before .before .before .before .before .before .before .before .before .before .before .before .before .before .before .before .before .before .before .before .before .before .before .before .before .before .before .before .pre .1 .1 .1 .0 .long .size))  -- case-same-length-3
+    (λ c. c .before .before .before .before .before .before .before .before .before .before .before .before .before .before .sequence .ensures .filled .ready .held .size ∙ sym (c .before .before .before .before .before .before .before .before .before .before .before .before .before .before .before .before .before .before .before .before .before .before .before .before .before .before .before .before .before .before .before .before .before .before .before .before .before .before .before .before .before .before .before .before .before .before .before .before .before .before .before .before .before .before .before .before .before .before .before .before .before .before .before .before .before .pre .1 .1 .1 .0 .held .size))  -- case-same-length-3
     (λ c. c .before .before .before .before .before .before .before .before .before .before .before .before .before .before .sequence .ensures .slots .size ∙ sym (c .before .before .before .before .before .before .before .before .before .before .before .before .before .before .before .before .before .before .before .before .before .before .before .before .before .before .before .before .before .before .before .before .before .before .before .before .before .before .before .before .before .before .before .before .before .before .before .before .before .before .before .before .before .before .before .before .before .before .before .before .before .before .before .before .before .pre .1 .0 .size))  -- case-same-length-4
     (λ c. case-done _ _ _ _ _ (stands-here (c .before .before .before .before .before .before .before .before .before .before .before .before .before .before .before .before .before .before .before .before .before .before .before .before .before .before .before .before .before .before .before .before .before .before .before .before .before .before .before .before .before .before .before .before .before .before .before .before .before .before .before .before .before .before .before .before .before .before .before .before .before .before .before .before .before .pre .1 .1 .0)) (c .before .before .before .before .before .before .before .before .before .before .before .before .before .before .before .before .before .before .before .before .before .before .before .before .before .before .before .before .before .before .before .before .before .before .before .before .before .before .before .before .before .before .before .before .before .before .before .before .before .before .before .before .before .before .before .emit-expr .ensures) (c .before .before .before .before .before .before .before .before .before .before .before .before .before .before .before .before .before .before .before .before .before .before .before .before .before .before .before .before .before .before .before .before .before .before .before .before .before .before .before .before .before .before .before .before .before .create-label .ensures) (c .before .before .before .before .before .before .before .before .before .before .before .before .before .before .before .before .before .before .before .before .before .before .before .before .before .before .before .before .before .before .before .before .before .before .before .before .arms .ensures) (c .before .before .before .before .before .before .before .before .before .before .before .before .before .before .before .before .before .before .before .before .before .before .before .emit-opcode .ensures) (nested _ (c .before .before .before .before .before .before .before .before .before .before .before .before .before .before .sequence .ensures)) (c .before .before .bind-label .ensures)))  -- case-returns
     (λ t. else--lts.spec (
@@ -350,11 +350,11 @@ pub +arm+arms+case+else-+for-+if-+loop-+loop-body+plain+repeat+sequence+stmt+whi
     (λ c κs. (c .before .before .before .before .before .before .before .before .pre .1 .1 .1 .0 .fine, c .before .before .before .before .before .before .before .before .pre .1 .1 .1 .0 .slots))  -- else--create-label-requires
     (λ c κs. (c .before .before .before .before .before .before .create-label .ensures .fine, (c .before .before .before .before .before .before .before .before .before .before .before .before .before .before .before .pre .1 .1 .1 .0 .room, c .before .before .before .before .before .before .create-label .ensures .slots)))  -- else--emit-jmp-requires
     (λ c κs. (c .before .before .before .before .before .emit-jmp .ensures .fine, c .before .before .before .before .before .emit-jmp .ensures .slots))  -- else--bind-label-requires-2
-    (λ c κs. (omega (arith, c .before .before .before .before .before .before .before .before .before .before .before .before .before .before .before .before .before .before .before .before .before .before .before .before .before .before .before .before .pre .0), (c .before .before .before .before .before .before .before .before .before .before .before .before .before .before .before .before .before .before .before .before .before .before .before .before .before .before .before .before .pre .1 .0, (c .before .before .before .before .before .before .before .before .before .before .before .before .before .before .before .before .before .before .before .before .before .before .before .before .before .before .before .before .pre .1 .1 .0, (record { fine = c .before .before .before .before .before .before .bind-label2 .ensures .fine; room = c .before .before .before .before .before .before .before .before .before .before .before .before .emit-jmp .ensures .room; slots = c .before .before .before .before .before .before .bind-label2 .ensures .slots; long = c .before .before .before .before .before .before .before .before .before .before .before .before .before .before .before .before .before .before .before .before .before .before .before .before .before .before .before .before .pre .1 .1 .1 .0 .long }, omega (arith, c .before .before .before .before .before .before .before .before .before .before .before .before .before .before .before .before .before .before .before .before .before .before .before .before .before .before .before .before .pre .1 .1 .1 .1))))))  -- else--sequence-requires
+    (λ c κs. (omega (arith, c .before .before .before .before .before .before .before .before .before .before .before .before .before .before .before .before .before .before .before .before .before .before .before .before .before .before .before .before .pre .0), (c .before .before .before .before .before .before .before .before .before .before .before .before .before .before .before .before .before .before .before .before .before .before .before .before .before .before .before .before .pre .1 .0, (c .before .before .before .before .before .before .before .before .before .before .before .before .before .before .before .before .before .before .before .before .before .before .before .before .before .before .before .before .pre .1 .1 .0, (record { fine = c .before .before .before .before .before .before .bind-label2 .ensures .fine; room = c .before .before .before .before .before .before .before .before .before .before .before .before .emit-jmp .ensures .room; slots = c .before .before .before .before .before .before .bind-label2 .ensures .slots; held = c .before .before .before .before .before .before .before .before .before .before .before .before .before .before .before .before .before .before .before .before .before .before .before .before .before .before .before .before .pre .1 .1 .1 .0 .held }, omega (arith, c .before .before .before .before .before .before .before .before .before .before .before .before .before .before .before .before .before .before .before .before .before .before .before .before .before .before .before .before .pre .1 .1 .1 .1))))))  -- else--sequence-requires
     (λ c κs. (c .before .before .before .before .before .before .before .before .before .before .before .sequence .ensures .filled .ready .fine, c .before .before .before .before .before .before .before .before .before .before .before .sequence .ensures .filled .ready .slots))  -- else--bind-label-requires-3
     (λ c. c .before .before .before .before .before .before .before .before .before .before .before .before .before .before .sequence .ensures .filled .ready .room ∙ sym (c .before .before .before .before .before .before .before .before .before .before .before .before .before .before .before .before .before .before .before .before .before .before .before .before .before .before .before .before .before .before .before .before .before .before .before .before .before .before .before .before .before .before .before .pre .1 .1 .1 .0 .room))  -- else--same-length-2
     (λ c. c .before .before .bind-label3 .ensures .slots ∙ sym (c .before .before .before .before .before .before .before .before .before .before .before .before .before .before .before .before .before .before .before .before .before .before .before .before .before .before .before .before .before .before .before .before .before .before .before .before .before .before .before .before .before .before .before .pre .1 .1 .1 .0 .slots))  -- else--same-length-3
-    (λ c. c .before .before .before .before .before .before .before .before .before .before .before .before .before .before .sequence .ensures .filled .ready .long .size ∙ sym (c .before .before .before .before .before .before .before .before .before .before .before .before .before .before .before .before .before .before .before .before .before .before .before .before .before .before .before .before .before .before .before .before .before .before .before .before .before .before .before .before .before .before .before .pre .1 .1 .1 .0 .long .size))  -- else--same-length-4
+    (λ c. c .before .before .before .before .before .before .before .before .before .before .before .before .before .before .sequence .ensures .filled .ready .held .size ∙ sym (c .before .before .before .before .before .before .before .before .before .before .before .before .before .before .before .before .before .before .before .before .before .before .before .before .before .before .before .before .before .before .before .before .before .before .before .before .before .before .before .before .before .before .before .pre .1 .1 .1 .0 .held .size))  -- else--same-length-4
     (λ c. c .before .before .before .before .before .before .before .before .before .before .before .before .before .before .sequence .ensures .slots .size ∙ sym (c .before .before .before .before .before .before .before .before .before .before .before .before .before .before .before .before .before .before .before .before .before .before .before .before .before .before .before .before .before .before .before .before .before .before .before .before .before .before .before .before .before .before .before .pre .1 .0 .size))  -- else--same-length-5
     (λ c. else-some _ _ _ _ _ _ (c .before .before .before .before .before .before .before .before .before .before .before .before .before .before .before .before .before .before .before .before .before .before .before .before .before .before .before .before .before .before .before .before .before .before .before .before .before .before .before .before .before .before .before .pre .1 .1 .1 .0) (c .before .before .before .before .before .before .before .before .before .before .before .before .before .before .before .before .before .before .before .before .before .before .before .before .before .before .before .before .before .before .before .before .before .before .before .before .if1 .left) (c .before .before .before .before .before .before .before .before .before .before .before .before .before .before .before .before .before .before .before .before .before .before .before .before .before .before .before .before .before .before .before .before .before .before .create-label .ensures) (c .before .before .before .before .before .before .before .before .before .before .before .before .before .before .before .before .before .before .before .before .before .before .before .before .before .before .before .emit-jmp .ensures) (c .before .before .before .before .before .before .before .before .before .before .before .before .before .before .before .before .before .before .before .before .before .bind-label2 .ensures) (nested _ (c .before .before .before .before .before .before .before .before .before .before .before .before .before .before .sequence .ensures)) (c .before .before .bind-label3 .ensures)))  -- else--returns-2
     (λ t. for--lts.spec (
@@ -386,12 +386,12 @@ pub +arm+arms+case+else-+for-+if-+loop-+loop-body+plain+repeat+sequence+stmt+whi
     (λ c κs. (c .before .before .before .before .before .emit-store-var .ensures .fine, c .before .before .before .before .before .emit-store-var .ensures .slots))  -- for--create-label-requires
     (λ c κs. (c .before .before .before .before .before .create-label .ensures .fine, c .before .before .before .before .before .create-label .ensures .slots))  -- for--create-label-requires-2
     (λ c κs. (c .before .before .before .before .before .create-label2 .ensures .fine, c .before .before .before .before .before .create-label2 .ensures .slots))  -- for--bind-label-requires
-    (λ c κs. (c .before .before .before .before .before .before .before .before .before .before .before .before .before .before .before .before .before .before .before .before .before .before .before .before .before .before .before .before .before .before .before .before .before .before .before .before .before .before .skip-expr .ensures .near, (record { fine = c .before .before .before .before .before .bind-label .ensures .fine; room = c .before .before .before .before .before .before .before .before .before .before .before .before .before .before .before .before .before .before .before .before .before .before .before .emit-store-var .ensures .room; slots = c .before .before .before .before .before .bind-label .ensures .slots; long = c .before .before .before .before .before .before .before .before .before .before .before .before .before .before .before .before .before .before .before .before .before .before .before .before .before .before .before .before .before .before .before .before .before .emit-expr .ensures .ready .long }, (omega (arith, c .before .before .before .before .before .before .before .before .before .before .before .before .before .before .before .before .before .before .before .before .before .before .before .before .before .before .before .before .before .before .before .before .before .before .before .before .before .before .before .before .before .before .before .before .before .pre .1 .1 .1 .1), c .before .before .before .before .before .before .before .before .before .before .before .before .before .before .before .before .before .before .before .before .before .before .before .before .before .before .before .before .before .before .before .before .before .before .before .before .before .operand-at .ensures))))  -- for--end-test-requires
+    (λ c κs. (c .before .before .before .before .before .before .before .before .before .before .before .before .before .before .before .before .before .before .before .before .before .before .before .before .before .before .before .before .before .before .before .before .before .before .before .before .before .before .skip-expr .ensures .near, (record { fine = c .before .before .before .before .before .bind-label .ensures .fine; room = c .before .before .before .before .before .before .before .before .before .before .before .before .before .before .before .before .before .before .before .before .before .before .before .emit-store-var .ensures .room; slots = c .before .before .before .before .before .bind-label .ensures .slots; held = c .before .before .before .before .before .before .before .before .before .before .before .before .before .before .before .before .before .before .before .before .before .before .before .before .before .before .before .before .before .before .before .before .before .emit-expr .ensures .ready .held }, (omega (arith, c .before .before .before .before .before .before .before .before .before .before .before .before .before .before .before .before .before .before .before .before .before .before .before .before .before .before .before .before .before .before .before .before .before .before .before .before .before .before .before .before .before .before .before .before .before .pre .1 .1 .1 .1), c .before .before .before .before .before .before .before .before .before .before .before .before .before .before .before .before .before .before .before .before .before .before .before .before .before .before .before .before .before .before .before .before .before .before .before .before .before .operand-at .ensures))))  -- for--end-test-requires
     (λ c κs. (omega (arith, c .before .before .before .before .before .before .before .before .before .before .before .before .before .before .before .before .before .before .before .before .before .before .before .before .before .before .before .before .before .before .before .before .before .before .before .before .before .before .before .before .before .before .before .before .before .before .before .before .before .before .before .before .before .before .before .before .before .before .pre .0), (c .before .before .before .before .before .before .before .before .before .before .before .before .before .before .before .before .before .before .before .before .before .before .before .before .before .before .before .before .before .before .before .before .before .before .before .before .before .before .before .before .before .before .before .before .before .before .before .before .before .before .before .before .before .before .before .before .before .before .pre .1 .0, (c .before .before .before .before .before .before .before .before .before .before .before .before .end-test .ensures .near, (c .before .before .before .before .before .before .before .before .before .before .before .before .end-test .ensures .ready, c .before .before .before .before .before .before .before .before .before .before .before .before .before .before .before .before .before .before .before .before .before .before .before .before .before .before .before .before .before .before .before .before .before .before .before .before .before .before .before .before .before .before .before .before .before .before .before .before .before .before .before .before .before .before .before .before .before .before .pre .1 .1 .1 .1)))))  -- for--loop-body-requires
     (λ c κs. c .before .before .before .before .before .before .before .before .before .before .before .before .before .loop-body .ensures .filled .ready)  -- for--for-end-requires
     (λ c. c .before .before .before .before .before .before .for-end .ensures .ready .room ∙ sym (c .before .before .before .before .before .before .before .before .before .before .before .before .before .before .before .before .before .before .before .before .before .before .before .before .before .before .before .before .before .before .before .before .before .before .before .before .before .before .before .before .before .before .before .before .before .before .before .before .before .before .before .before .before .before .before .before .before .before .before .before .before .before .before .before .before .before .before .before .before .before .before .before .before .before .before .before .before .before .before .pre .1 .1 .1 .0 .room))  -- for--same-length
     (λ c. c .before .before .before .before .before .before .for-end .ensures .ready .slots ∙ sym (c .before .before .before .before .before .before .before .before .before .before .before .before .before .before .before .before .before .before .before .before .before .before .before .before .before .before .before .before .before .before .before .before .before .before .before .before .before .before .before .before .before .before .before .before .before .before .before .before .before .before .before .before .before .before .before .before .before .before .before .before .before .before .before .before .before .before .before .before .before .before .before .before .before .before .before .before .before .before .before .pre .1 .1 .1 .0 .slots))  -- for--same-length-2
-    (λ c. c .before .before .before .before .before .before .for-end .ensures .ready .long .size ∙ sym (c .before .before .before .before .before .before .before .before .before .before .before .before .before .before .before .before .before .before .before .before .before .before .before .before .before .before .before .before .before .before .before .before .before .before .before .before .before .before .before .before .before .before .before .before .before .before .before .before .before .before .before .before .before .before .before .before .before .before .before .before .before .before .before .before .before .before .before .before .before .before .before .before .before .before .before .before .before .before .before .pre .1 .1 .1 .0 .long .size))  -- for--same-length-3
+    (λ c. c .before .before .before .before .before .before .for-end .ensures .ready .held .size ∙ sym (c .before .before .before .before .before .before .before .before .before .before .before .before .before .before .before .before .before .before .before .before .before .before .before .before .before .before .before .before .before .before .before .before .before .before .before .before .before .before .before .before .before .before .before .before .before .before .before .before .before .before .before .before .before .before .before .before .before .before .before .before .before .before .before .before .before .before .before .before .before .before .before .before .before .before .before .before .before .before .before .pre .1 .1 .1 .0 .held .size))  -- for--same-length-3
     (λ c. c .before .before .before .before .before .before .before .before .before .before .before .before .before .before .before .before .before .before .before .before .loop-body .ensures .slots .size ∙ sym (c .before .before .before .before .before .before .before .before .before .before .before .before .before .before .before .before .before .before .before .before .before .before .before .before .before .before .before .before .before .before .before .before .before .before .before .before .before .before .before .before .before .before .before .before .before .before .before .before .before .before .before .before .before .before .before .before .before .before .before .before .before .before .before .before .before .before .before .before .before .before .before .before .before .before .before .before .before .before .before .pre .1 .0 .size))  -- for--same-length-4
     (λ c. for-done _ _ _ _ _ _ _ (stands-here (c .before .before .before .before .before .before .before .before .before .before .before .before .before .before .before .before .before .before .before .before .before .before .before .before .before .before .before .before .before .before .before .before .before .before .before .before .before .before .before .before .before .before .before .before .before .before .before .before .before .before .before .before .before .before .before .before .before .before .before .before .before .before .before .before .before .before .before .before .before .before .before .before .before .before .before .before .before .before .before .pre .1 .1 .0)) (c .before .before .before .before .before .before .before .before .before .before .before .before .before .before .before .before .before .before .before .before .before .before .before .before .before .before .before .before .before .before .before .before .before .before .before .before .before .before .before .before .before .before .before .before .before .before .before .before .before .before .before .before .before .before .before .before .before .before .before .before .before .before .before .before .before .before .before .before .before .before .before .before .skip-expr .ensures) (c .before .before .before .before .before .before .before .before .before .before .before .before .before .before .before .before .before .before .before .before .before .before .before .before .before .before .before .before .before .before .before .before .before .before .before .before .before .before .before .before .before .before .before .before .before .before .before .before .before .before .before .before .before .before .before .before .before .before .before .before .before .before .before .before .before .before .before .emit-expr .ensures) (c .before .before .before .before .before .before .before .before .before .before .before .before .before .before .before .before .before .before .before .before .before .before .before .before .before .before .before .before .before .before .before .before .before .before .before .before .before .before .before .before .before .before .before .before .before .before .before .before .before .before .before .before .before .before .before .before .before .emit-store-var .ensures) (c .before .before .before .before .before .before .before .before .before .before .before .before .before .before .before .before .before .before .before .before .before .before .before .before .before .before .before .before .before .before .before .before .before .before .before .before .before .before .before .before .before .before .before .before .before .before .before .before .before .before .before .create-label .ensures) (c .before .before .before .before .before .before .before .before .before .before .before .before .before .before .before .before .before .before .before .before .before .before .before .before .before .before .before .before .before .before .before .before .before .before .before .before .before .before .before .before .before .before .before .before .before .create-label2 .ensures) (c .before .before .before .before .before .before .before .before .before .before .before .before .before .before .before .before .before .before .before .before .before .before .before .before .before .before .before .before .before .before .before .before .before .before .before .before .before .before .before .bind-label .ensures) (c .before .before .before .before .before .before .before .before .before .before .before .before .before .before .before .before .before .before .before .before .before .before .before .before .before .before .before .before .before .before .before .before .before .end-test .ensures) (c .before .before .before .before .before .before .before .before .before .before .before .before .before .before .before .before .before .before .before .before .loop-body .ensures) (c .before .before .before .before .before .before .for-end .ensures)))  -- for--returns
     (λ t. if--lts.spec (
@@ -407,12 +407,12 @@ pub +arm+arms+case+else-+for-+if-+loop-+loop-body+plain+repeat+sequence+stmt+whi
     (if--at t)
     if-.Post
     (λ c κs. (c .before .before .before .before .before .before .before .pre .1 .1 .1 .0 .fine, c .before .before .before .before .before .before .before .pre .1 .1 .1 .0 .slots))  -- if--create-label-requires
-    (λ c κs. (c .before .before .before .before .before .before .before .before .before .before .before .before .before .before .before .pre .1 .1 .0, (record { fine = c .before .before .before .before .before .before .before .create-label .ensures .fine; room = c .before .before .before .before .before .before .before .before .before .before .before .before .before .before .before .pre .1 .1 .1 .0 .room; slots = c .before .before .before .before .before .before .before .create-label .ensures .slots; long = c .before .before .before .before .before .before .before .before .before .before .before .before .before .before .before .pre .1 .1 .1 .0 .long }, omega (arith, c .before .before .before .before .before .before .before .before .before .before .before .before .before .before .before .pre .1 .1 .1 .1))))  -- if--branch-unless-requires
+    (λ c κs. (c .before .before .before .before .before .before .before .before .before .before .before .before .before .before .before .pre .1 .1 .0, (record { fine = c .before .before .before .before .before .before .before .create-label .ensures .fine; room = c .before .before .before .before .before .before .before .before .before .before .before .before .before .before .before .pre .1 .1 .1 .0 .room; slots = c .before .before .before .before .before .before .before .create-label .ensures .slots; held = c .before .before .before .before .before .before .before .before .before .before .before .before .before .before .before .pre .1 .1 .1 .0 .held }, omega (arith, c .before .before .before .before .before .before .before .before .before .before .before .before .before .before .before .pre .1 .1 .1 .1))))  -- if--branch-unless-requires
     (λ c κs. (omega (arith, c .before .before .before .before .before .before .before .before .before .before .before .before .before .before .before .before .before .before .before .before .before .before .before .before .before .before .before .before .pre .0), (c .before .before .before .before .before .before .before .before .before .before .before .before .before .before .before .before .before .before .before .before .before .before .before .before .before .before .before .before .pre .1 .0, (c .before .before .before .before .before .before .before .before .before .before .before .before .branch-unless .ensures .near, (c .before .before .before .before .before .before .before .before .before .before .before .before .branch-unless .ensures .ready, omega (arith, c .before .before .before .before .before .before .before .before .before .before .before .before .before .before .before .before .before .before .before .before .before .before .before .before .before .before .before .before .pre .1 .1 .1 .1))))))  -- if--sequence-requires
     (λ c κs. (omega (arith, c .before .before .before .before .before .before .before .before .before .before .before .before .before .before .before .before .before .before .before .before .before .before .before .before .before .before .before .before .before .before .before .before .before .before .before .before .before .before .before .before .before .before .before .pre .0), (c .before .before .before .before .before .before .before .before .before .before .before .before .before .before .sequence .ensures .slots, (c .before .before .before .before .before .before .before .before .before .before .before .before .before .before .sequence .ensures .place .near, (c .before .before .before .before .before .before .before .before .before .before .before .before .before .before .sequence .ensures .filled .ready, c .before .before .before .before .before .before .before .before .before .before .before .before .before .before .before .before .before .before .before .before .before .before .before .before .before .before .before .before .before .before .before .before .before .before .before .before .before .before .before .before .before .before .before .pre .1 .1 .1 .1)))))  -- if--else--requires
     (λ c. c .before .before .before .before .before .before .before .before .else- .ensures .filled .ready .room ∙ sym (c .before .before .before .before .before .before .before .before .before .before .before .before .before .before .before .before .before .before .before .before .before .before .before .before .before .before .before .before .before .before .before .before .before .before .before .before .before .before .before .before .before .before .before .before .before .before .before .before .before .before .before .before .pre .1 .1 .1 .0 .room))  -- if--same-length
     (λ c. c .before .before .before .before .before .before .before .before .else- .ensures .filled .ready .slots ∙ sym (c .before .before .before .before .before .before .before .before .before .before .before .before .before .before .before .before .before .before .before .before .before .before .before .before .before .before .before .before .before .before .before .before .before .before .before .before .before .before .before .before .before .before .before .before .before .before .before .before .before .before .before .before .pre .1 .1 .1 .0 .slots))  -- if--same-length-2
-    (λ c. c .before .before .before .before .before .before .before .before .else- .ensures .filled .ready .long .size ∙ sym (c .before .before .before .before .before .before .before .before .before .before .before .before .before .before .before .before .before .before .before .before .before .before .before .before .before .before .before .before .before .before .before .before .before .before .before .before .before .before .before .before .before .before .before .before .before .before .before .before .before .before .before .before .pre .1 .1 .1 .0 .long .size))  -- if--same-length-3
+    (λ c. c .before .before .before .before .before .before .before .before .else- .ensures .filled .ready .held .size ∙ sym (c .before .before .before .before .before .before .before .before .before .before .before .before .before .before .before .before .before .before .before .before .before .before .before .before .before .before .before .before .before .before .before .before .before .before .before .before .before .before .before .before .before .before .before .before .before .before .before .before .before .before .before .before .pre .1 .1 .1 .0 .held .size))  -- if--same-length-3
     (λ c. c .before .before .before .before .before .before .before .before .else- .ensures .slots .size ∙ sym (c .before .before .before .before .before .before .before .before .before .before .before .before .before .before .before .before .before .before .before .before .before .before .before .before .before .before .before .before .before .before .before .before .before .before .before .before .before .before .before .before .before .before .before .before .before .before .before .before .before .before .before .before .pre .1 .0 .size))  -- if--same-length-4
     (λ c. if-done _ _ _ _ _ (stands-here (c .before .before .before .before .before .before .before .before .before .before .before .before .before .before .before .before .before .before .before .before .before .before .before .before .before .before .before .before .before .before .before .before .before .before .before .before .before .before .before .before .before .before .before .before .before .before .before .before .before .before .before .before .pre .1 .1 .0)) (c .before .before .before .before .before .before .before .before .before .before .before .before .before .before .before .before .before .before .before .before .before .before .before .before .before .before .before .before .before .before .before .before .before .before .before .before .before .before .before .before .before .before .before .before .before .before .before .before .before .before .before .before .pre .1 .1 .1 .0) (c .before .before .before .before .before .before .before .before .before .before .before .before .before .before .before .before .before .before .before .before .before .before .before .before .before .before .before .before .before .before .before .before .before .before .before .before .before .before .before .before .before .before .before .before .create-label .ensures) (c .before .before .before .before .before .before .before .before .before .before .before .before .before .before .before .before .before .before .before .before .before .before .before .before .before .before .before .before .before .before .before .before .before .before .before .before .branch-unless .ensures) (nested _ (c .before .before .before .before .before .before .before .before .before .before .before .before .before .before .before .before .before .before .before .before .before .before .before .sequence .ensures)) (c .before .before .before .before .before .before .before .before .else- .ensures)))  -- if--returns
     (λ t. loop--lts.spec (
@@ -439,17 +439,17 @@ pub +arm+arms+case+else-+for-+if-+loop-+loop-body+plain+repeat+sequence+stmt+whi
     (λ c κs. (omega (arith, c .before .before .before .before .before .before .before .before .before .before .before .before .before .before .before .before .pre .0), (c .before .before .before .before .before .before .before .before .loop-shape .ensures .1 .lent, (c .before .before .before .before .before .before .before .before .before .before .before .before .before .before .before .before .pre .1 .1 .0, (c .before .before .before .before .before .before .before .before .before .before .before .before .before .before .before .before .pre .1 .1 .1 .0, c .before .before .before .before .before .before .before .before .before .before .before .before .before .before .before .before .pre .1 .1 .1 .1)))))  -- loop--plain-requires
     (λ c. c .before .before .before .before .before .before .before .before .while- .ensures .filled .ready .room ∙ sym (c .before .before .before .before .before .before .before .before .before .before .before .before .before .before .before .before .before .before .before .before .before .before .before .before .before .before .before .pre .1 .1 .1 .0 .room))  -- loop--same-length
     (λ c. c .before .before .before .before .before .before .before .before .while- .ensures .filled .ready .slots ∙ sym (c .before .before .before .before .before .before .before .before .before .before .before .before .before .before .before .before .before .before .before .before .before .before .before .before .before .before .before .pre .1 .1 .1 .0 .slots))  -- loop--same-length-2
-    (λ c. c .before .before .before .before .before .before .before .before .while- .ensures .filled .ready .long .size ∙ sym (c .before .before .before .before .before .before .before .before .before .before .before .before .before .before .before .before .before .before .before .before .before .before .before .before .before .before .before .pre .1 .1 .1 .0 .long .size))  -- loop--same-length-3
+    (λ c. c .before .before .before .before .before .before .before .before .while- .ensures .filled .ready .held .size ∙ sym (c .before .before .before .before .before .before .before .before .before .before .before .before .before .before .before .before .before .before .before .before .before .before .before .before .before .before .before .pre .1 .1 .1 .0 .held .size))  -- loop--same-length-3
     (λ c. c .before .before .before .before .before .before .before .before .while- .ensures .slots .size ∙ sym (c .before .before .before .before .before .before .before .before .before .before .before .before .before .before .before .before .before .before .before .before .before .before .before .before .before .before .before .pre .1 .0 .size))  -- loop--same-length-4
     (λ c. is-while _ _ _ _ _ _ (stands-here (c .before .before .before .before .before .before .before .before .before .before .before .before .before .before .before .before .before .before .before .before .before .before .before .before .before .before .before .pre .1 .1 .0)) (c .before .before .before .before .before .before .before .before .before .before .before .before .before .before .before .before .before .before .before .loop-shape .ensures .0) (c .before .before .before .before .before .before .before .before .before .before .before .before .before .before .before .shape .given .1) (c .before .before .before .before .before .before .before .before .before .before .before .before .before .below .ensures) (from-loops (c .before .before .before .before .before .before .before .before .before .before .before .before .before .before .before .before .before .before .before .loop-shape .ensures .1 .opens (c .before .before .before .before .before .before .before .before .before .before .before .before .before .before .before .before .before .before .before .before .before .before .before .before .before .before .before .args .ctx .inside) (omega (arith, c .before .before .before .before .before .before .before .before .before .before .before .before .before .before .before .before .before .before .before .before .before .before .before .before .before .before .before .pre .1 .1 .1 .1))) (c .before .before .before .before .before .before .before .before .while- .ensures)))  -- loop--returns
     (λ c. c .before .before .before .before .before .before .before .before .repeat .ensures .filled .ready .room ∙ sym (c .before .before .before .before .before .before .before .before .before .before .before .before .before .before .before .before .before .before .before .before .before .before .before .before .before .before .pre .1 .1 .1 .0 .room))  -- loop--same-length-5
     (λ c. c .before .before .before .before .before .before .before .before .repeat .ensures .filled .ready .slots ∙ sym (c .before .before .before .before .before .before .before .before .before .before .before .before .before .before .before .before .before .before .before .before .before .before .before .before .before .before .pre .1 .1 .1 .0 .slots))  -- loop--same-length-6
-    (λ c. c .before .before .before .before .before .before .before .before .repeat .ensures .filled .ready .long .size ∙ sym (c .before .before .before .before .before .before .before .before .before .before .before .before .before .before .before .before .before .before .before .before .before .before .before .before .before .before .pre .1 .1 .1 .0 .long .size))  -- loop--same-length-7
+    (λ c. c .before .before .before .before .before .before .before .before .repeat .ensures .filled .ready .held .size ∙ sym (c .before .before .before .before .before .before .before .before .before .before .before .before .before .before .before .before .before .before .before .before .before .before .before .before .before .before .pre .1 .1 .1 .0 .held .size))  -- loop--same-length-7
     (λ c. c .before .before .before .before .before .before .before .before .repeat .ensures .slots .size ∙ sym (c .before .before .before .before .before .before .before .before .before .before .before .before .before .before .before .before .before .before .before .before .before .before .before .before .before .before .pre .1 .0 .size))  -- loop--same-length-8
     (λ c. is-repeat _ _ _ _ _ _ (stands-here (c .before .before .before .before .before .before .before .before .before .before .before .before .before .before .before .before .before .before .before .before .before .before .before .before .before .before .pre .1 .1 .0)) (c .before .before .before .before .before .before .before .before .before .before .before .before .before .before .before .before .before .before .loop-shape .ensures .0) (c .before .before .before .before .before .before .before .before .before .before .before .before .before .before .shape2 .given .1) (from-loops (c .before .before .before .before .before .before .before .before .before .before .before .before .before .before .before .before .before .before .loop-shape .ensures .1 .opens (c .before .before .before .before .before .before .before .before .before .before .before .before .before .before .before .before .before .before .before .before .before .before .before .before .before .before .args .ctx .inside) (omega (arith, c .before .before .before .before .before .before .before .before .before .before .before .before .before .before .before .before .before .before .before .before .before .before .before .before .before .before .pre .1 .1 .1 .1))) (c .before .before .before .before .before .before .before .before .repeat .ensures)))  -- loop--returns-2
     (λ c. c .before .before .before .before .before .before .before .before .plain .ensures .filled .ready .room ∙ sym (c .before .before .before .before .before .before .before .before .before .before .before .before .before .before .before .before .before .before .before .before .before .before .before .before .before .pre .1 .1 .1 .0 .room))  -- loop--same-length-9
     (λ c. c .before .before .before .before .before .before .before .before .plain .ensures .filled .ready .slots ∙ sym (c .before .before .before .before .before .before .before .before .before .before .before .before .before .before .before .before .before .before .before .before .before .before .before .before .before .pre .1 .1 .1 .0 .slots))  -- loop--same-length-10
-    (λ c. c .before .before .before .before .before .before .before .before .plain .ensures .filled .ready .long .size ∙ sym (c .before .before .before .before .before .before .before .before .before .before .before .before .before .before .before .before .before .before .before .before .before .before .before .before .before .pre .1 .1 .1 .0 .long .size))  -- loop--same-length-11
+    (λ c. c .before .before .before .before .before .before .before .before .plain .ensures .filled .ready .held .size ∙ sym (c .before .before .before .before .before .before .before .before .before .before .before .before .before .before .before .before .before .before .before .before .before .before .before .before .before .pre .1 .1 .1 .0 .held .size))  -- loop--same-length-11
     (λ c. c .before .before .before .before .before .before .before .before .plain .ensures .slots .size ∙ sym (c .before .before .before .before .before .before .before .before .before .before .before .before .before .before .before .before .before .before .before .before .before .before .before .before .before .pre .1 .0 .size))  -- loop--same-length-12
     (λ c. is-plain _ _ _ _ _ _ (stands-here (c .before .before .before .before .before .before .before .before .before .before .before .before .before .before .before .before .before .before .before .before .before .before .before .before .before .pre .1 .1 .0)) (c .before .before .before .before .before .before .before .before .before .before .before .before .before .before .before .before .before .loop-shape .ensures .0) (c .before .before .before .before .before .before .before .before .before .before .before .before .before .enum-told .given .1) (from-loops (c .before .before .before .before .before .before .before .before .before .before .before .before .before .before .before .before .before .loop-shape .ensures .1 .opens (c .before .before .before .before .before .before .before .before .before .before .before .before .before .before .before .before .before .before .before .before .before .before .before .before .before .args .ctx .inside) (omega (arith, c .before .before .before .before .before .before .before .before .before .before .before .before .before .before .before .before .before .before .before .before .before .before .before .before .before .pre .1 .1 .1 .1))) (c .before .before .before .before .before .before .before .before .plain .ensures))))  -- loop--returns-3
     (λ t. loop-body-lts.spec (
@@ -471,12 +471,12 @@ pub +arm+arms+case+else-+for-+if-+loop-+loop-body+plain+repeat+sequence+stmt+whi
     (λ c κs. omega (arith, c .before .before .before .before .before .before .pre .1 .1 .1 .1))  -- loop-body-in-loop-requires
     (λ c κs. (c .before .before .before .before .before .before .before .before .pre .1 .1 .1 .0 .fine, c .before .before .before .before .before .before .before .before .pre .1 .1 .1 .0 .slots))  -- loop-body-create-label-requires
     (λ c κs. (c .before .before .before .before .before .before .before .before .before .before .before .before .before .before .pre .1 .0 .size, omega (arith, c .before .before .before .before .before .before .before .before .before .before .before .before .before .before .pre .1 .1 .1 .1)))  -- loop-body-open-loop-requires
-    (λ c κs. (omega (arith, c .before .before .before .before .before .before .before .before .before .before .before .before .before .before .before .before .before .before .before .before .before .pre .0, loop-left _ (c .before .before .before .before .before .before .before .before .before .before .before .before .before .before .in-loop .ensures)), (loop-lent _ (c .before .before .before .before .before .before .before .before .before .before .before .before .before .before .in-loop .ensures) (lent-behind (c .before .before .before .before .before .before .before .before .before .before .before .before .before .before .before .before .before .before .before .before .before .pre .1 .0) (c .before .before .before .before .before .before .open-loop .ensures .behind)), (c .before .before .before .before .before .before .before .before .before .before .before .before .before .before .before .before .before .before .before .before .before .pre .1 .1 .0, (record { fine = c .before .before .before .before .before .before .before .before .before .before .before .before .create-label .ensures .fine; room = c .before .before .before .before .before .before .before .before .before .before .before .before .before .before .before .before .before .before .before .before .before .pre .1 .1 .1 .0 .room; slots = c .before .before .before .before .before .before .before .before .before .before .before .before .create-label .ensures .slots; long = c .before .before .before .before .before .before .before .before .before .before .before .before .before .before .before .before .before .before .before .before .before .pre .1 .1 .1 .0 .long }, omega (arith, c .before .before .before .before .before .before .before .before .before .before .before .before .before .before .before .before .before .before .before .before .before .pre .1 .1 .1 .1, loop-left _ (c .before .before .before .before .before .before .before .before .before .before .before .before .before .before .in-loop .ensures), loop-inside _ (c .before .before .before .before .before .before .before .before .before .before .before .before .before .before .in-loop .ensures)))))))  -- loop-body-sequence-requires
+    (λ c κs. (omega (arith, c .before .before .before .before .before .before .before .before .before .before .before .before .before .before .before .before .before .before .before .before .before .pre .0, loop-left _ (c .before .before .before .before .before .before .before .before .before .before .before .before .before .before .in-loop .ensures)), (loop-lent _ (c .before .before .before .before .before .before .before .before .before .before .before .before .before .before .in-loop .ensures) (lent-behind (c .before .before .before .before .before .before .before .before .before .before .before .before .before .before .before .before .before .before .before .before .before .pre .1 .0) (c .before .before .before .before .before .before .open-loop .ensures .behind)), (c .before .before .before .before .before .before .before .before .before .before .before .before .before .before .before .before .before .before .before .before .before .pre .1 .1 .0, (record { fine = c .before .before .before .before .before .before .before .before .before .before .before .before .create-label .ensures .fine; room = c .before .before .before .before .before .before .before .before .before .before .before .before .before .before .before .before .before .before .before .before .before .pre .1 .1 .1 .0 .room; slots = c .before .before .before .before .before .before .before .before .before .before .before .before .create-label .ensures .slots; held = c .before .before .before .before .before .before .before .before .before .before .before .before .before .before .before .before .before .before .before .before .before .pre .1 .1 .1 .0 .held }, omega (arith, c .before .before .before .before .before .before .before .before .before .before .before .before .before .before .before .before .before .before .before .before .before .pre .1 .1 .1 .1, loop-left _ (c .before .before .before .before .before .before .before .before .before .before .before .before .before .before .in-loop .ensures), loop-inside _ (c .before .before .before .before .before .before .before .before .before .before .before .before .before .before .in-loop .ensures)))))))  -- loop-body-sequence-requires
     (λ c κs. (c .before .before .before .before .before .before .before .before .before .before .before .sequence .ensures .slots .size, omega (arith, c .before .before .before .before .before .before .before .before .before .before .before .before .before .before .before .before .before .before .before .before .before .before .before .before .before .before .before .before .before .before .before .before .before .pre .1 .1 .1 .1)))  -- loop-body-next-used-requires
     (λ c κs. (c .before .before .before .before .before .before .before .before .before .before .before .before .before .sequence .ensures .filled .ready .fine, c .before .before .before .before .before .before .before .before .before .before .before .before .before .sequence .ensures .filled .ready .slots))  -- loop-body-bind-next-requires
     (λ c. c .before .before .before .before .before .before .before .before .before .before .before .before .before .before .before .before .sequence .ensures .filled .ready .room ∙ sym (c .before .before .before .before .before .before .before .before .before .before .before .before .before .before .before .before .before .before .before .before .before .before .before .before .before .before .before .before .before .before .before .before .before .before .before .before .before .before .pre .1 .1 .1 .0 .room))  -- loop-body-same-length
     (λ c. c .before .before .bind-next .ensures .slots ∙ sym (c .before .before .before .before .before .before .before .before .before .before .before .before .before .before .before .before .before .before .before .before .before .before .before .before .before .before .before .before .before .before .before .before .before .before .before .before .before .before .pre .1 .1 .1 .0 .slots))  -- loop-body-same-length-2
-    (λ c. c .before .before .before .before .before .before .before .before .before .before .before .before .before .before .before .before .sequence .ensures .filled .ready .long .size ∙ sym (c .before .before .before .before .before .before .before .before .before .before .before .before .before .before .before .before .before .before .before .before .before .before .before .before .before .before .before .before .before .before .before .before .before .before .before .before .before .before .pre .1 .1 .1 .0 .long .size))  -- loop-body-same-length-3
+    (λ c. c .before .before .before .before .before .before .before .before .before .before .before .before .before .before .before .before .sequence .ensures .filled .ready .held .size ∙ sym (c .before .before .before .before .before .before .before .before .before .before .before .before .before .before .before .before .before .before .before .before .before .before .before .before .before .before .before .before .before .before .before .before .before .before .before .before .before .before .pre .1 .1 .1 .0 .held .size))  -- loop-body-same-length-3
     (λ c. c .before .before .before .before .before .before .before .before .before .before .before .before .before .before .before .before .sequence .ensures .slots .size ∙ sym (c .before .before .before .before .before .before .before .before .before .before .before .before .before .before .before .before .before .before .before .before .before .before .before .before .before .before .before .before .before .before .before .before .before .before .before .before .before .before .pre .1 .0 .size))  -- loop-body-same-length-4
     (λ c. body-done _ _ _ _ _ _ _ (c .before .before .before .before .before .before .before .before .before .before .before .before .before .before .before .before .before .before .before .before .before .before .before .before .before .before .before .before .before .before .before .in-loop .ensures) (c .before .before .before .before .before .before .before .before .before .before .before .before .before .before .before .before .before .before .before .before .before .before .before .before .before .before .before .before .before .before .before .before .before .before .before .before .before .before .pre .1 .1 .1 .0) (c .before .before .before .before .before .before .before .before .before .before .before .before .before .before .before .before .before .before .before .before .before .before .before .before .before .before .before .before .before .create-label .ensures) (c .before .before .before .before .before .before .before .before .before .before .before .before .before .before .before .before .before .before .before .before .before .before .before .open-loop .ensures) (nested _ (c .before .before .before .before .before .before .before .before .before .before .before .before .before .before .before .before .sequence .ensures)) (c .before .before .before .before .next-used .ensures) (c .before .before .bind-next .ensures)))  -- loop-body-returns
     (λ t. plain-lts.spec (
@@ -496,13 +496,13 @@ pub +arm+arms+case+else-+for-+if-+loop-+loop-body+plain+repeat+sequence+stmt+whi
     (λ c κs. (c .before .before .before .before .before .before .before .pre .1 .1 .1 .0 .fine, c .before .before .before .before .before .before .before .pre .1 .1 .1 .0 .slots))  -- plain-create-label-requires
     (λ c κs. (c .before .before .before .before .before .create-label .ensures .fine, c .before .before .before .before .before .create-label .ensures .slots))  -- plain-create-label-requires-2
     (λ c κs. (c .before .before .before .before .before .create-label2 .ensures .fine, c .before .before .before .before .before .create-label2 .ensures .slots))  -- plain-bind-label-requires
-    (λ c κs. (omega (arith, c .before .before .before .before .before .before .before .before .before .before .before .before .before .before .before .before .before .before .before .before .before .before .before .before .before .before .pre .0), (c .before .before .before .before .before .before .before .before .before .before .before .before .before .before .before .before .before .before .before .before .before .before .before .before .before .before .pre .1 .0, (c .before .before .before .before .before .before .before .before .before .before .before .before .before .before .before .before .before .before .before .before .before .before .before .before .before .before .pre .1 .1 .0, (record { fine = c .before .before .before .before .before .before .bind-label .ensures .fine; room = c .before .before .before .before .before .before .before .before .before .before .before .before .before .before .before .before .before .before .before .before .before .before .before .before .before .before .pre .1 .1 .1 .0 .room; slots = c .before .before .before .before .before .before .bind-label .ensures .slots; long = c .before .before .before .before .before .before .before .before .before .before .before .before .before .before .before .before .before .before .before .before .before .before .before .before .before .before .pre .1 .1 .1 .0 .long }, c .before .before .before .before .before .before .before .before .before .before .before .before .before .before .before .before .before .before .before .before .before .before .before .before .before .before .pre .1 .1 .1 .1)))))  -- plain-loop-body-requires
+    (λ c κs. (omega (arith, c .before .before .before .before .before .before .before .before .before .before .before .before .before .before .before .before .before .before .before .before .before .before .before .before .before .before .pre .0), (c .before .before .before .before .before .before .before .before .before .before .before .before .before .before .before .before .before .before .before .before .before .before .before .before .before .before .pre .1 .0, (c .before .before .before .before .before .before .before .before .before .before .before .before .before .before .before .before .before .before .before .before .before .before .before .before .before .before .pre .1 .1 .0, (record { fine = c .before .before .before .before .before .before .bind-label .ensures .fine; room = c .before .before .before .before .before .before .before .before .before .before .before .before .before .before .before .before .before .before .before .before .before .before .before .before .before .before .pre .1 .1 .1 .0 .room; slots = c .before .before .before .before .before .before .bind-label .ensures .slots; held = c .before .before .before .before .before .before .before .before .before .before .before .before .before .before .before .before .before .before .before .before .before .before .before .before .before .before .pre .1 .1 .1 .0 .held }, c .before .before .before .before .before .before .before .before .before .before .before .before .before .before .before .before .before .before .before .before .before .before .before .before .before .before .pre .1 .1 .1 .1)))))  -- plain-loop-body-requires
     (λ c κs. (omega (arith, c .before .before .before .before .before .before .before .before .before .before .before .before .before .before .before .before .before .before .before .before .before .before .before .before .before .before .before .before .before .before .before .before .before .before .before .before .before .before .before .before .before .pre .0), (c .before .before .before .before .before .before .before .before .before .before .before .before .before .before .loop-body .ensures .slots, (c .before .before .before .before .before .before .before .before .before .before .before .before .before .before .loop-body .ensures .place .near, (c .before .before .before .before .before .before .before .before .before .before .before .before .before .before .loop-body .ensures .filled .ready, omega (arith, c .before .before .before .before .before .before .before .before .before .before .before .before .before .before .before .before .before .before .before .before .before .before .before .before .before .before .before .before .before .before .before .before .before .before .before .before .before .before .before .before .before .pre .1 .1 .1 .1))))))  -- plain-sequence-requires
     (λ c κs. (c .before .before .before .before .before .before .before .before .before .before .before .before .sequence .ensures .filled .ready .fine, (c .before .before .before .before .before .before .before .before .before .before .before .before .sequence .ensures .filled .ready .room, c .before .before .before .before .before .before .before .before .before .before .before .before .sequence .ensures .filled .ready .slots)))  -- plain-emit-jmp-requires
     (λ c κs. (c .before .before .before .before .before .emit-jmp .ensures .fine, c .before .before .before .before .before .emit-jmp .ensures .slots))  -- plain-bind-label-requires-2
     (λ c. c .before .before .before .before .before .before .before .before .emit-jmp .ensures .room ∙ sym (c .before .before .before .before .before .before .before .before .before .before .before .before .before .before .before .before .before .before .before .before .before .before .before .before .before .before .before .before .before .before .before .before .before .before .before .before .before .before .before .before .before .before .before .before .before .before .before .before .before .before .before .before .before .before .before .before .before .before .before .before .before .before .before .pre .1 .1 .1 .0 .room))  -- plain-same-length
     (λ c. c .before .before .bind-label2 .ensures .slots ∙ sym (c .before .before .before .before .before .before .before .before .before .before .before .before .before .before .before .before .before .before .before .before .before .before .before .before .before .before .before .before .before .before .before .before .before .before .before .before .before .before .before .before .before .before .before .before .before .before .before .before .before .before .before .before .before .before .before .before .before .before .before .before .before .before .before .pre .1 .1 .1 .0 .slots))  -- plain-same-length-2
-    (λ c. c .before .before .before .before .before .before .before .before .before .before .before .before .before .before .before .before .before .before .before .before .before .sequence .ensures .filled .ready .long .size ∙ sym (c .before .before .before .before .before .before .before .before .before .before .before .before .before .before .before .before .before .before .before .before .before .before .before .before .before .before .before .before .before .before .before .before .before .before .before .before .before .before .before .before .before .before .before .before .before .before .before .before .before .before .before .before .before .before .before .before .before .before .before .before .before .before .before .pre .1 .1 .1 .0 .long .size))  -- plain-same-length-3
+    (λ c. c .before .before .before .before .before .before .before .before .before .before .before .before .before .before .before .before .before .before .before .before .before .sequence .ensures .filled .ready .held .size ∙ sym (c .before .before .before .before .before .before .before .before .before .before .before .before .before .before .before .before .before .before .before .before .before .before .before .before .before .before .before .before .before .before .before .before .before .before .before .before .before .before .before .before .before .before .before .before .before .before .before .before .before .before .before .before .before .before .before .before .before .before .before .before .before .before .before .pre .1 .1 .1 .0 .held .size))  -- plain-same-length-3
     (λ c. c .before .before .before .before .before .before .before .before .before .before .before .before .before .before .before .before .before .before .before .before .before .sequence .ensures .slots .size ∙ sym (c .before .before .before .before .before .before .before .before .before .before .before .before .before .before .before .before .before .before .before .before .before .before .before .before .before .before .before .before .before .before .before .before .before .before .before .before .before .before .before .before .before .before .before .before .before .before .before .before .before .before .before .before .before .before .before .before .before .before .before .before .before .before .before .pre .1 .0 .size))  -- plain-same-length-4
     (λ c. plain-done _ _ _ _ _ _ _ (c .before .before .before .before .before .before .before .before .before .before .before .before .before .before .before .before .before .before .before .before .before .before .before .before .before .before .before .before .before .before .before .before .before .before .before .before .before .before .before .before .before .before .before .before .before .before .before .before .before .before .before .before .before .before .before .before .before .before .before .before .before .before .before .pre .1 .1 .1 .0) (c .before .before .before .before .before .before .before .before .before .before .before .before .before .before .before .before .before .before .before .before .before .before .before .before .before .before .before .before .before .before .before .before .before .before .before .before .before .before .before .before .before .before .before .before .before .before .before .before .before .before .before .before .before .before .before .create-label .ensures) (c .before .before .before .before .before .before .before .before .before .before .before .before .before .before .before .before .before .before .before .before .before .before .before .before .before .before .before .before .before .before .before .before .before .before .before .before .before .before .before .before .before .before .before .before .before .before .before .before .before .create-label2 .ensures) (c .before .before .before .before .before .before .before .before .before .before .before .before .before .before .before .before .before .before .before .before .before .before .before .before .before .before .before .before .before .before .before .before .before .before .before .before .before .before .before .before .before .before .before .bind-label .ensures) (c .before .before .before .before .before .before .before .before .before .before .before .before .before .before .before .before .before .before .before .before .before .before .before .before .before .before .before .before .before .before .before .before .before .before .before .before .loop-body .ensures) (nested _ (c .before .before .before .before .before .before .before .before .before .before .before .before .before .before .before .before .before .before .before .before .before .sequence .ensures)) (c .before .before .before .before .before .before .before .before .emit-jmp .ensures) (c .before .before .bind-label2 .ensures)))  -- plain-returns
     (λ t. repeat-lts.spec (
@@ -524,14 +524,14 @@ pub +arm+arms+case+else-+for-+if-+loop-+loop-body+plain+repeat+sequence+stmt+whi
     (λ c κs. search needs)  -- repeat-inner-requires
     (λ c κs. (c .before .before .before .before .before .before .before .before .pre .1 .1 .1 .1 .1 .0 .fine, c .before .before .before .before .before .before .before .before .pre .1 .1 .1 .1 .1 .0 .slots))  -- repeat-create-label-requires
     (λ c κs. (c .before .before .before .before .before .create-label .ensures .fine, c .before .before .before .before .before .create-label .ensures .slots))  -- repeat-create-label-requires-2
-    (λ c κs. (c .before .before .before .before .before .before .before .before .before .before .before .before .before .before .before .before .before .before .before .before .pre .1 .1 .1 .0, (c .before .before .before .before .before .create-label2 .ensures .fine, c .before .before .before .before .before .before .before .before .before .before .before .before .before .before .before .before .before .before .before .before .pre .1 .1 .1 .1 .1 .0 .long)))  -- repeat-pool-first-requires
+    (λ c κs. (c .before .before .before .before .before .before .before .before .before .before .before .before .before .before .before .before .before .before .before .before .pre .1 .1 .1 .0, (c .before .before .before .before .before .create-label2 .ensures .fine, c .before .before .before .before .before .before .before .before .before .before .before .before .before .before .before .before .before .before .before .before .pre .1 .1 .1 .1 .1 .0 .held)))  -- repeat-pool-first-requires
     (λ c κs. (c .before .before .before .pool-first .ensures .fine, c .before .before .before .before .before .before .before .before .before .create-label2 .ensures .slots))  -- repeat-bind-label-requires
-    (λ c κs. (omega (arith, c .before .before .before .before .before .before .before .before .before .before .before .before .before .before .before .before .before .before .before .before .before .before .before .before .before .before .before .before .before .before .before .pre .0), (c .before .before .before .before .before .before .before .before .before .before .before .before .before .before .before .before .before .before .before .before .before .before .before .before .before .before .before .before .before .before .before .pre .1 .0, (c .before .before .before .before .before .before .before .before .before .before .before .before .before .before .before .before .before .before .before .before .before .before .before .before .before .before .before .before .before .before .before .pre .1 .1 .0, (record { fine = c .before .before .before .before .before .before .bind-label .ensures .fine; room = c .before .before .before .before .before .before .before .before .before .before .before .before .before .before .before .before .before .before .before .before .before .before .before .before .before .before .before .before .before .before .before .pre .1 .1 .1 .1 .1 .0 .room; slots = c .before .before .before .before .before .before .bind-label .ensures .slots; long = c .before .before .before .before .before .before .before .before .before .before .pool-first .ensures .long }, c .before .before .before .before .before .before .before .before .before .before .before .before .before .before .before .before .before .before .before .before .before .before .before .before .before .before .before .before .before .before .before .pre .1 .1 .1 .1 .1 .1)))))  -- repeat-loop-body-requires
+    (λ c κs. (omega (arith, c .before .before .before .before .before .before .before .before .before .before .before .before .before .before .before .before .before .before .before .before .before .before .before .before .before .before .before .before .before .before .before .pre .0), (c .before .before .before .before .before .before .before .before .before .before .before .before .before .before .before .before .before .before .before .before .before .before .before .before .before .before .before .before .before .before .before .pre .1 .0, (c .before .before .before .before .before .before .before .before .before .before .before .before .before .before .before .before .before .before .before .before .before .before .before .before .before .before .before .before .before .before .before .pre .1 .1 .0, (record { fine = c .before .before .before .before .before .before .bind-label .ensures .fine; room = c .before .before .before .before .before .before .before .before .before .before .before .before .before .before .before .before .before .before .before .before .before .before .before .before .before .before .before .before .before .before .before .pre .1 .1 .1 .1 .1 .0 .room; slots = c .before .before .before .before .before .before .bind-label .ensures .slots; held = c .before .before .before .before .before .before .before .before .before .before .pool-first .ensures .held }, c .before .before .before .before .before .before .before .before .before .before .before .before .before .before .before .before .before .before .before .before .before .before .before .before .before .before .before .before .before .before .before .pre .1 .1 .1 .1 .1 .1)))))  -- repeat-loop-body-requires
     (λ c κs. (c .before .before .before .before .before .before .before .before .before .before .before .before .before .before .before .before .before .before .before .before .before .before .before .before .before .before .before .before .before .before .before .before .before .before .before .before .before .before .before .before .before .before .before .before .pre .1 .1 .1 .0, (c .before .before .before .before .before .before .before .before .before .before .before .before .loop-body .ensures .filled .ready, omega (arith, c .before .before .before .before .before .before .before .before .before .before .before .before .before .before .before .before .before .before .before .before .before .before .before .before .before .before .before .before .before .before .before .before .before .before .before .before .before .before .before .before .before .before .before .before .pre .1 .1 .1 .1 .1 .1, inner-left _ (c .before .before .before .before .before .before .before .before .before .before .before .before .before .before .before .before .before .before .before .before .before .before .before .before .before .before .before .before .before .before .before .before .before .before .before .before .before .inner .ensures)))))  -- repeat-branch-unless-requires
     (λ c κs. (c .before .before .before .before .before .before .before .before .branch-unless .ensures .ready .fine, c .before .before .before .before .before .before .before .before .branch-unless .ensures .ready .slots))  -- repeat-bind-label-requires-2
     (λ c. c .before .before .before .before .before .before .before .before .before .before .before .branch-unless .ensures .ready .room ∙ sym (c .before .before .before .before .before .before .before .before .before .before .before .before .before .before .before .before .before .before .before .before .before .before .before .before .before .before .before .before .before .before .before .before .before .before .before .before .before .before .before .before .before .before .before .before .before .before .before .before .before .before .before .before .before .before .before .before .pre .1 .1 .1 .1 .1 .0 .room))  -- repeat-same-length
     (λ c. c .before .before .bind-label2 .ensures .slots ∙ sym (c .before .before .before .before .before .before .before .before .before .before .before .before .before .before .before .before .before .before .before .before .before .before .before .before .before .before .before .before .before .before .before .before .before .before .before .before .before .before .before .before .before .before .before .before .before .before .before .before .before .before .before .before .before .before .before .before .pre .1 .1 .1 .1 .1 .0 .slots))  -- repeat-same-length-2
-    (λ c. c .before .before .before .before .before .before .before .before .before .before .before .branch-unless .ensures .ready .long .size ∙ sym (c .before .before .before .before .before .before .before .before .before .before .before .before .before .before .before .before .before .before .before .before .before .before .before .before .before .before .before .before .before .before .before .before .before .before .before .before .before .before .before .before .before .before .before .before .before .before .before .before .before .before .before .before .before .before .before .before .pre .1 .1 .1 .1 .1 .0 .long .size))  -- repeat-same-length-3
+    (λ c. c .before .before .before .before .before .before .before .before .before .before .before .branch-unless .ensures .ready .held .size ∙ sym (c .before .before .before .before .before .before .before .before .before .before .before .before .before .before .before .before .before .before .before .before .before .before .before .before .before .before .before .before .before .before .before .before .before .before .before .before .before .before .before .before .before .before .before .before .before .before .before .before .before .before .before .before .before .before .before .before .pre .1 .1 .1 .1 .1 .0 .held .size))  -- repeat-same-length-3
     (λ c. c .before .before .before .before .before .before .before .before .before .before .before .before .before .before .before .before .before .before .before .before .before .before .before .before .loop-body .ensures .slots .size ∙ sym (c .before .before .before .before .before .before .before .before .before .before .before .before .before .before .before .before .before .before .before .before .before .before .before .before .before .before .before .before .before .before .before .before .before .before .before .before .before .before .before .before .before .before .before .before .before .before .before .before .before .before .before .before .before .before .before .before .pre .1 .0 .size))  -- repeat-same-length-4
     (λ c. repeat-done _ _ _ _ _ _ (c .before .before .before .before .before .before .before .before .before .before .before .before .before .before .before .before .before .before .before .before .before .before .before .before .before .before .before .before .before .before .before .before .before .before .before .before .before .before .before .before .before .before .before .before .before .before .before .before .before .inner .ensures) _ _ (c .before .before .before .before .before .before .before .before .before .before .before .before .before .before .before .before .before .before .before .before .before .before .before .before .before .before .before .before .before .before .before .before .before .before .before .before .before .before .before .before .before .before .before .before .before .before .before .before .before .before .before .before .before .before .before .before .pre .1 .1 .1 .1 .1 .0) (c .before .before .before .before .before .before .before .before .before .before .before .before .before .before .before .before .before .before .before .before .before .before .before .before .before .before .before .before .before .before .before .before .before .before .before .before .before .before .before .before .before .before .before .before .before .before .before .before .before .before .before .before .before .before .before .before .pre .1 .1 .1 .1 .0) (c .before .before .before .before .before .before .before .before .before .before .before .before .before .before .before .before .before .before .before .before .before .before .before .before .before .before .before .before .before .before .before .before .before .before .before .before .before .before .before .before .before .before .before .before .before .before .before .create-label .ensures) (c .before .before .before .before .before .before .before .before .before .before .before .before .before .before .before .before .before .before .before .before .before .before .before .before .before .before .before .before .before .before .before .before .before .before .before .before .before .before .before .before .before .create-label2 .ensures) (c .before .before .before .before .before .before .before .before .before .before .before .before .before .before .before .before .before .before .before .before .before .before .before .before .before .before .before .before .before .before .before .before .before .before .before .pool-first .ensures) (c .before .before .before .before .before .before .before .before .before .before .before .before .before .before .before .before .before .before .before .before .before .before .before .before .before .before .before .before .before .before .before .bind-label .ensures) (c .before .before .before .before .before .before .before .before .before .before .before .before .before .before .before .before .before .before .before .before .before .before .before .before .loop-body .ensures) (c .before .before .before .before .before .before .before .before .before .before .before .branch-unless .ensures) (c .before .before .bind-label2 .ensures)))  -- repeat-returns
     (λ t. sequence-lts.spec (
@@ -552,13 +552,13 @@ pub +arm+arms+case+else-+for-+if-+loop-+loop-body+plain+repeat+sequence+stmt+whi
     (λ c κs. search needs)  -- sequence-next-stmt-requires
     (λ c κs. (c .before .before .loop .inv .near, end-inside _ _ _ (c .before .before .loop .here) _ (c .next-stmt .ensures)))  -- sequence-behind-requires
     (λ c κs. c .before .before .before .loop .inv .ready .fine)  -- sequence-record-position-requires
-    (λ c κs. (omega (arith, c .before .before .before .before .before .before .before .before .before .before .before .before .before .before .before .pre .0), (c .before .before .before .before .before .before .before .before .loop .inv .slots, (c .before .before .before .before .before .before .before .before .loop .inv .near, (record { fine = c .before .before .before .before .record-position .ensures .fine; room = c .before .before .before .before .before .before .before .before .loop .inv .ready .room; slots = c .before .before .before .before .before .before .before .before .loop .inv .ready .slots; long = c .before .before .before .before .before .before .before .before .loop .inv .ready .long }, (c .before .before .before .before .before .before .before .before .before .before .before .before .before .before .before .pre .1 .1 .1 .1, (c .before .before .before .before .before .before .next-stmt .ensures .is, goes-behind _ _ _ _ _ (c .before .before .before .before .before .before .next-stmt .ensures) (c .before .before .before .before .before .before .before .before .loop .inv .near) (c .before .before .before .before .before .behind .ensures))))))))  -- sequence-stmt-requires
+    (λ c κs. (omega (arith, c .before .before .before .before .before .before .before .before .before .before .before .before .before .before .before .pre .0), (c .before .before .before .before .before .before .before .before .loop .inv .slots, (c .before .before .before .before .before .before .before .before .loop .inv .near, (record { fine = c .before .before .before .before .record-position .ensures .fine; room = c .before .before .before .before .before .before .before .before .loop .inv .ready .room; slots = c .before .before .before .before .before .before .before .before .loop .inv .ready .slots; held = c .before .before .before .before .before .before .before .before .loop .inv .ready .held }, (c .before .before .before .before .before .before .before .before .before .before .before .before .before .before .before .pre .1 .1 .1 .1, (c .before .before .before .before .before .before .next-stmt .ensures .is, goes-behind _ _ _ _ _ (c .before .before .before .before .before .before .next-stmt .ensures) (c .before .before .before .before .before .before .before .before .loop .inv .near) (c .before .before .before .before .before .behind .ensures))))))))  -- sequence-stmt-requires
     (λ c. search needs)  -- sequence-sub-more
     (λ c. search needs)  -- sequence-loop-less
     (λ c. goes-on (c .before .before .before .before .before .before .before .before .before .before .before .before .before .before .before .before .before .before .before .loop .inv) _ (c .before .before .before .before .before .before .before .before .before .before .before .before .before .before .before .before .before .next-stmt .ensures .is) (c .before .before .before .before .before .before .before .before .before .before .before .before .before .before .before .record-position .ensures) (c .before .before .before .before .before .before .before .before .before .before .stmt .ensures) (c .before .before .before .before .before .before .before .before .before .before .before .before .before .before .before .before .before .before .loop-test .taken))  -- sequence-loop-again
     (λ c. c .before .loop .inv .ready .room ∙ sym (c .before .before .before .before .before .before .before .before .pre .1 .1 .1 .0 .room))  -- sequence-same-length
     (λ c. c .before .loop .inv .ready .slots ∙ sym (c .before .before .before .before .before .before .before .before .pre .1 .1 .1 .0 .slots))  -- sequence-same-length-2
-    (λ c. c .before .loop .inv .ready .long .size ∙ sym (c .before .before .before .before .before .before .before .before .pre .1 .1 .1 .0 .long .size))  -- sequence-same-length-3
+    (λ c. c .before .loop .inv .ready .held .size ∙ sym (c .before .before .before .before .before .before .before .before .pre .1 .1 .1 .0 .held .size))  -- sequence-same-length-3
     (λ c. c .before .loop .inv .slots .size ∙ sym (c .before .before .before .before .before .before .before .before .pre .1 .0 .size))  -- sequence-same-length-4
     (λ c. ends (c .before .loop .inv) (c .loop-test .left)))  -- sequence-returns
     (λ t. stmt-lts.spec (
@@ -606,26 +606,26 @@ pub +arm+arms+case+else-+for-+if-+loop-+loop-body+plain+repeat+sequence+stmt+whi
     (λ c κs. (c .before .before .before .before .before .before .before .before .before .before .pre .1 .1 .1 .0 .fine, bad-line _ _ _ _ _ (sym (c .before .before .before .before .before .before .before .before .before .before .pre .1 .1 .1 .1 .1 .0) ∙ ap stmtLine (c .before .line8 .given .1))))  -- stmt-refuse-requires
     (λ c. c .before .before .before .before .before .before .assign .ensures .ready .room ∙ sym (c .before .before .before .before .before .before .before .before .before .before .before .before .before .before .before .before .before .before .before .before .pre .1 .1 .1 .0 .room))  -- stmt-same-length
     (λ c. c .before .before .before .before .before .before .assign .ensures .ready .slots ∙ sym (c .before .before .before .before .before .before .before .before .before .before .before .before .before .before .before .before .before .before .before .before .pre .1 .1 .1 .0 .slots))  -- stmt-same-length-2
-    (λ c. c .before .before .before .before .before .before .assign .ensures .ready .long .size ∙ sym (c .before .before .before .before .before .before .before .before .before .before .before .before .before .before .before .before .before .before .before .before .pre .1 .1 .1 .0 .long .size))  -- stmt-same-length-3
+    (λ c. c .before .before .before .before .before .before .assign .ensures .ready .held .size ∙ sym (c .before .before .before .before .before .before .before .before .before .before .before .before .before .before .before .before .before .before .before .before .pre .1 .1 .1 .0 .held .size))  -- stmt-same-length-3
     (λ c. ran-assign _ _ _ _ (c .before .before .before .before .before .before .before .before .before .before .before .before .before .inner .ensures) _ _ (c .before .before .before .before .before .before .before .before .before .before .before .before .before .before .before .before .before .before .before .before .pre .1 .0) (sym (c .before .before .before .before .before .before .before .before .before .before .before .before .before .before .before .before .before .before .before .before .pre .1 .1 .1 .1 .1 .0) ∙ ap stmtLine (c .before .before .before .before .before .before .before .before .before .before .before .line .given .1)) (rw (← good-behind _ _ _ _ (c .before .before .before .before .before .before .before .before .before .before .before .before .before .before .before .before .before .before .before .before .pre .1 .1 .1 .1 .1 .1) (ap stmtLine (c .before .before .before .before .before .before .before .before .before .before .before .line .given .1)) .is) (c .before .before .before .before .before .before .assign .ensures)))  -- stmt-returns
     (λ c. c .before .before .before .before .before .before .before .before .if- .ensures .filled .ready .room ∙ sym (c .before .before .before .before .before .before .before .before .before .before .before .before .before .before .before .before .before .before .before .before .before .before .before .pre .1 .1 .1 .0 .room))  -- stmt-same-length-4
     (λ c. c .before .before .before .before .before .before .before .before .if- .ensures .filled .ready .slots ∙ sym (c .before .before .before .before .before .before .before .before .before .before .before .before .before .before .before .before .before .before .before .before .before .before .before .pre .1 .1 .1 .0 .slots))  -- stmt-same-length-5
-    (λ c. c .before .before .before .before .before .before .before .before .if- .ensures .filled .ready .long .size ∙ sym (c .before .before .before .before .before .before .before .before .before .before .before .before .before .before .before .before .before .before .before .before .before .before .before .pre .1 .1 .1 .0 .long .size))  -- stmt-same-length-6
+    (λ c. c .before .before .before .before .before .before .before .before .if- .ensures .filled .ready .held .size ∙ sym (c .before .before .before .before .before .before .before .before .before .before .before .before .before .before .before .before .before .before .before .before .before .before .before .pre .1 .1 .1 .0 .held .size))  -- stmt-same-length-6
     (λ c. c .before .before .before .before .before .before .before .before .if- .ensures .slots .size ∙ sym (c .before .before .before .before .before .before .before .before .before .before .before .before .before .before .before .before .before .before .before .before .before .before .before .pre .1 .0 .size))  -- stmt-same-length-7
     (λ c. ran-if _ _ _ _ (c .before .before .before .before .before .before .before .before .before .before .before .before .before .before .before .before .inner .ensures) _ _ _ (sym (c .before .before .before .before .before .before .before .before .before .before .before .before .before .before .before .before .before .before .before .before .before .before .before .pre .1 .1 .1 .1 .1 .0) ∙ ap stmtLine (c .before .before .before .before .before .before .before .before .before .before .before .before .before .before .line2 .given .1)) (rw (← good-behind _ _ _ _ (c .before .before .before .before .before .before .before .before .before .before .before .before .before .before .before .before .before .before .before .before .before .before .before .pre .1 .1 .1 .1 .1 .1) (ap stmtLine (c .before .before .before .before .before .before .before .before .before .before .before .before .before .before .line2 .given .1)) .is) (c .before .before .before .before .before .before .before .before .if- .ensures)))  -- stmt-returns-2
     (λ c. c .before .before .before .before .before .before .before .before .case .ensures .filled .ready .room ∙ sym (c .before .before .before .before .before .before .before .before .before .before .before .before .before .before .before .before .before .before .before .before .before .before .before .pre .1 .1 .1 .0 .room))  -- stmt-same-length-8
     (λ c. c .before .before .before .before .before .before .before .before .case .ensures .filled .ready .slots ∙ sym (c .before .before .before .before .before .before .before .before .before .before .before .before .before .before .before .before .before .before .before .before .before .before .before .pre .1 .1 .1 .0 .slots))  -- stmt-same-length-9
-    (λ c. c .before .before .before .before .before .before .before .before .case .ensures .filled .ready .long .size ∙ sym (c .before .before .before .before .before .before .before .before .before .before .before .before .before .before .before .before .before .before .before .before .before .before .before .pre .1 .1 .1 .0 .long .size))  -- stmt-same-length-10
+    (λ c. c .before .before .before .before .before .before .before .before .case .ensures .filled .ready .held .size ∙ sym (c .before .before .before .before .before .before .before .before .before .before .before .before .before .before .before .before .before .before .before .before .before .before .before .pre .1 .1 .1 .0 .held .size))  -- stmt-same-length-10
     (λ c. c .before .before .before .before .before .before .before .before .case .ensures .slots .size ∙ sym (c .before .before .before .before .before .before .before .before .before .before .before .before .before .before .before .before .before .before .before .before .before .before .before .pre .1 .0 .size))  -- stmt-same-length-11
     (λ c. ran-case _ _ _ _ (c .before .before .before .before .before .before .before .before .before .before .before .before .before .before .before .before .inner .ensures) _ _ _ (sym (c .before .before .before .before .before .before .before .before .before .before .before .before .before .before .before .before .before .before .before .before .before .before .before .pre .1 .1 .1 .1 .1 .0) ∙ ap stmtLine (c .before .before .before .before .before .before .before .before .before .before .before .before .before .before .line3 .given .1)) (rw (← good-behind _ _ _ _ (c .before .before .before .before .before .before .before .before .before .before .before .before .before .before .before .before .before .before .before .before .before .before .before .pre .1 .1 .1 .1 .1 .1) (ap stmtLine (c .before .before .before .before .before .before .before .before .before .before .before .before .before .before .line3 .given .1)) .is) (c .before .before .before .before .before .before .before .before .case .ensures)))  -- stmt-returns-3
     (λ c. c .before .before .before .before .before .before .before .before .for- .ensures .filled .ready .room ∙ sym (c .before .before .before .before .before .before .before .before .before .before .before .before .before .before .before .before .before .before .before .before .before .before .before .pre .1 .1 .1 .0 .room))  -- stmt-same-length-12
     (λ c. c .before .before .before .before .before .before .before .before .for- .ensures .filled .ready .slots ∙ sym (c .before .before .before .before .before .before .before .before .before .before .before .before .before .before .before .before .before .before .before .before .before .before .before .pre .1 .1 .1 .0 .slots))  -- stmt-same-length-13
-    (λ c. c .before .before .before .before .before .before .before .before .for- .ensures .filled .ready .long .size ∙ sym (c .before .before .before .before .before .before .before .before .before .before .before .before .before .before .before .before .before .before .before .before .before .before .before .pre .1 .1 .1 .0 .long .size))  -- stmt-same-length-14
+    (λ c. c .before .before .before .before .before .before .before .before .for- .ensures .filled .ready .held .size ∙ sym (c .before .before .before .before .before .before .before .before .before .before .before .before .before .before .before .before .before .before .before .before .before .before .before .pre .1 .1 .1 .0 .held .size))  -- stmt-same-length-14
     (λ c. c .before .before .before .before .before .before .before .before .for- .ensures .slots .size ∙ sym (c .before .before .before .before .before .before .before .before .before .before .before .before .before .before .before .before .before .before .before .before .before .before .before .pre .1 .0 .size))  -- stmt-same-length-15
     (λ c. ran-for _ _ _ _ (c .before .before .before .before .before .before .before .before .before .before .before .before .before .before .before .before .inner .ensures) _ _ _ _ _ (sym (c .before .before .before .before .before .before .before .before .before .before .before .before .before .before .before .before .before .before .before .before .before .before .before .pre .1 .1 .1 .1 .1 .0) ∙ ap stmtLine (c .before .before .before .before .before .before .before .before .before .before .before .before .before .before .line4 .given .1)) (rw (← good-behind _ _ _ _ (c .before .before .before .before .before .before .before .before .before .before .before .before .before .before .before .before .before .before .before .before .before .before .before .pre .1 .1 .1 .1 .1 .1) (ap stmtLine (c .before .before .before .before .before .before .before .before .before .before .before .before .before .before .line4 .given .1)) .is) (c .before .before .before .before .before .before .before .before .for- .ensures)))  -- stmt-returns-4
     (λ c. c .before .before .before .before .before .before .before .before .loop- .ensures .filled .ready .room ∙ sym (c .before .before .before .before .before .before .before .before .before .before .before .before .before .before .before .before .before .before .before .before .before .before .before .pre .1 .1 .1 .0 .room))  -- stmt-same-length-16
     (λ c. c .before .before .before .before .before .before .before .before .loop- .ensures .filled .ready .slots ∙ sym (c .before .before .before .before .before .before .before .before .before .before .before .before .before .before .before .before .before .before .before .before .before .before .before .pre .1 .1 .1 .0 .slots))  -- stmt-same-length-17
-    (λ c. c .before .before .before .before .before .before .before .before .loop- .ensures .filled .ready .long .size ∙ sym (c .before .before .before .before .before .before .before .before .before .before .before .before .before .before .before .before .before .before .before .before .before .before .before .pre .1 .1 .1 .0 .long .size))  -- stmt-same-length-18
+    (λ c. c .before .before .before .before .before .before .before .before .loop- .ensures .filled .ready .held .size ∙ sym (c .before .before .before .before .before .before .before .before .before .before .before .before .before .before .before .before .before .before .before .before .before .before .before .pre .1 .1 .1 .0 .held .size))  -- stmt-same-length-18
     (λ c. c .before .before .before .before .before .before .before .before .loop- .ensures .slots .size ∙ sym (c .before .before .before .before .before .before .before .before .before .before .before .before .before .before .before .before .before .before .before .before .before .before .before .pre .1 .0 .size))  -- stmt-same-length-19
     (λ c. ran-loop _ _ _ _ (c .before .before .before .before .before .before .before .before .before .before .before .before .before .before .before .before .inner .ensures) _ _ _ _ (sym (c .before .before .before .before .before .before .before .before .before .before .before .before .before .before .before .before .before .before .before .before .before .before .before .pre .1 .1 .1 .1 .1 .0) ∙ ap stmtLine (c .before .before .before .before .before .before .before .before .before .before .before .before .before .before .line5 .given .1)) (rw (← good-behind _ _ _ _ (c .before .before .before .before .before .before .before .before .before .before .before .before .before .before .before .before .before .before .before .before .before .before .before .pre .1 .1 .1 .1 .1 .1) (ap stmtLine (c .before .before .before .before .before .before .before .before .before .before .before .before .before .before .line5 .given .1)) .is) (c .before .before .before .before .before .before .before .before .loop- .ensures)))  -- stmt-returns-5
     (λ c. c .before .before .before .before .exit .ensures .coded .room ∙ sym (c .before .before .before .before .before .before .before .before .before .before .before .before .before .before .before .before .before .before .pre .1 .1 .1 .0 .room))  -- stmt-same-length-20
@@ -658,12 +658,12 @@ pub +arm+arms+case+else-+for-+if-+loop-+loop-body+plain+repeat+sequence+stmt+whi
     while-.Post
     (λ c κs. search needs)  -- while--inner-requires
     (λ c κs. (c .before .before .before .before .before .before .before .before .pre .1 .1 .1 .1 .0 .fine, c .before .before .before .before .before .before .before .before .pre .1 .1 .1 .1 .0 .slots))  -- while--create-label-requires
-    (λ c κs. (c .before .before .before .before .before .before .before .before .before .before .before .before .before .before .before .before .pre .1 .1 .0, (record { fine = c .before .before .before .before .before .before .before .create-label .ensures .fine; room = c .before .before .before .before .before .before .before .before .before .before .before .before .before .before .before .before .pre .1 .1 .1 .1 .0 .room; slots = c .before .before .before .before .before .before .before .create-label .ensures .slots; long = c .before .before .before .before .before .before .before .before .before .before .before .before .before .before .before .before .pre .1 .1 .1 .1 .0 .long }, omega (arith, c .before .before .before .before .before .before .before .before .before .before .before .before .before .before .before .before .pre .1 .1 .1 .1 .1, inner-left _ (c .before .before .before .before .before .before .before .before .before .inner .ensures)))))  -- while--while-head-requires
+    (λ c κs. (c .before .before .before .before .before .before .before .before .before .before .before .before .before .before .before .before .pre .1 .1 .0, (record { fine = c .before .before .before .before .before .before .before .create-label .ensures .fine; room = c .before .before .before .before .before .before .before .before .before .before .before .before .before .before .before .before .pre .1 .1 .1 .1 .0 .room; slots = c .before .before .before .before .before .before .before .create-label .ensures .slots; held = c .before .before .before .before .before .before .before .before .before .before .before .before .before .before .before .before .pre .1 .1 .1 .1 .0 .held }, omega (arith, c .before .before .before .before .before .before .before .before .before .before .before .before .before .before .before .before .pre .1 .1 .1 .1 .1, inner-left _ (c .before .before .before .before .before .before .before .before .before .inner .ensures)))))  -- while--while-head-requires
     (λ c κs. (omega (arith, c .before .before .before .before .before .before .before .before .before .before .before .before .before .before .before .before .before .before .before .before .before .before .before .before .before .before .before .before .before .pre .0), (c .before .before .before .before .before .before .before .before .before .before .before .before .before .before .before .before .before .before .before .before .before .before .before .before .before .before .before .before .before .pre .1 .0, (c .before .before .before .before .before .before .before .before .before .before .before .before .before .before .before .before .before .before .before .before .before .before .before .before .before .before .before .before .before .pre .1 .1 .1 .0, (c .before .before .before .before .before .before .before .before .before .before .before .before .while-head .ensures .ready, c .before .before .before .before .before .before .before .before .before .before .before .before .before .before .before .before .before .before .before .before .before .before .before .before .before .before .before .before .before .pre .1 .1 .1 .1 .1)))))  -- while--loop-body-requires
     (λ c κs. (c .before .before .before .before .before .before .before .before .before .before .before .before .before .before .before .before .before .before .before .before .before .before .before .before .before .before .before .before .before .before .before .before .before .before .before .before .before .before .before .before .before .before .before .pre .1 .1 .0, c .before .before .before .before .before .before .before .before .before .before .before .before .before .loop-body .ensures .filled .ready))  -- while--while-end-requires
     (λ c κs. (c .before .before .before .before .before .before .before .while-end .ensures .ready .fine, c .before .before .before .before .before .before .before .while-end .ensures .ready .slots))  -- while--bind-label-requires
     (λ c. c .before .before .before .before .before .before .before .before .before .before .while-end .ensures .ready .room ∙ sym (c .before .before .before .before .before .before .before .before .before .before .before .before .before .before .before .before .before .before .before .before .before .before .before .before .before .before .before .before .before .before .before .before .before .before .before .before .before .before .before .before .before .before .before .before .before .before .before .before .before .before .before .before .before .before .pre .1 .1 .1 .1 .0 .room))  -- while--same-length
     (λ c. c .before .before .bind-label .ensures .slots ∙ sym (c .before .before .before .before .before .before .before .before .before .before .before .before .before .before .before .before .before .before .before .before .before .before .before .before .before .before .before .before .before .before .before .before .before .before .before .before .before .before .before .before .before .before .before .before .before .before .before .before .before .before .before .before .before .before .pre .1 .1 .1 .1 .0 .slots))  -- while--same-length-2
-    (λ c. c .before .before .before .before .before .before .before .before .before .before .while-end .ensures .ready .long .size ∙ sym (c .before .before .before .before .before .before .before .before .before .before .before .before .before .before .before .before .before .before .before .before .before .before .before .before .before .before .before .before .before .before .before .before .before .before .before .before .before .before .before .before .before .before .before .before .before .before .before .before .before .before .before .before .before .before .pre .1 .1 .1 .1 .0 .long .size))  -- while--same-length-3
+    (λ c. c .before .before .before .before .before .before .before .before .before .before .while-end .ensures .ready .held .size ∙ sym (c .before .before .before .before .before .before .before .before .before .before .before .before .before .before .before .before .before .before .before .before .before .before .before .before .before .before .before .before .before .before .before .before .before .before .before .before .before .before .before .before .before .before .before .before .before .before .before .before .before .before .before .before .before .before .pre .1 .1 .1 .1 .0 .held .size))  -- while--same-length-3
     (λ c. c .before .before .before .before .before .before .before .before .before .before .before .before .before .before .before .before .before .before .before .before .before .before .before .before .loop-body .ensures .slots .size ∙ sym (c .before .before .before .before .before .before .before .before .before .before .before .before .before .before .before .before .before .before .before .before .before .before .before .before .before .before .before .before .before .before .before .before .before .before .before .before .before .before .before .before .before .before .before .before .before .before .before .before .before .before .before .before .before .before .pre .1 .0 .size))  -- while--same-length-4
     (λ c. while-done _ _ _ _ _ _ (c .before .before .before .before .before .before .before .before .before .before .before .before .before .before .before .before .before .before .before .before .before .before .before .before .before .before .before .before .before .before .before .before .before .before .before .before .before .before .before .before .before .before .before .before .before .before .before .inner .ensures) _ (c .before .before .before .before .before .before .before .before .before .before .before .before .before .before .before .before .before .before .before .before .before .before .before .before .before .before .before .before .before .before .before .before .before .before .before .before .before .before .before .before .before .before .before .before .before .before .before .before .before .before .before .before .before .before .pre .1 .1 .1 .1 .0) (c .before .before .before .before .before .before .before .before .before .before .before .before .before .before .before .before .before .before .before .before .before .before .before .before .before .before .before .before .before .before .before .before .before .before .before .before .before .before .before .before .before .before .before .before .before .create-label .ensures) (c .before .before .before .before .before .before .before .before .before .before .before .before .before .before .before .before .before .before .before .before .before .before .before .before .before .before .before .before .before .before .before .before .before .before .before .before .before .while-head .ensures) (c .before .before .before .before .before .before .before .before .before .before .before .before .before .before .before .before .before .before .before .before .before .before .before .before .loop-body .ensures) (c .before .before .before .before .before .before .before .before .before .before .while-end .ensures) (c .before .before .bind-label .ensures))  -- while--returns

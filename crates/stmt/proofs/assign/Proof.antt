@@ -13,5 +13,5 @@ assign-spec =
     (λ c κs. (c .before .before .before .before .before .before .before .before .before .before .emit-expr .ensures .ready .fine, (c .before .before .before .before .before .before .before .before .before .before .emit-expr .ensures .ready .room, c .before .before .before .before .before .before .before .before .before .before .emit-expr .ensures .ready .slots)))  -- emit-store-var-requires
     (λ c. c .before .before .before .before .emit-store-var .ensures .room ∙ sym (c .before .before .before .before .before .before .before .before .before .before .before .before .before .before .before .before .before .before .before .before .before .before .before .before .pre .1 .0 .room))  -- same-length
     (λ c. c .before .before .before .before .emit-store-var .ensures .slots ∙ sym (c .before .before .before .before .before .before .before .before .before .before .before .before .before .before .before .before .before .before .before .before .before .before .before .before .pre .1 .0 .slots))  -- same-length-2
-    (λ c. c .before .before .before .before .before .before .before .before .before .before .before .before .before .before .before .emit-expr .ensures .ready .long .size ∙ sym (c .before .before .before .before .before .before .before .before .before .before .before .before .before .before .before .before .before .before .before .before .before .before .before .before .pre .1 .0 .long .size))  -- same-length-3
+    (λ c. c .before .before .before .before .before .before .before .before .before .before .before .before .before .before .before .emit-expr .ensures .ready .held .size ∙ sym (c .before .before .before .before .before .before .before .before .before .before .before .before .before .before .before .before .before .before .before .before .before .before .before .before .pre .1 .0 .held .size))  -- same-length-3
     (λ c. assigned _ _ _ _ (c .before .before .before .before .before .before .before .before .before .before .before .before .before .before .before .emit-expr .ensures) (c .before .before .before .before .emit-store-var .ensures)))  -- returns

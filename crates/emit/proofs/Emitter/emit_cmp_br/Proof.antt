@@ -11,7 +11,7 @@ pub emit-cmp-br-spec : {M : Type 1} → statement M
 emit-cmp-br-spec =
     tie.close
     (tie.spec
-    (λ c κs. (c .before .before .before .before .before .pre .fine, c .before .before .before .before .before .pre .long))  -- intern-constant-requires
+    (λ c κs. (c .before .before .before .before .before .pre .fine, c .before .before .before .before .before .pre .held))  -- intern-constant-requires
     (λ c κs. omega (arith, c .before .before .before .intern-constant .ensures .pooled .fine .size))  -- narrow-requires
     (λ c κs. search needs)  -- cmp-br-requires
     (λ c κs. (c .before .before .before .before .before .before .before .intern-constant .ensures .pooled .fine, (c .before .before .before .before .before .before .before .before .before .before .before .before .before .pre .room, c .before .before .before .before .before .before .before .before .before .before .before .before .before .pre .slots)))  -- add-cmp-br-requires

@@ -8,7 +8,7 @@ pub load-constant-spec : {M : Type 1} → statement M
 load-constant-spec =
     tie.close
     (tie.spec
-    (λ c κs. (c .before .before .before .before .before .pre .fine, c .before .before .before .before .before .pre .long))  -- intern-constant-requires
+    (λ c κs. (c .before .before .before .before .before .pre .fine, c .before .before .before .before .before .pre .held))  -- intern-constant-requires
     (λ c κs. (c .before .before .before .before .before .intern-constant .ensures .pooled .fine, (c .before .before .before .before .before .before .before .before .before .before .before .pre .room, c .before .before .before .before .before .before .before .before .before .before .before .pre .slots)))  -- add-u16-requires
     (λ c. search needs)  -- same-length
     (λ c. search needs)  -- same-length-2

@@ -29,5 +29,5 @@ test-labels-spec =
     (λ c κs. (c .before .before .before .before .loop .inv .near, c .before .before .before .before .loop .inv .ready))  -- test-label-requires
     (λ c. c .before .before .before .before .before .before .test-label .ensures .ready .room ∙ sym (c .before .before .before .before .before .before .before .before .before .before .before .before .before .before .before .before .before .pre .1 .0 .room))  -- same-length
     (λ c. c .before .before .before .before .before .before .test-label .ensures .ready .slots ∙ sym (c .before .before .before .before .before .before .before .before .before .before .before .before .before .before .before .before .before .pre .1 .0 .slots))  -- same-length-2
-    (λ c. c .before .before .before .before .before .before .test-label .ensures .ready .long .size ∙ sym (c .before .before .before .before .before .before .before .before .before .before .before .before .before .before .before .before .before .pre .1 .0 .long .size))  -- same-length-3
+    (λ c. c .before .before .before .before .before .before .test-label .ensures .ready .held .size ∙ sym (c .before .before .before .before .before .before .before .before .before .before .before .before .before .before .before .before .before .pre .1 .0 .held .size))  -- same-length-3
     (λ c. tests-end (c .before .before .before .before .before .before .before .before .before .before .before .loop .inv) (c .before .before .before .before .before .before .before .before .before .before .loop-test .left) (c .before .before .before .before .before .before .test-label .ensures)))  -- returns

@@ -12,5 +12,5 @@ test-range-spec =
     (λ c κs. c .before .before .before .before .before .before .before .before .before .test-against .ensures .ready)  -- test-against-requires-2
     (λ c. c .before .before .before .before .before .before .test-against2 .ensures .ready .room ∙ sym (c .before .before .before .before .before .before .before .before .before .before .before .before .before .before .before .before .before .before .before .before .before .before .before .before .pre .room))  -- same-length
     (λ c. c .before .before .before .before .before .before .test-against2 .ensures .ready .slots ∙ sym (c .before .before .before .before .before .before .before .before .before .before .before .before .before .before .before .before .before .before .before .before .before .before .before .before .pre .slots))  -- same-length-2
-    (λ c. c .before .before .before .before .before .before .test-against2 .ensures .ready .long .size ∙ sym (c .before .before .before .before .before .before .before .before .before .before .before .before .before .before .before .before .before .before .before .before .before .before .before .before .pre .long .size))  -- same-length-3
+    (λ c. c .before .before .before .before .before .before .test-against2 .ensures .ready .held .size ∙ sym (c .before .before .before .before .before .before .before .before .before .before .before .before .before .before .before .before .before .before .before .before .before .before .before .before .pre .held .size))  -- same-length-3
     (λ c. range-tested _ _ _ _ (c .before .before .before .before .before .before .before .before .before .before .before .before .before .before .before .before .test-against .ensures) (c .before .before .before .before .before .before .test-against2 .ensures)))  -- returns
