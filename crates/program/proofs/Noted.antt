@@ -13,12 +13,12 @@ use Rattle.definition.specs.Program as def
 use Rattle.definition.specs.Program.{blockOf, stmtAt}
 use Rattle.program.specs.declared.Walk.{Walk}
 use Rattle.program.specs.Walk.{Near, Skipped, Walked, many, overStmt}
-use Rattle.program.specs.Ends.{endSize, endsSize, Body, bodyAt, Sound, bodyOf, Holds, HeldIf, Worth, Noting}
+use Rattle.program.specs.Ends.{endSize, bodies, endsSize, Body, bodyAt, Noted, Sound, NoneNew, bodyOf, bodyPut, Holds, HeldIf, Worth, Noting}
 use Rattle.program.proofs.Laws.{skipped-block}
 
 -- ---- what is written
 
-abbrev pub put5 : List ℕ → ℕ → ℕ → ℕ → ℕ → ℕ → ℕ → List ℕ
+abbrev put5 : List ℕ → ℕ → ℕ → ℕ → ℕ → ℕ → ℕ → List ℕ
 put5 ls at a b c d e = set (set (set (set (set ls at a) (at + 1) b) (at + 2) c) (at + 3) d) (at + 4) e
 
 module _ (ls : List ℕ) (at a b c d e : ℕ) (fits : at + 5 ≤ length ls) where
@@ -60,16 +60,53 @@ module _ (ls : List ℕ) (at a b c d e : ℕ) (fits : at + 5 ≤ length ls) wher
   put5-other : (j : ℕ) → (at ≤ j → j < at + 5 → ⊥) → getD (put5 ls at a b c d e) j 0 ≡ getD ls j 0
   put5-other j h = getD-set-other s4 (at + 4) j e 0 (λ q. h (omega arith) (omega arith)) ∙ getD-set-other s3 (at + 3) j d 0 (λ q. h (omega arith) (omega arith)) ∙ getD-set-other s2 (at + 2) j c 0 (λ q. h (omega arith) (omega arith)) ∙ getD-set-other s1 (at + 1) j b 0 (λ q. h (omega arith) (omega arith)) ∙ getD-set-other ls at j a 0 (λ q. h (omega arith) (omega arith))
 
--- a level whose numbers are the same
+-- a body whose numbers are the same
 pub body-same : (ls ls′ : List ℕ) (k : ℕ) → ((j : ℕ) → endSize * k ≤ j → j < endSize * k + 5 → getD ls′ j 0 ≡ getD ls j 0) → bodyAt ls′ k ≡ bodyAt ls k
 unfolding bodyAt
 body-same ls ls′ k h = rw (h (endSize * k) (omega arith) (omega arith), h (endSize * k + 1) (omega arith) (omega arith), h (endSize * k + 2) (omega arith) (omega arith), h (endSize * k + 3) (omega arith) (omega arith), h (endSize * k + 4) (omega arith) (omega arith))
 
-body-put : (ls : List ℕ) (k n : ℕ) (b c : Walk) → endSize * k + 5 ≤ length ls → bodyAt (put5 ls (endSize * k) (b .at) (b .row) n (c .at) (c .row)) k ≡ bodyOf n b c
+body-put : (ls : List ℕ) (k : ℕ) (x : Body) → endSize * k + 5 ≤ length ls → bodyAt (bodyPut ls k x) k ≡ x
 unfolding bodyAt
-body-put ls k n b c fits =
+body-put ls k x fits =
     let at = endSize * k in
-    rw (put5-0 ls at (b .at) (b .row) n (c .at) (c .row) fits, put5-1 ls at (b .at) (b .row) n (c .at) (c .row) fits, put5-2 ls at (b .at) (b .row) n (c .at) (c .row) fits, put5-3 ls at (b .at) (b .row) n (c .at) (c .row) fits, put5-4 ls at (b .at) (b .row) n (c .at) (c .row) fits)
+    rw (put5-0 ls at (x .start .at) (x .start .row) (x .count) (x .end .at) (x .end .row) fits, put5-1 ls at (x .start .at) (x .start .row) (x .count) (x .end .at) (x .end .row) fits, put5-2 ls at (x .start .at) (x .start .row) (x .count) (x .end .at) (x .end .row) fits, put5-3 ls at (x .start .at) (x .start .row) (x .count) (x .end .at) (x .end .row) fits, put5-4 ls at (x .start .at) (x .start .row) (x .count) (x .end .at) (x .end .row) fits)
+
+-- a body that is written to a place of its level
+module _ (ls : List ℕ) (size : length ls ≡ endsSize) (level i : ℕ) (low : level < maxNesting) (below : i < bodies) (y : Body) where
+  abbrev new : List ℕ
+  new = bodyPut ls (bodies * level + i) y
+
+  put-size : length new ≡ length ls
+  put-size = rw (length-set, length-set, length-set, length-set, length-set)
+
+  put-told : (k : ℕ) (x : Body) → Noted new k x → Either (Noted ls k x) ((k ≡ level) × (x ≡ y))
+  put-told k x m = go (ℕ-discrete (bodies * k + m .place) (bodies * level + i))
+    where
+      at : ℕ
+      at = endSize * (bodies * level + i)
+
+      fits : at + 5 ≤ length ls
+      fits = omega arith
+
+      go : Dec (bodies * k + m .place ≡ bodies * level + i) → Either (Noted ls k x) ((k ≡ level) × (x ≡ y))
+      go (yes e) = right (omega (arith, m .below), m .is ∙ rw e (body-put ls (bodies * level + i) y fits))
+      go (no d) = left (record { place = m .place; below = m .below; is = m .is ∙ body-same ls new (bodies * k + m .place) (λ j u v. put5-other ls at (y .start .at) (y .start .row) (y .count) (y .end .at) (y .end .row) fits j (λ a b. d (omega arith))) })
+
+pub none-new : (ls : List ℕ) → NoneNew ls ls
+none-new ls = record { size = refl; told = λ k h x m. m }
+
+-- a body that changes its place in its level
+pub moved : (ls : List ℕ) (level : ℕ) → length ls ≡ endsSize → level < maxNesting → NoneNew ls (bodyPut ls (bodies * level + 1) (bodyAt ls (bodies * level)))
+moved ls level size low = record { size = put-size ls size level 1 low (omega arith) y; told = λ k h x m. go k x (put-told ls size level 1 low (omega arith) y k x m) }
+  where
+    y : Body
+    y = bodyAt ls (bodies * level)
+
+    go : (k : ℕ) (x : Body) → Either (Noted ls k x) ((k ≡ level) × (x ≡ y)) → Noted ls k x
+    go k x (left m) = m
+    go k x (right (e, is)) =
+        let z : bodies * level ≡ bodies * k + 0 = omega arith in
+        record { place = 0; below = omega arith; is = is ∙ ap (λ (s : ℕ). bodyAt ls s) z }
 
 pub worth : (heed : Bool) (level n : ℕ) (b c : Walk) (r : Bool) → heed ≡ false → b .refused ≡ 0 → HeldIf level n b c r → Worth heed level n b c r
 worth heed level n b c true off on h = (off, on, h)
@@ -77,44 +114,35 @@ worth heed level n b c false off on h = tt
 
 module _ (heed : Bool) (level n : ℕ) (b c : Walk) (ls : List ℕ) where
   pub unnoted : Noting heed level n b c ls ls
-  unnoted = record { size = refl; told = λ k h. left refl }
+  unnoted = record { size = refl; told = λ k h x m. left m }
 
-  pub noted : length ls ≡ endsSize → (heed ≡ false) × (b .refused ≡ 0) × Holds level n b c → Noting heed level n b c ls (put5 ls (endSize * level) (b .at) (b .row) n (c .at) (c .row))
-  noted size (off, on, holds) = record { size = rw (length-set, length-set, length-set, length-set, length-set); told = λ k h. go k (ℕ-discrete k level) }
+  pub noted : (i : ℕ) → i < bodies → {ls′ : List ℕ} → length ls ≡ endsSize → NoneNew ls ls′ → (heed ≡ false) × (b .refused ≡ 0) × Holds level n b c → Noting heed level n b c ls (bodyPut ls′ (bodies * level + i) (bodyOf n b c))
+  noted i below {ls′} size old (off, on, holds) = record { size = put-size ls′ long level i (holds .level) below (bodyOf n b c) ∙ old .size; told = λ k h x m. go k h x (put-told ls′ long level i (holds .level) below (bodyOf n b c) k x m) }
     where
-      at : ℕ
-      at = endSize * level
+      long : length ls′ ≡ endsSize
+      long = old .size ∙ size
 
-      new : List ℕ
-      new = put5 ls at (b .at) (b .row) n (c .at) (c .row)
-
-      fits : at + 5 ≤ length ls
-      fits = omega (arith, holds .level)
-
-      go : (k : ℕ) → Dec (k ≡ level) → Either (bodyAt new k ≡ bodyAt ls k) ((heed ≡ false) × (b .refused ≡ 0) × (k ≡ level) × (bodyAt new k ≡ bodyOf n b c))
-      go k (yes e) = right (off, on, e, rw e (body-put ls level n b c fits))
-      go k (no d) = left (body-same ls new k (λ j x y. put5-other ls at (b .at) (b .row) n (c .at) (c .row) fits j (λ u v. d (omega arith))))
+      go : (k : ℕ) → k < maxNesting → (x : Body) → Either (Noted ls′ k x) ((k ≡ level) × (x ≡ bodyOf n b c)) → Either (Noted ls k x) ((heed ≡ false) × (b .refused ≡ 0) × (k ≡ level) × (x ≡ bodyOf n b c))
+      go k h x (left m) = left (old .told k h x m)
+      go k h x (right (e, is)) = right (off, on, e, is)
 
 -- ---- what is noted is so
 
 module _ (text : List ℕ) (v : ℕ) where
   pub sound-none : length text ≤ maxProgram → Sound text v (replicate endsSize 0)
   unfolding bodyAt blockOf
-  sound-none short = record { size = length-replicate {A = ℕ} endsSize 0; told = λ level h. go level h }
+  sound-none short = record { size = length-replicate {A = ℕ} endsSize 0; told = λ level h x m. rw (m .is) (go (bodies * level + m .place) level (omega (arith, m .below))) }
     where
       zero-at : (j : ℕ) → j < endsSize → getD {A = ℕ} (replicate endsSize 0) j 0 ≡ 0
       zero-at j h = getD-replicate endsSize j 0 0 h
 
-      go : (level : ℕ) → level < maxNesting → Skipped text (blockOf (λ d. stmtAt level v text d) (bodyAt (replicate endsSize 0) level .count) (bodyAt (replicate endsSize 0) level .start) .1) (bodyAt (replicate endsSize 0) level .end)
-      go level h = rw (zero-at (endSize * level) (omega arith), zero-at (endSize * level + 1) (omega arith), zero-at (endSize * level + 2) (omega arith), zero-at (endSize * level + 3) (omega arith), zero-at (endSize * level + 4) (omega arith))
+      go : (k level : ℕ) → k < bodies * maxNesting → Skipped text (blockOf (λ d. stmtAt level v text d) (bodyAt (replicate endsSize 0) k .count) (bodyAt (replicate endsSize 0) k .start) .1) (bodyAt (replicate endsSize 0) k .end)
+      go k level h = rw (zero-at (endSize * k) (omega arith), zero-at (endSize * k + 1) (omega arith), zero-at (endSize * k + 2) (omega arith), zero-at (endSize * k + 3) (omega arith), zero-at (endSize * k + 4) (omega arith))
           (record { is = refl; near = record { short = short; within = omega arith; rows = omega arith } })
 
   pub sound-noted : {heed : Bool} {level n : ℕ} {b c : Walk} {ls ls′ : List ℕ} → Sound text v ls → Walked (many n (overStmt heed level v text)) text b c → Noting heed level n b c ls ls′ → Sound text v ls′
-  sound-noted {heed} {level} {n} {b} {c} {ls} {ls′} s w new = record { size = new .size ∙ s .size; told = λ k h. go k h (new .told k h) }
+  sound-noted {heed} {level} {n} {b} {c} {ls} {ls′} s w new = record { size = new .size ∙ s .size; told = λ k h x m. go k h x (new .told k h x m) }
     where
-      Told : ℕ → Body → Type 0
-      Told k x = Skipped text (blockOf (λ d. stmtAt k v text d) (x .count) (x .start) .1) (x .end)
-
-      go : (k : ℕ) → k < maxNesting → Either (bodyAt ls′ k ≡ bodyAt ls k) ((heed ≡ false) × (b .refused ≡ 0) × (k ≡ level) × (bodyAt ls′ k ≡ bodyOf n b c)) → Told k (bodyAt ls′ k)
-      go k h (left e) = rw e (s .told k h)
-      go k h (right (off, on, e, is)) = rw (is, e) (skipped-block level v n on (rw off at w))
+      go : (k : ℕ) → k < maxNesting → (x : Body) → Either (Noted ls k x) ((heed ≡ false) × (b .refused ≡ 0) × (k ≡ level) × (x ≡ bodyOf n b c)) → Skipped text (blockOf (λ d. stmtAt k v text d) (x .count) (x .start) .1) (x .end)
+      go k h x (left m) = s .told k h x m
+      go k h x (right (off, on, e, is)) = rw (is, e) (skipped-block level v n on (rw off at w))

@@ -1,6 +1,6 @@
 // The program text: checked in its order (1; then line by line 6, 5, 2, 3), and gone over in place.
 ghost use mathlib.Core.Path.{_≡_};
-ghost use Prim.Native.Nat.{_≤_, _<_};
+ghost use Prim.Native.Nat.{_+_, _*_, _≤_, _<_};
 ghost use lib.ListN.{length};
 ghost use Rattle.definition.specs.Limits.{maxNesting};
 ghost use Rattle.definition.specs.Program.{nextLine};
@@ -9,7 +9,7 @@ ghost use Rattle.line_map.specs.View.{posView};
 ghost use Rattle.program_line.specs.View.{stmtLine, exprLine};
 ghost use Rattle.program.specs.Walk.{cursorOf, Near, Skipped, behindLine, Walked, many, overExpr, overStmt, overLabel, overArm, partsOf, operandsOf, blocks, failed, Passed};
 ghost use Rattle.program.specs.Check.{checkedView, checked, Headed};
-ghost use Rattle.program.specs.Ends.{endsSize, placesBelow, Sound, Holds, HeldIf, Worth, bodyPut, Noting};
+ghost use Rattle.program.specs.Ends.{endsSize, bodies, placesBelow, bodyAt, Sound, NoneNew, bodyOf, bodyPut, Holds, HeldIf, Worth, Noting};
 use definition::BAD_TEXT;
 use definition::MAX_NESTING;
 use definition::MAX_PROGRAM;
@@ -24,8 +24,14 @@ use program_line::StmtLine;
 // Numbers of a loop's body that was noted: where it starts (byte, line), how many statements it has, and where it ends.
 pub const END_SIZE: usize = 5;
 
-// A body for each nesting level, and behind them the byte from which the present walk skips.
-pub const ENDS_SIZE: usize = END_SIZE * MAX_NESTING + 1;
+// Bodies that are noted of each nesting level.
+pub const BODIES: usize = 2;
+
+// The bodies by level, and behind them the byte from which the present walk skips.
+pub const ENDS_SIZE: usize = END_SIZE * (BODIES * MAX_NESTING) + 1;
+
+// A level's second body yields to one that is longer than it divided by this: to skip it once more costs little beside what that saves.
+const YIELDS_TO: usize = 4;
 
 // Places and counts below this one are noted: those of 16 bits.
 pub const PLACES_BELOW: usize = 65536;
@@ -315,15 +321,15 @@ fn noteworthy(heed: bool, left: usize, p: Parts, b: Walk, c: Walk) -> bool
     fits(left, p.first, b, c)
 }
 
-// Is the body from start to end noted in place of the one that is? Of a level's bodies in the part that is skipped now the longest stays: to skip it
-// again would cost most.
+// Is the body from start to end noted first in its level? Of a level's bodies in the part that is skipped now the longest is: to skip it again would
+// cost most.
 fn replaces(ends: &[u16], left: usize, start: usize, end: usize) -> bool
     requires { ⌜ length (now ends) ≡ endsSize ⌝ }
     requires { ⌜ left < maxNesting ⌝ }
     requires { ⌜ start < placesBelow ⌝ }
     requires { ⌜ end < placesBelow ⌝ }
 {
-    let at = END_SIZE * left;
+    let at = END_SIZE * (BODIES * left);
     let from = numbers::wide(ends[ENDS_SIZE - 1]);
     let old = numbers::wide(ends[at]);
     let last = numbers::wide(ends[at + 3]);
@@ -336,13 +342,72 @@ fn replaces(ends: &[u16], left: usize, start: usize, end: usize) -> bool
     end + old > last + start
 }
 
-// A body of n statements, from b to c, is written to its level.
-fn put_body(ends: &mut [u16], left: usize, n: usize, b: Walk, c: Walk)
+// Is the body from start to end, which is not noted first, noted second? So a heavy body ahead outlasts the skips of lighter ones before it, which note deeper
+// levels than its own and push out what lies in it there; and what is pushed out here is light, or costs one skip more.
+fn yields(ends: &[u16], left: usize, start: usize, end: usize) -> bool
     requires { ⌜ length (now ends) ≡ endsSize ⌝ }
-    requires { ⌜ Holds left n b c ⌝ }
-    ensures { λ r. ⌜ now (ends .exit) ≡ bodyPut (now (ends .entry)) left n b c ⌝ }
+    requires { ⌜ left < maxNesting ⌝ }
+    requires { ⌜ start < placesBelow ⌝ }
+    requires { ⌜ end < placesBelow ⌝ }
 {
-    let at = END_SIZE * left;
+    let at = END_SIZE * (BODIES * left + 1);
+    let from = numbers::wide(ends[ENDS_SIZE - 1]);
+    let old = numbers::wide(ends[at]);
+    let last = numbers::wide(ends[at + 3]);
+    if old < from {
+        return true;
+    }
+    YIELDS_TO * end + old > last + YIELDS_TO * start
+}
+
+// A level's first body is written over its second.
+fn copy_body(ends: &mut [u16], left: usize)
+    requires { ⌜ length (now ends) ≡ endsSize ⌝ }
+    requires { ⌜ left < maxNesting ⌝ }
+    ensures { λ r. ⌜ now (ends .exit) ≡ bodyPut (now (ends .entry)) (bodies * left + 1) (bodyAt (now (ends .entry)) (bodies * left)) ⌝ }
+{
+    let k = END_SIZE * (BODIES * left);
+    let at = ends[k];
+    let row = ends[k + 1];
+    let n = ends[k + 2];
+    let end = ends[k + 3];
+    let last = ends[k + 4];
+    let to = END_SIZE * (BODIES * left + 1);
+    ends[to] = at;
+    ends[to + 1] = row;
+    ends[to + 2] = n;
+    ends[to + 3] = end;
+    ends[to + 4] = last;
+}
+
+// A level's first body makes room: it is noted second if it is still ahead and the second yields.
+fn set_aside(ends: &mut [u16], left: usize)
+    requires { ⌜ length (now ends) ≡ endsSize ⌝ }
+    requires { ⌜ left < maxNesting ⌝ }
+    ensures { λ r. ⌜ NoneNew (now (ends .entry)) (now (ends .exit)) ⌝ }
+{
+    let at = END_SIZE * (BODIES * left);
+    let from = numbers::wide(ends[ENDS_SIZE - 1]);
+    let start = numbers::wide(ends[at]);
+    let end = numbers::wide(ends[at + 3]);
+    if start < from {
+        return;
+    }
+    let room = yields(ends, left, start, end);
+    if room {
+        copy_body(ends, left);
+        return;
+    }
+}
+
+// A body of n statements, from b to c, is written to place i of its level.
+fn put_body(ends: &mut [u16], left: usize, i: usize, n: usize, b: Walk, c: Walk)
+    requires { ⌜ length (now ends) ≡ endsSize ⌝ }
+    requires { ⌜ i < bodies ⌝ }
+    requires { ⌜ Holds left n b c ⌝ }
+    ensures { λ r. ⌜ now (ends .exit) ≡ bodyPut (now (ends .entry)) (bodies * left + i) (bodyOf n b c) ⌝ }
+{
+    let at = END_SIZE * (BODIES * left + i);
     ends[at] = b.at as u16;
     ends[at + 1] = b.row as u16;
     ends[at + 2] = n as u16;
@@ -359,7 +424,13 @@ fn note(ends: &mut [u16], heed: bool, left: usize, p: Parts, b: Walk, c: Walk)
     if worth {
         let longer = replaces(ends, left, b.at, c.at);
         if longer {
-            put_body(ends, left, p.first, b, c);
+            set_aside(ends, left);
+            put_body(ends, left, 0, p.first, b, c);
+            return;
+        }
+        let room = yields(ends, left, b.at, c.at);
+        if room {
+            put_body(ends, left, 1, p.first, b, c);
             return;
         }
         return;

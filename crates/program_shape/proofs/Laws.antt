@@ -24,7 +24,7 @@ use Rattle.program_line.proofs.Laws.{good-end}
 use Rattle.program.specs.declared.Cursor.{Cursor}
 use Rattle.program.specs.declared.Walk.{Walk}
 use Rattle.program.specs.Walk.{cursorOf, Near, Skipped, Walked, outcome, many, overExpr, overStmt}
-use Rattle.program.specs.Ends.{endSize, bodyAt, Sound}
+use Rattle.program.specs.Ends.{endSize, bodies, endsSize, Body, bodyAt, Noted, Sound, NoneNew}
 use Rattle.program.proofs.Noted.{body-same}
 use Rattle.program.proofs.Laws.{skipped, skipped-block, line-there, expr-bad, expr-is, stmt-bad, stmt-is}
 use Rattle.program_shape.specs.declared.Operand.{Operand}
@@ -34,7 +34,7 @@ use Rattle.program_shape.specs.declared.BodyEnd.the-variants as body-end
 use Rattle.program_shape.specs.declared.ExitIf.{ExitIf}
 use Rattle.program_shape.specs.declared.ExitIf.the-variants as exit-if
 use Rattle.program_shape.specs.declared.Shape.the-variants as loop-shape
-use Rattle.program_shape.specs.Shape.{walkFrom, Knows, SameBodies, operandOf, variableIn, constantIn, Sided, comparisonIn, classified, fused, exitIf, sizesFit, ifFits, exitLine, exitBy, exitCondition, exitPlaces, Exiting, whileBy, repeatBy, shapeBy, blockAt, Shaped}
+use Rattle.program_shape.specs.Shape.{walkFrom, KnowsAt, Knows, operandOf, variableIn, constantIn, Sided, comparisonIn, classified, fused, exitIf, sizesFit, ifFits, exitLine, exitBy, exitCondition, exitPlaces, Exiting, whileBy, repeatBy, shapeBy, blockAt, Shaped}
 
 -- ---- skipping: a walk that heeds no fault
 
@@ -49,24 +49,27 @@ module _ (left v : ℕ) {text : List ℕ} (c : Cursor) {r : Walk} where
 
 -- ---- ends of bodies that were noted
 
-module _ (ends : List ℕ) (left n : ℕ) (c : def.Cursor) where
-  pub known : {at row end last : ℕ} → left < maxNesting → at ≡ getD ends (endSize * left) 0 → row ≡ getD ends (endSize * left + 1) 0 → at ≡ c .at → row ≡ c .row → getD ends (endSize * left + 2) 0 ≡ n
-      → end ≡ getD ends (endSize * left + 3) 0 → last ≡ getD ends (endSize * left + 4) 0 → Knows ends left n c (body-end.Known (record { at = end; row = last }))
+module _ (ends : List ℕ) (k n : ℕ) (c : def.Cursor) where
+  pub known-at : {at row end last : ℕ} → at ≡ getD ends (endSize * k) 0 → row ≡ getD ends (endSize * k + 1) 0 → at ≡ c .at → row ≡ c .row → getD ends (endSize * k + 2) 0 ≡ n
+      → end ≡ getD ends (endSize * k + 3) 0 → last ≡ getD ends (endSize * k + 4) 0 → KnowsAt ends k n c (body-end.Known (record { at = end; row = last }))
   unfolding bodyAt
-  known low a r is-at is-row is-n e l = (low, rw (← a, ← r, is-at, is-row, is-n, ← e, ← l))
+  known-at a r is-at is-row is-n e l = rw (← a, ← r, is-at, is-row, is-n, ← e, ← l)
+
+module _ (ends : List ℕ) (left n : ℕ) (c : def.Cursor) where
+  -- by what the i-th of the level has
+  pub known : (i : ℕ) → i < bodies → (r : BodyEnd) {k : ℕ} → left < maxNesting → k ≡ bodies * left + i → KnowsAt ends k n c r → Knows ends left n c r
+  known i below (body-end.Known e) low here q = (low, record { place = i; below = below; is = sym q ∙ ap (λ (s : ℕ). bodyAt ends s) here })
+  known i below body-end.Unknown low here q = tt
 
   pub known-end : {text : List ℕ} {v : ℕ} {r : BodyEnd} {e : Cursor} → Sound text v ends → Knows ends left n c r → r ≡ body-end.Known e → Skipped text (blockOf (λ d. stmtAt left v text d) n c .1) e
-  known-end s k e = let q = rw e at k in rw (q .1) at (s .told left (q .0))
-
-pub bodies-stay : (ends : List ℕ) → SameBodies ends ends
-bodies-stay ends = record { size = refl; told = λ k h. refl }
+  known-end s q e = let (low, m) = rw e at q in s .told left low _ m
 
 -- the number behind the bodies is none of theirs
-pub starts : (ends : List ℕ) (at : ℕ) → SameBodies ends (set ends (endSize * maxNesting) at)
-starts ends at = record { size = length-set ends (endSize * maxNesting) at; told = λ k h. body-same ends (set ends (endSize * maxNesting) at) k (λ j x y. getD-set-other ends (endSize * maxNesting) j at 0 (λ q. omega arith)) }
+pub starts : (ends : List ℕ) (at : ℕ) → NoneNew ends (set ends (endSize * (bodies * maxNesting)) at)
+starts ends at = record { size = length-set ends (endSize * (bodies * maxNesting)) at; told = λ k h x m. record { place = m .place; below = m .below; is = m .is ∙ body-same ends (set ends (endSize * (bodies * maxNesting)) at) (bodies * k + m .place) (λ j u v. getD-set-other ends (endSize * (bodies * maxNesting)) j at 0 (λ q. omega (arith, m .below))) } }
 
-pub stays-sound : {text : List ℕ} {v : ℕ} {ends ends′ : List ℕ} → Sound text v ends → SameBodies ends ends′ → Sound text v ends′
-stays-sound s d = record { size = d .size ∙ s .size; told = λ k h. rw (d .told k h) (s .told k h) }
+pub stays-sound : {text : List ℕ} {v : ℕ} {ends ends′ : List ℕ} → Sound text v ends → NoneNew ends ends′ → Sound text v ends′
+stays-sound s d = record { size = d .size ∙ s .size; told = λ k h x m. s .told k h x (d .told k h x m) }
 
 -- ---- conditions
 

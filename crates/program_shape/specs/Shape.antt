@@ -18,7 +18,7 @@ use Rattle.opcode.specs.View.{compareView}
 use Rattle.program.specs.declared.Cursor.{Cursor}
 use Rattle.program.specs.declared.Walk.{Walk}
 use Rattle.program.specs.Walk.{cursorOf, placeOf, Skipped}
-use Rattle.program.specs.Ends.{Body, bodyAt}
+use Rattle.program.specs.Ends.{Body, bodyAt, Noted}
 use Rattle.program_shape.specs.declared.Operand.{Operand}
 use Rattle.program_shape.specs.declared.Operand.the-variants as operand
 use Rattle.program_shape.specs.declared.Compared.{Compared}
@@ -39,15 +39,15 @@ walkFrom c = record { at = c .at; row = c .row; refused = 0 }
 
 -- ---- ends of bodies that were noted
 
--- an end is known only if the body of n statements from c on is noted for this level, with that end
-abbrev pub Knows : List ℕ → ℕ → ℕ → def.Cursor → BodyEnd → Type 0
-Knows ends left n c (body-end.Known e) = (left < maxNesting) × (bodyAt ends left ≡ record { start = c; count = n; end = e })
-Knows ends left n c body-end.Unknown = Unit {0}
+-- an end is known only if the body of n statements from c on is noted with that end: the k-th of the list
+abbrev pub KnowsAt : List ℕ → ℕ → ℕ → def.Cursor → BodyEnd → Type 0
+KnowsAt ends k n c (body-end.Known e) = bodyAt ends k ≡ record { start = c; count = n; end = e }
+KnowsAt ends k n c body-end.Unknown = Unit {0}
 
--- every level has what it had
-pub record SameBodies (ends ends′ : List ℕ) : Type 0 where
-  pub size : length ends′ ≡ length ends
-  pub told : (k : ℕ) → k < maxNesting → bodyAt ends′ k ≡ bodyAt ends k
+-- one of this level
+abbrev pub Knows : List ℕ → ℕ → ℕ → def.Cursor → BodyEnd → Type 0
+Knows ends left n c (body-end.Known e) = (left < maxNesting) × Noted ends left (record { start = c; count = n; end = e })
+Knows ends left n c body-end.Unknown = Unit {0}
 
 -- ---- conditions
 

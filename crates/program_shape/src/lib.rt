@@ -1,16 +1,19 @@
 // What emission must know of a part of the text before it comes to it: where the part ends, whether a condition is fused, and whether a loop is a
 // WHILE or a REPEAT. Each answer is that of the total reading, whatever the text.
 ghost use mathlib.Core.Path.{_≡_};
+ghost use Prim.Native.Nat.{_*_, _<_};
+ghost use Rattle.definition.specs.Limits.{maxNesting};
 ghost use Rattle.definition.specs.Program.{exprAt, stmtAt, blockOf};
 ghost use Rattle.definition.specs.CompileExpr.{classify};
 ghost use Rattle.opcode.specs.View.{compareView};
 ghost use Rattle.program_line.specs.View.{stmtLine, exprLine};
 ghost use lib.ListN.{length};
 ghost use Rattle.program.specs.Walk.{cursorOf, Near, Skipped};
-ghost use Rattle.program.specs.Ends.{endsSize, Sound};
-ghost use Rattle.program_shape.specs.Shape.{walkFrom, operandOf, variableIn, constantIn, Sided, comparisonIn, compared, classified, fused, sizesFit, ifFits, exitLine, Exiting, whileBy, repeatBy, Shaped, Knows, SameBodies};
+ghost use Rattle.program.specs.Ends.{endsSize, bodies, Sound, NoneNew};
+ghost use Rattle.program_shape.specs.Shape.{walkFrom, operandOf, variableIn, constantIn, Sided, comparisonIn, compared, classified, fused, sizesFit, ifFits, exitLine, Exiting, whileBy, repeatBy, Shaped, KnowsAt, Knows};
 use definition::MAX_NESTING;
 use opcode::CompareOp;
+use program::BODIES;
 use program::Cursor;
 use program::END_SIZE;
 use program::ENDS_SIZE;
@@ -116,15 +119,13 @@ pub fn skip_block(text: &[u8], variables: u16, left: usize, n: usize, c: Cursor)
     skip_noting(text, &mut ends, variables, left, n, c)
 }
 
-// The end that is noted of the body of n statements at a place.
-fn known_end(ends: &[u16], left: usize, n: u16, c: Cursor) -> BodyEnd
+// The end of the k-th body that is noted, if that is the one of n statements at a place.
+fn known_at(ends: &[u16], k: usize, n: u16, c: Cursor) -> BodyEnd
     requires { ⌜ length (now ends) ≡ endsSize ⌝ }
-    ensures { λ r. ⌜ Knows (now (ends .entry)) left n (cursorOf c) r ⌝ }
+    requires { ⌜ k < bodies * maxNesting ⌝ }
+    ensures { λ r. ⌜ KnowsAt (now (ends .entry)) k n (cursorOf c) r ⌝ }
 {
-    if left >= MAX_NESTING {
-        return BodyEnd::Unknown;
-    }
-    let s = END_SIZE * left;
+    let s = END_SIZE * k;
     let at = numbers::wide(ends[s]);
     let row = numbers::wide(ends[s + 1]);
     if at != c.at {
@@ -141,10 +142,25 @@ fn known_end(ends: &[u16], left: usize, n: u16, c: Cursor) -> BodyEnd
     BodyEnd::Known(Cursor { at: end, row: last })
 }
 
+// The end that is noted of the body of n statements at a place.
+fn known_end(ends: &[u16], left: usize, n: u16, c: Cursor) -> BodyEnd
+    requires { ⌜ length (now ends) ≡ endsSize ⌝ }
+    ensures { λ r. ⌜ Knows (now (ends .entry)) left n (cursorOf c) r ⌝ }
+{
+    if left >= MAX_NESTING {
+        return BodyEnd::Unknown;
+    }
+    let first = known_at(ends, BODIES * left, n, c);
+    match first {
+        BodyEnd::Known(end) => BodyEnd::Known(end),
+        BodyEnd::Unknown => known_at(ends, BODIES * left + 1, n, c),
+    }
+}
+
 // A body is skipped from here on: what was noted before it is of no more use.
 fn start_skip(ends: &mut [u16], at: usize)
     requires { ⌜ length (now ends) ≡ endsSize ⌝ }
-    ensures { λ r. ⌜ SameBodies (now (ends .entry)) (now (ends .exit)) ⌝ }
+    ensures { λ r. ⌜ NoneNew (now (ends .entry)) (now (ends .exit)) ⌝ }
 {
     if at >= PLACES_BELOW {
         return;

@@ -11,6 +11,8 @@ put-body-spec =
     tie.close
     (tie.spec
     (λ c. search needs)  -- mul-at
+    (λ c. search needs)  -- add-at
+    (λ c. search needs)  -- mul-at-2
     (λ c. search needs)  -- cast-ends
     (λ c. search needs)  -- mul-ends
     (λ c. search needs)  -- slice-write-ends

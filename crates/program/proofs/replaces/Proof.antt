@@ -10,6 +10,7 @@ replaces-spec =
     tie.close
     (tie.spec
     (λ c. search needs)  -- mul-at
+    (λ c. search needs)  -- mul-at-2
     (λ c. search needs)  -- sub-wide
     (λ c. search needs)  -- mul-wide
     (λ c. search needs)  -- shared-slice-read-wide
@@ -24,5 +25,5 @@ replaces-spec =
     (λ c. search needs)  -- returns
     (λ c. search needs)  -- returns-2
     (λ c. search needs)  -- add-result
-    (λ c. omega (arith, c .before .before .wide3 .ensures, c .before .before .before .shared-slice-known4 .given (5 * (c .before .before .before .before .before .before .before .before .before .args) .left + 3) .fits, c .before .before .before .before .before .before .before .before .before .pre .1 .1 .0))  -- add-result-2
+    (λ c. omega (arith, c .before .before .wide3 .ensures, c .before .before .before .shared-slice-known4 .given (5 * (2 * (c .before .before .before .before .before .before .before .before .before .args) .left) + 3) .fits, c .before .before .before .before .before .before .before .before .before .pre .1 .1 .0))  -- add-result-2
     (λ c. search needs))  -- returns-3
