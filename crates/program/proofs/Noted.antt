@@ -18,58 +18,56 @@ use Rattle.program.proofs.Laws.{skipped-block}
 
 -- ---- what is written
 
-abbrev put5 : List ℕ → ℕ → ℕ → ℕ → ℕ → ℕ → ℕ → List ℕ
-put5 ls at a b c d e = set (set (set (set (set ls at a) (at + 1) b) (at + 2) c) (at + 3) d) (at + 4) e
+module _ (ls : List ℕ) (k : ℕ) (x : Body) (fits : endSize * k + 5 ≤ length ls) where
+  abbrev at : ℕ
+  at = endSize * k
 
-module _ (ls : List ℕ) (at a b c d e : ℕ) (fits : at + 5 ≤ length ls) where
   abbrev s1 : List ℕ
-  s1 = set ls at a
+  s1 = set ls at (x .start .at)
 
   abbrev s2 : List ℕ
-  s2 = set s1 (at + 1) b
+  s2 = set s1 (at + 1) (x .start .row)
 
   abbrev s3 : List ℕ
-  s3 = set s2 (at + 2) c
+  s3 = set s2 (at + 2) (x .count)
 
   abbrev s4 : List ℕ
-  s4 = set s3 (at + 3) d
+  s4 = set s3 (at + 3) (x .end .at)
 
-  put5-0 : getD (put5 ls at a b c d e) at 0 ≡ a
-  put5-0 = getD-set-other s4 (at + 4) at e 0 (λ q. omega arith) ∙ getD-set-other s3 (at + 3) at d 0 (λ q. omega arith) ∙ getD-set-other s2 (at + 2) at c 0 (λ q. omega arith) ∙ getD-set-other s1 (at + 1) at b 0 (λ q. omega arith) ∙ getD-set-same ls at a 0 (omega arith)
+  put-0 : getD (bodyPut ls k x) at 0 ≡ x .start .at
+  put-0 = getD-set-other s4 (at + 4) at (x .end .row) 0 (λ q. omega arith) ∙ getD-set-other s3 (at + 3) at (x .end .at) 0 (λ q. omega arith) ∙ getD-set-other s2 (at + 2) at (x .count) 0 (λ q. omega arith) ∙ getD-set-other s1 (at + 1) at (x .start .row) 0 (λ q. omega arith) ∙ getD-set-same ls at (x .start .at) 0 (omega arith)
 
-  put5-1 : getD (put5 ls at a b c d e) (at + 1) 0 ≡ b
-  put5-1 =
+  put-1 : getD (bodyPut ls k x) (at + 1) 0 ≡ x .start .row
+  put-1 =
       let long : at + 1 < length s1 = simp length-set (omega arith) in
-      getD-set-other s4 (at + 4) (at + 1) e 0 (λ q. omega arith) ∙ getD-set-other s3 (at + 3) (at + 1) d 0 (λ q. omega arith) ∙ getD-set-other s2 (at + 2) (at + 1) c 0 (λ q. omega arith) ∙ getD-set-same s1 (at + 1) b 0 long
+      getD-set-other s4 (at + 4) (at + 1) (x .end .row) 0 (λ q. omega arith) ∙ getD-set-other s3 (at + 3) (at + 1) (x .end .at) 0 (λ q. omega arith) ∙ getD-set-other s2 (at + 2) (at + 1) (x .count) 0 (λ q. omega arith) ∙ getD-set-same s1 (at + 1) (x .start .row) 0 long
 
-  put5-2 : getD (put5 ls at a b c d e) (at + 2) 0 ≡ c
-  put5-2 =
+  put-2 : getD (bodyPut ls k x) (at + 2) 0 ≡ x .count
+  put-2 =
       let long : at + 2 < length s2 = simp length-set (omega arith) in
-      getD-set-other s4 (at + 4) (at + 2) e 0 (λ q. omega arith) ∙ getD-set-other s3 (at + 3) (at + 2) d 0 (λ q. omega arith) ∙ getD-set-same s2 (at + 2) c 0 long
+      getD-set-other s4 (at + 4) (at + 2) (x .end .row) 0 (λ q. omega arith) ∙ getD-set-other s3 (at + 3) (at + 2) (x .end .at) 0 (λ q. omega arith) ∙ getD-set-same s2 (at + 2) (x .count) 0 long
 
-  put5-3 : getD (put5 ls at a b c d e) (at + 3) 0 ≡ d
-  put5-3 =
+  put-3 : getD (bodyPut ls k x) (at + 3) 0 ≡ x .end .at
+  put-3 =
       let long : at + 3 < length s3 = simp length-set (omega arith) in
-      getD-set-other s4 (at + 4) (at + 3) e 0 (λ q. omega arith) ∙ getD-set-same s3 (at + 3) d 0 long
+      getD-set-other s4 (at + 4) (at + 3) (x .end .row) 0 (λ q. omega arith) ∙ getD-set-same s3 (at + 3) (x .end .at) 0 long
 
-  put5-4 : getD (put5 ls at a b c d e) (at + 4) 0 ≡ e
-  put5-4 =
+  put-4 : getD (bodyPut ls k x) (at + 4) 0 ≡ x .end .row
+  put-4 =
       let long : at + 4 < length s4 = simp length-set (omega arith) in
-      getD-set-same s4 (at + 4) e 0 long
+      getD-set-same s4 (at + 4) (x .end .row) 0 long
 
-  put5-other : (j : ℕ) → (at ≤ j → j < at + 5 → ⊥) → getD (put5 ls at a b c d e) j 0 ≡ getD ls j 0
-  put5-other j h = getD-set-other s4 (at + 4) j e 0 (λ q. h (omega arith) (omega arith)) ∙ getD-set-other s3 (at + 3) j d 0 (λ q. h (omega arith) (omega arith)) ∙ getD-set-other s2 (at + 2) j c 0 (λ q. h (omega arith) (omega arith)) ∙ getD-set-other s1 (at + 1) j b 0 (λ q. h (omega arith) (omega arith)) ∙ getD-set-other ls at j a 0 (λ q. h (omega arith) (omega arith))
+  put-other : (j : ℕ) → (at ≤ j → j < at + 5 → ⊥) → getD (bodyPut ls k x) j 0 ≡ getD ls j 0
+  put-other j h = getD-set-other s4 (at + 4) j (x .end .row) 0 (λ q. h (omega arith) (omega arith)) ∙ getD-set-other s3 (at + 3) j (x .end .at) 0 (λ q. h (omega arith) (omega arith)) ∙ getD-set-other s2 (at + 2) j (x .count) 0 (λ q. h (omega arith) (omega arith)) ∙ getD-set-other s1 (at + 1) j (x .start .row) 0 (λ q. h (omega arith) (omega arith)) ∙ getD-set-other ls at j (x .start .at) 0 (λ q. h (omega arith) (omega arith))
+
+  body-put : bodyAt (bodyPut ls k x) k ≡ x
+  unfolding bodyAt
+  body-put = rw (put-0, put-1, put-2, put-3, put-4)
 
 -- a body whose numbers are the same
 pub body-same : (ls ls′ : List ℕ) (k : ℕ) → ((j : ℕ) → endSize * k ≤ j → j < endSize * k + 5 → getD ls′ j 0 ≡ getD ls j 0) → bodyAt ls′ k ≡ bodyAt ls k
 unfolding bodyAt
 body-same ls ls′ k h = rw (h (endSize * k) (omega arith) (omega arith), h (endSize * k + 1) (omega arith) (omega arith), h (endSize * k + 2) (omega arith) (omega arith), h (endSize * k + 3) (omega arith) (omega arith), h (endSize * k + 4) (omega arith) (omega arith))
-
-body-put : (ls : List ℕ) (k : ℕ) (x : Body) → endSize * k + 5 ≤ length ls → bodyAt (bodyPut ls k x) k ≡ x
-unfolding bodyAt
-body-put ls k x fits =
-    let at = endSize * k in
-    rw (put5-0 ls at (x .start .at) (x .start .row) (x .count) (x .end .at) (x .end .row) fits, put5-1 ls at (x .start .at) (x .start .row) (x .count) (x .end .at) (x .end .row) fits, put5-2 ls at (x .start .at) (x .start .row) (x .count) (x .end .at) (x .end .row) fits, put5-3 ls at (x .start .at) (x .start .row) (x .count) (x .end .at) (x .end .row) fits, put5-4 ls at (x .start .at) (x .start .row) (x .count) (x .end .at) (x .end .row) fits)
 
 -- a body that is written to a place of its level
 module _ (ls : List ℕ) (size : length ls ≡ endsSize) (level i : ℕ) (low : level < maxNesting) (below : i < bodies) (y : Body) where
@@ -82,15 +80,12 @@ module _ (ls : List ℕ) (size : length ls ≡ endsSize) (level i : ℕ) (low : 
   put-told : (k : ℕ) (x : Body) → Noted new k x → Either (Noted ls k x) ((k ≡ level) × (x ≡ y))
   put-told k x m = go (ℕ-discrete (bodies * k + m .place) (bodies * level + i))
     where
-      at : ℕ
-      at = endSize * (bodies * level + i)
-
-      fits : at + 5 ≤ length ls
+      fits : endSize * (bodies * level + i) + 5 ≤ length ls
       fits = omega arith
 
       go : Dec (bodies * k + m .place ≡ bodies * level + i) → Either (Noted ls k x) ((k ≡ level) × (x ≡ y))
       go (yes e) = right (omega (arith, m .below), m .is ∙ rw e (body-put ls (bodies * level + i) y fits))
-      go (no d) = left (record { place = m .place; below = m .below; is = m .is ∙ body-same ls new (bodies * k + m .place) (λ j u v. put5-other ls at (y .start .at) (y .start .row) (y .count) (y .end .at) (y .end .row) fits j (λ a b. d (omega arith))) })
+      go (no d) = left (record { place = m .place; below = m .below; is = m .is ∙ body-same ls new (bodies * k + m .place) (λ j u v. put-other ls (bodies * level + i) y fits j (λ a b. d (omega arith))) })
 
 pub none-new : (ls : List ℕ) → NoneNew ls ls
 none-new ls = record { size = refl; told = λ k h x m. m }

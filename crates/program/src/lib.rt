@@ -30,7 +30,7 @@ pub const BODIES: usize = 2;
 // The bodies by level, and behind them the byte from which the present walk skips.
 pub const ENDS_SIZE: usize = END_SIZE * (BODIES * MAX_NESTING) + 1;
 
-// A level's second body yields to one that is longer than it divided by this: to skip it once more costs little beside what that saves.
+// A level's second body yields to one that is longer than it divided by this.
 const YIELDS_TO: usize = 4;
 
 // Places and counts below this one are noted: those of 16 bits.
@@ -342,8 +342,8 @@ fn replaces(ends: &[u16], left: usize, start: usize, end: usize) -> bool
     end + old > last + start
 }
 
-// Is the body from start to end, which is not noted first, noted second? So a heavy body ahead outlasts the skips of lighter ones before it, which note deeper
-// levels than its own and push out what lies in it there; and what is pushed out here is light, or costs one skip more.
+// Is the body from start to end, which is not noted first, noted second? A heavy body ahead is found: skips of lighter ones before it note deeper levels only,
+// and what they push out of it there stays here, unless it yields to a body whose length makes up for one skip more.
 fn yields(ends: &[u16], left: usize, start: usize, end: usize) -> bool
     requires { ⌜ length (now ends) ≡ endsSize ⌝ }
     requires { ⌜ left < maxNesting ⌝ }

@@ -24,7 +24,7 @@ use Rattle.program_line.proofs.Laws.{good-end}
 use Rattle.program.specs.declared.Cursor.{Cursor}
 use Rattle.program.specs.declared.Walk.{Walk}
 use Rattle.program.specs.Walk.{cursorOf, Near, Skipped, Walked, outcome, many, overExpr, overStmt}
-use Rattle.program.specs.Ends.{endSize, bodies, endsSize, Body, bodyAt, Noted, Sound, NoneNew}
+use Rattle.program.specs.Ends.{endSize, bodies, bodyAt, Noted, Sound, NoneNew}
 use Rattle.program.proofs.Noted.{body-same}
 use Rattle.program.proofs.Laws.{skipped, skipped-block, line-there, expr-bad, expr-is, stmt-bad, stmt-is}
 use Rattle.program_shape.specs.declared.Operand.{Operand}
