@@ -90,7 +90,7 @@ pub fn skip_expr(text: &[u8], variables: u16, left: usize, c: Cursor) -> Cursor
 }
 
 // Where a block of n statements ends; the bodies in it are noted.
-fn skip_noting(
+pub fn skip_block(
     text: &[u8],
     ends: &mut [u16],
     variables: u16,
@@ -108,15 +108,6 @@ fn skip_noting(
         at: w.at,
         row: w.row,
     }
-}
-
-// Where a block of n statements ends.
-pub fn skip_block(text: &[u8], variables: u16, left: usize, n: usize, c: Cursor) -> Cursor
-    requires { ⌜ Near (now text) (c .at) (c .row) ⌝ }
-    ensures { λ r. ⌜ Skipped (now (text .entry)) (blockOf (λ d. stmtAt left variables (now (text .entry)) d) n (cursorOf c) .1) r ⌝ }
-{
-    let mut ends = [0u16; ENDS_SIZE];
-    skip_noting(text, &mut ends, variables, left, n, c)
 }
 
 // The end of the k-th body that is noted, if that is the one of n statements at a place.
@@ -180,7 +171,7 @@ fn body_end(text: &[u8], ends: &mut [u16], variables: u16, left: usize, n: u16, 
         BodyEnd::Known(end) => end,
         BodyEnd::Unknown => {
             start_skip(ends, c.at);
-            skip_noting(text, ends, variables, left, n as usize, c)
+            skip_block(text, ends, variables, left, n as usize, c)
         }
     }
 }

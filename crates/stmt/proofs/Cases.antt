@@ -5,6 +5,7 @@ use mathlib.Core.List.{List, [], _∷_}
 use Prim.Native.Nat.{ℕ, zero, suc, _+_, _-_, _≤_, _<_}
 use native.Mathlib.Numerals.{sub-one}
 use native.Mathlib.Omega.{arith}
+use Rattle.definition.specs.Limits.{maxNesting}
 use Rattle.definition.specs.Opcode.{Sheet, CompareOp, Eq, Ge, Le, dup, pop}
 use Rattle.definition.specs.Opcode as role
 use Rattle.definition.specs.Tree.{CaseLabel, value, range, badLabel, Block, Arms, noArms, arm, badArm, Pos}
@@ -30,7 +31,7 @@ use Rattle.stmt_parts.specs.Context.{exprIn, blockIn, innerOf}
 use Rattle.stmt_parts.specs.Loops.{opensIn, loopsOf, marked}
 use Rattle.stmt_parts.specs.Parts.{Leads, armParts, labelHere, testJump, testAll, armTests, armEnd}
 use Rattle.stmt.specs.Blocks.{armContinues, armsHere, emitCase}
-use Rattle.stmt.specs.Lent.{Lent}
+use Rattle.stmt.specs.Lent.{Lent, Looked}
 use Rattle.stmt.specs.Ran.{Ran, RanStmt, RanBlock, RanArm, RanArms, RanCase}
 use Rattle.stmt_parts.proofs.Marks.{marked-same, marked-off, marked-then, loops-marked}
 use Rattle.stmt_parts.proofs.Walks.{bare-on, booked-on, created-on, coded-on}
@@ -50,9 +51,9 @@ module _ (ctx : Context) (text : List ℕ) (c : def.Cursor) (end : ℕ) where
   arm-continues (suc n) i b z = refl
 
 module _ (s : Sheet) (ctx : Context) (text : List ℕ) (n m end : ℕ) (c : Cursor) where
-  pub arm-none : {w : World} {ls : List ℕ} {there : Cursor} → Lent text (ctx .variables) ls → n ≡ 0 → Ready w → Skipped text (blockIn ctx text m (cursorOf c) .1) there → RanArm s ctx text n m end (cursorOf c) w w ls ls there
+  pub arm-none : {w : World} {ls ls′ : List ℕ} {there : Cursor} → ctx .inside ≤ maxNesting → n ≡ 0 → Ready w → Skipped text (blockIn ctx text m (cursorOf c) .1) there → Looked text (ctx .variables) ls ls′ → RanArm s ctx text n m end (cursorOf c) w w ls ls′ there
   unfolding labelsAt emitArm armContinues
-  arm-none {w} slots e ready on = rw e (record { place = on; filled = none-filled s w ready; slots = slots; marks = sym (marked-off (λ i. false) _ (λ i. refl)) })
+  arm-none {w} low e ready on looked = rw e (record { place = on; filled = none-filled s w ready; slots = looked .lent; marks = looked .opens (ctx .inside) low ∙ sym (marked-off (λ i. false) _ (λ i. refl)) })
 
   pub arm-some : {e e₁ e₃ r : Emitter} {code book pool b₁ k₃ b₃ k₅ b₅ ls ls′ : List ℕ} {w₂ w₄ : World} {c₂ c₄ : Cursor} {next : ℕ} → Ready (world e code book pool) → (n ≡ 0 → ⊥) → Created e book e₁ b₁ next
       → Leads s (armTests (labelsAt (ctx .left) text n (cursorOf c) .0) next) text (labelsAt (ctx .left) text n (cursorOf c) .1) (world e₁ code b₁ pool) w₂ c₂

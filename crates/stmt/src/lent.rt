@@ -3,7 +3,7 @@ ghost use mathlib.Core.Path.{_≡_};
 ghost use Prim.Native.Nat.{_≤_, _<_};
 ghost use lib.ListN.{length};
 ghost use Rattle.definition.specs.Limits.{maxCode, maxNesting};
-ghost use Rattle.definition.specs.Program.{nextLine};
+ghost use Rattle.definition.specs.Program.{nextLine, stmtAt, blockOf};
 ghost use Rattle.definition.specs.Stmt.{labels, exitOf};
 ghost use Rattle.opcode.specs.Table.{sheetIn};
 ghost use Rattle.program.specs.Walk.{cursorOf, Near, Skipped};
@@ -112,4 +112,17 @@ pub fn loop_shape(
     let left = ctx.left;
     let ends = &mut loops[LOOPS_SIZE..];
     program_shape::loop_shape(text, ends, variables, left, c, i, n, m)
+}
+
+// Where a block of n statements ends. The list is lent for it, since one of its own would stand in the frame of each CASE.
+pub fn skip_block(text: &[u8], loops: &mut [u16], ctx: Context, n: usize, c: Cursor) -> Cursor
+    requires { ⌜ Near (now text) (c .at) (c .row) ⌝ }
+    requires { ⌜ Lent (now text) (ctx .variables) (now loops) ⌝ }
+    ensures { λ r. ⌜ Skipped (now (text .entry)) (blockOf (λ d. stmtAt (ctx .left) (ctx .variables) (now (text .entry)) d) n (cursorOf c) .1) r ⌝ }
+    ensures { λ r. ⌜ Looked (now (text .entry)) (ctx .variables) (now (loops .entry)) (now (loops .exit)) ⌝ }
+{
+    let variables = ctx.variables;
+    let left = ctx.left;
+    let ends = &mut loops[LOOPS_SIZE..];
+    program_shape::skip_block(text, ends, variables, left, n, c)
 }

@@ -394,7 +394,7 @@ fn arm(
     let n = parts.labels;
     let m = parts.statements;
     if n == 0 {
-        let cursor = program_shape::skip_block(text, ctx.variables, left, m, c);
+        let cursor = lent::skip_block(text, loops, ctx, m, c);
         return Walked { cursor, emitter: e };
     }
     let made = e.create_label(book);

@@ -13,8 +13,8 @@ body-end-spec =
     (λ c. search needs)  -- enum-known-known
     (λ c. search needs)  -- enum-told
     (λ c κs. c .before .before .before .before .before .before .before .pre .1 .size)  -- start-skip-requires
-    (λ c κs. (c .before .before .before .before .before .before .before .before .before .before .before .pre .0, stays-sound (c .before .before .before .before .before .before .before .before .before .before .before .pre .1) (c .before .before .before .start-skip .ensures)))  -- skip-noting-requires
+    (λ c κs. (c .before .before .before .before .before .before .before .before .before .before .before .pre .0, stays-sound (c .before .before .before .before .before .before .before .before .before .before .before .pre .1) (c .before .before .before .start-skip .ensures)))  -- skip-block-requires
     (λ c. search needs)  -- same-length
     (λ c. (known-end _ _ _ _ (c .before .before .before .before .before .before .before .pre .1) (c .before .before .before .known-end .ensures) (c .before .known .given .1), c .before .before .before .before .before .before .before .pre .1))  -- returns
-    (λ c. c .before .before .skip-noting .ensures .1 .size ∙ sym (c .before .before .before .before .before .before .before .before .before .before .before .before .before .before .pre .1 .size))  -- same-length-2
-    (λ c. c .before .before .skip-noting .ensures))  -- returns-2
+    (λ c. c .before .before .skip-block .ensures .1 .size ∙ sym (c .before .before .before .before .before .before .before .before .before .before .before .before .before .before .pre .1 .size))  -- same-length-2
+    (λ c. c .before .before .skip-block .ensures))  -- returns-2
