@@ -69,7 +69,6 @@ use Rattle.program.proofs.next_line.Reads as next-line-reads
 use Rattle.program_line.proofs.next_arm.Reads as next-arm-reads
 use Rattle.program_line.proofs.next_stmt.Reads as next-stmt-reads
 use Rattle.program_shape.proofs.operand_at.Reads as operand-at-reads
-use Rattle.program_shape.proofs.skip_block.Reads as skip-block-reads
 use Rattle.program_shape.proofs.skip_expr.Reads as skip-expr-reads
 use Rattle.stmt.proofs.assign.Reads as assign-reads
 use Rattle.stmt.proofs.lent.continue_.Reads as continue--reads
@@ -77,6 +76,7 @@ use Rattle.stmt.proofs.lent.exit.Reads as exit-reads
 use Rattle.stmt.proofs.lent.loop_shape.Reads as loop-shape-reads
 use Rattle.stmt.proofs.lent.next_used.Reads as next-used-reads
 use Rattle.stmt.proofs.lent.open_loop.Reads as open-loop-reads
+use Rattle.stmt.proofs.lent.skip_block.Reads as skip-block-reads
 use Rattle.stmt.proofs.record_position.Reads as record-position-reads
 use Rattle.stmt.proofs.return_.Reads as return--reads
 use Rattle.stmt_parts.proofs.Context.in_loop.Reads as in-loop-reads
@@ -258,17 +258,18 @@ pub +arm+arms+case+else-+for-+if-+loop-+loop-body+plain+repeat+sequence+stmt+whi
     )
     (arm-at t)
     arm.Post
-    (λ c κs. c .before .before .before .before .before .before .before .pre .1 .1 .0)  -- arm-skip-block-requires
-    (λ c. arm-none _ _ _ _ _ _ _ (c .before .before .before .before .before .before .before .before .pre .1 .0) (c .before .if1 .taken) (c .before .before .before .before .before .before .before .before .pre .1 .1 .1 .0) (c .skip-block .ensures))  -- arm-returns
+    (λ c κs. (c .before .before .before .before .before .before .before .before .pre .1 .1 .0, c .before .before .before .before .before .before .before .before .pre .1 .0))  -- arm-skip-block-requires
+    (λ c. c .before .before .skip-block .ensures .1 .lent .size ∙ sym (c .before .before .before .before .before .before .before .before .before .before .before .pre .1 .0 .size))  -- arm-same-length
+    (λ c. arm-none _ _ _ _ _ _ _ (omega (arith, c .before .before .before .before .before .before .before .before .before .before .before .pre .1 .1 .1 .1)) (c .before .before .before .before .if1 .taken) (c .before .before .before .before .before .before .before .before .before .before .before .pre .1 .1 .1 .0) (c .before .before .skip-block .ensures .0) (c .before .before .skip-block .ensures .1))  -- arm-returns
     (λ c κs. (c .before .before .before .before .before .before .before .before .pre .1 .1 .1 .0 .fine, c .before .before .before .before .before .before .before .before .pre .1 .1 .1 .0 .slots))  -- arm-create-label-requires
     (λ c κs. (c .before .before .before .before .before .before .before .before .before .before .before .before .before .before .before .before .pre .1 .1 .0, (record { fine = c .before .before .before .before .before .before .before .create-label .ensures .fine; room = c .before .before .before .before .before .before .before .before .before .before .before .before .before .before .before .before .pre .1 .1 .1 .0 .room; slots = c .before .before .before .before .before .before .before .create-label .ensures .slots; held = c .before .before .before .before .before .before .before .before .before .before .before .before .before .before .before .before .pre .1 .1 .1 .0 .held }, omega (arith, c .before .before .before .before .before .before .before .before .before .if1 .left))))  -- arm-open-arm-requires
     (λ c κs. (c .before .before .before .before .before .before .before .before .before .before .open-arm .ensures .ready .fine, (c .before .before .before .before .before .before .before .before .before .before .open-arm .ensures .ready .room, c .before .before .before .before .before .before .before .before .before .before .open-arm .ensures .ready .slots)))  -- arm-emit-opcode-requires
     (λ c κs. (omega (arith, c .before .before .before .before .before .before .before .before .before .before .before .before .before .before .before .before .before .before .before .before .before .before .before .before .before .before .before .before .before .before .before .before .before .before .before .before .pre .0), (c .before .before .before .before .before .before .before .before .before .before .before .before .before .before .before .before .before .before .before .before .before .before .before .before .before .before .before .before .before .before .before .before .before .before .before .before .pre .1 .0, (c .before .before .before .before .before .before .before .before .before .before .before .before .before .before .before .before .before .before .before .open-arm .ensures .place .near, (record { fine = c .before .before .before .before .before .before .before .before .emit-opcode .ensures .fine; room = c .before .before .before .before .before .before .before .before .emit-opcode .ensures .room; slots = c .before .before .before .before .before .before .before .before .emit-opcode .ensures .slots; held = c .before .before .before .before .before .before .before .before .before .before .before .before .before .before .before .before .before .before .before .open-arm .ensures .ready .held }, omega (arith, c .before .before .before .before .before .before .before .before .before .before .before .before .before .before .before .before .before .before .before .before .before .before .before .before .before .before .before .before .before .before .before .before .before .before .before .before .pre .1 .1 .1 .1))))))  -- arm-sequence-requires
     (λ c κs. (c .before .before .before .before .before .before .before .before .before .before .before .before .sequence .ensures .filled .ready .fine, (c .before .before .before .before .before .before .before .before .before .before .before .before .sequence .ensures .filled .ready .room, c .before .before .before .before .before .before .before .before .before .before .before .before .sequence .ensures .filled .ready .slots)))  -- arm-close-arm-requires
-    (λ c. c .before .before .before .before .close-arm .ensures .room ∙ sym (c .before .before .before .before .before .before .before .before .before .before .before .before .before .before .before .before .before .before .before .before .before .before .before .before .before .before .before .before .before .before .before .before .before .before .before .before .before .before .before .before .before .before .before .before .before .before .before .before .before .before .before .before .before .before .pre .1 .1 .1 .0 .room))  -- arm-same-length
-    (λ c. c .before .before .before .before .close-arm .ensures .slots ∙ sym (c .before .before .before .before .before .before .before .before .before .before .before .before .before .before .before .before .before .before .before .before .before .before .before .before .before .before .before .before .before .before .before .before .before .before .before .before .before .before .before .before .before .before .before .before .before .before .before .before .before .before .before .before .before .before .pre .1 .1 .1 .0 .slots))  -- arm-same-length-2
-    (λ c. c .before .before .before .before .before .before .before .before .before .before .before .before .before .before .before .before .before .sequence .ensures .filled .ready .held .size ∙ sym (c .before .before .before .before .before .before .before .before .before .before .before .before .before .before .before .before .before .before .before .before .before .before .before .before .before .before .before .before .before .before .before .before .before .before .before .before .before .before .before .before .before .before .before .before .before .before .before .before .before .before .before .before .before .before .pre .1 .1 .1 .0 .held .size))  -- arm-same-length-3
-    (λ c. c .before .before .before .before .before .before .before .before .before .before .before .before .before .before .before .before .before .sequence .ensures .slots .size ∙ sym (c .before .before .before .before .before .before .before .before .before .before .before .before .before .before .before .before .before .before .before .before .before .before .before .before .before .before .before .before .before .before .before .before .before .before .before .before .before .before .before .before .before .before .before .before .before .before .before .before .before .before .before .before .before .before .pre .1 .0 .size))  -- arm-same-length-4
+    (λ c. c .before .before .before .before .close-arm .ensures .room ∙ sym (c .before .before .before .before .before .before .before .before .before .before .before .before .before .before .before .before .before .before .before .before .before .before .before .before .before .before .before .before .before .before .before .before .before .before .before .before .before .before .before .before .before .before .before .before .before .before .before .before .before .before .before .before .before .before .pre .1 .1 .1 .0 .room))  -- arm-same-length-2
+    (λ c. c .before .before .before .before .close-arm .ensures .slots ∙ sym (c .before .before .before .before .before .before .before .before .before .before .before .before .before .before .before .before .before .before .before .before .before .before .before .before .before .before .before .before .before .before .before .before .before .before .before .before .before .before .before .before .before .before .before .before .before .before .before .before .before .before .before .before .before .before .pre .1 .1 .1 .0 .slots))  -- arm-same-length-3
+    (λ c. c .before .before .before .before .before .before .before .before .before .before .before .before .before .before .before .before .before .sequence .ensures .filled .ready .held .size ∙ sym (c .before .before .before .before .before .before .before .before .before .before .before .before .before .before .before .before .before .before .before .before .before .before .before .before .before .before .before .before .before .before .before .before .before .before .before .before .before .before .before .before .before .before .before .before .before .before .before .before .before .before .before .before .before .before .pre .1 .1 .1 .0 .held .size))  -- arm-same-length-4
+    (λ c. c .before .before .before .before .before .before .before .before .before .before .before .before .before .before .before .before .before .sequence .ensures .slots .size ∙ sym (c .before .before .before .before .before .before .before .before .before .before .before .before .before .before .before .before .before .before .before .before .before .before .before .before .before .before .before .before .before .before .before .before .before .before .before .before .before .before .before .before .before .before .before .before .before .before .before .before .before .before .before .before .before .before .pre .1 .0 .size))  -- arm-same-length-5
     (λ c. arm-some _ _ _ _ _ _ _ (c .before .before .before .before .before .before .before .before .before .before .before .before .before .before .before .before .before .before .before .before .before .before .before .before .before .before .before .before .before .before .before .before .before .before .before .before .before .before .before .before .before .before .before .before .before .before .before .before .before .before .before .before .before .before .pre .1 .1 .1 .0) (c .before .before .before .before .before .before .before .before .before .before .before .before .before .before .before .before .before .before .before .before .before .before .before .before .before .before .before .before .before .before .before .before .before .before .before .before .before .before .before .before .before .before .before .before .before .before .before .if1 .left) (c .before .before .before .before .before .before .before .before .before .before .before .before .before .before .before .before .before .before .before .before .before .before .before .before .before .before .before .before .before .before .before .before .before .before .before .before .before .before .before .before .before .before .before .before .before .create-label .ensures) (c .before .before .before .before .before .before .before .before .before .before .before .before .before .before .before .before .before .before .before .before .before .before .before .before .before .before .before .before .before .before .before .before .before .before .before .before .before .open-arm .ensures) (c .before .before .before .before .before .before .before .before .before .before .before .before .before .before .before .before .before .before .before .before .before .before .before .before .before .before .emit-opcode .ensures) (nested _ (c .before .before .before .before .before .before .before .before .before .before .before .before .before .before .before .before .before .sequence .ensures)) (c .before .before .before .before .close-arm .ensures)))  -- arm-returns-2
     (λ t. arms-lts.spec (
       next-arm-reads.Asked,
