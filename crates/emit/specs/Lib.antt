@@ -1,3 +1,4 @@
+pub mod Rows
 pub mod Book
 pub mod Pool
 pub mod View
