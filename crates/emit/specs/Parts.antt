@@ -80,7 +80,7 @@ stopped e number place = record {
   place = place;
 }
 
--- its short book or pool has no row left
+-- its short book has no row left
 abbrev pub outgrew : Emitter → Emitter
 outgrew e = stopped e outgrown 0
 
