@@ -23,7 +23,7 @@ use Rattle.store.proofs.Rooms.{have-room}
 use Rattle.emit.specs.declared.Emitter.{Emitter}
 use Rattle.opcode.specs.Table.{Good}
 use Rattle.emit.specs.View.{World, world, state, standing, view}
-use Rattle.emit.specs.Steps.{Fine, Begun, Whole, Did, run}
+use Rattle.emit.specs.Steps.{Fine, Begun, Did, run}
 use Rattle.opcode.proofs.Sheets.{role-of-opcode}
 use Rattle.runs.proofs.Passes.{Reads, rules-fine}
 use Rattle.runs.proofs.Finished.{each-so, program-near, program-inside}
@@ -100,9 +100,9 @@ patchable rules s rs g r p d q =
     }
 
 -- the calls of a program's walk, run from an empty emitter, are its emission
-pub emitted : (s : Sheet) (p : Program) {e : Emitter} {v : World} (code book pool : List ℕ) → Begun (p .pos) e → Did (run s (emitStmts (p .body))) (world e code book pool) v → Whole v → view v ≡ emitProgram s p
+pub emitted : (s : Sheet) (p : Program) {e : Emitter} {v : World} (code book pool : List ℕ) → Begun (p .pos) e → Did (run s (emitStmts (p .body))) (world e code book pool) v → view v ≡ emitProgram s p
 unfolding _>>=_ run emitProgram emitterAt
-emitted s p code book pool b d whole = d .is whole ∙ rw (b .is code book pool)
+emitted s p code book pool b d = d .is ∙ rw (b .is code book pool)
 
 -- ---- the answer
 

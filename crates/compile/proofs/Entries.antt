@@ -1,6 +1,6 @@
 -- The entry: 14, 7, 9, 1 and the lines before emission, and what it lends.
 use mathlib.Core.Path.{_≡_, refl, ap, sym, _∙_}
-use mathlib.Core.Bool.{Bool, true, false}
+use mathlib.Core.Bool.{true, false}
 use mathlib.Core.List.{List, _++_}
 use Prim.Native.Nat.{ℕ, _+_, _-_, _≤_}
 use native.Mathlib.Omega.{arith}
@@ -36,10 +36,7 @@ use Rattle.program_shape.specs.Shape.{blockAt}
 use Rattle.emit.specs.declared.Emitter.{Emitter}
 use Rattle.emit.specs.Pool as pools
 use Rattle.emit.specs.View.{World, world, state, standing, view}
-use Rattle.emit.specs.Book.{bookSize}
-use Rattle.emit.specs.Pool.{poolSize}
-use Rattle.emit.specs.Steps.{outgrown, Whole, Kept, Fine, Ready, Begun, Did, run}
-use Rattle.emit.proofs.Steps.{count-of, whole-on, whole-full}
+use Rattle.emit.specs.Steps.{Fine, Ready, Begun, Did, run}
 use Rattle.store.specs.Fill.{fitted}
 use Rattle.store.proofs.Fills.{fitted-is, front, length-filled}
 use Rattle.optimize.proofs.Entry.{place-by, rules-read, rules-bad}
@@ -47,7 +44,7 @@ use Rattle.runs.proofs.Safe.{compiled-safe}
 use Rattle.compile.specs.declared.call.Outcome.{Outcome}
 use Rattle.compile.specs.declared.call.Outcome.the-variants.{Refused, Finished}
 use Rattle.compile.specs.View.{Patchable}
-use Rattle.compile.specs.Call.{roomOf, room, Roomy, finishing, outgrew, Held, Ends}
+use Rattle.compile.specs.Call.{roomOf, room, Roomy, finishing, Held, Ends}
 use Rattle.compile.specs.Entry.{FromFile, behindRules, behindSheet}
 use Rattle.compile.proofs.Answers.{patchable, emitted}
 
@@ -95,9 +92,9 @@ pub record Copied (e : Emitter) (k constants constants′ : List ℕ) : Type 0 w
   pub same : take (e .constants) constants′ ≡ take (e .constants) k
   pub long : length constants′ ≡ length constants
 
-pub copied : {k constants′ : List ℕ} (e : Emitter) (constants : List ℕ) → Fine e → pools.Held (e .constants) k → maxConstants ≤ length constants → constants′ ≡ fitted (length constants) (take (e .constants) k) → Copied e k constants constants′
+pub copied : {k constants′ : List ℕ} (e : Emitter) (constants : List ℕ) → Fine e → pools.Held k → maxConstants ≤ length constants → constants′ ≡ fitted (length constants) (take (e .constants) k) → Copied e k constants constants′
 copied {k} {constants′} e constants fine held room is =
-    let many : length (take (e .constants) k) ≡ e .constants = count-of (e .constants) k held in
+    let many : length (take (e .constants) k) ≡ e .constants = length-take-le (e .constants) k (omega (arith, fine .constants, held .size)) in
     let fits : length (take (e .constants) k) ≤ length constants = omega (arith, fine .constants) in
     let f = fitted-is (length constants) (take (e .constants) k) fits is in
     record { same = rw f (front (length constants) (take (e .constants) k) (e .constants) many); long = ap length f ∙ length-filled (length constants) (take (e .constants) k) fits }
@@ -110,44 +107,27 @@ pub whole-view : {e : Emitter} {c b k constants constants′ : List ℕ} (code :
 whole-view {e} {c} code r copy = rw (take-append-le (e .size) c code (omega (arith, r .fine .size, r .room)), copy .same)
 
 module _ (s : Sheet) (text : List ℕ) (h : Header) (next : ℕ) (there : program.Accepts text h next) {e₀ : Emitter} {v : World} (code book pool : List ℕ) (b : Begun (h .pos) e₀)
-    (kept : Kept (world e₀ code book pool) v) (d : Did (run s (emitStmts (blockAt maxNesting (h .variables) text (h .statements) (record { at = next; row = 2 }) .0))) (world e₀ code book pool) v) where
-  pub emission : Whole v → view v ≡ emitProgram s (programOf text h)
+    (d : Did (run s (emitStmts (blockAt maxNesting (h .variables) text (h .statements) (record { at = next; row = 2 }) .0))) (world e₀ code book pool) v) where
+  pub emission : view v ≡ emitProgram s (programOf text h)
   unfolding topStmts
-  emission w = emitted s (programOf text h) code book pool b (rw (there .top) at d) w
+  emission = emitted s (programOf text h) code book pool b (rw (there .top) at d)
 
   module _ {e : Emitter} {c b′ k more : List ℕ} (rest : List ℕ) {constants : List ℕ} (is : v ≡ world e c b′ k) (ready : Ready v) (copy : Copied e k constants more) where
-    whole : Whole v → view (world e (c ++ rest) b′ more) ≡ emitProgram s (programOf text h)
-    whole w = whole-view rest (rw is at ready) copy ∙ (rw is at (emission w))
+    whole : view (world e (c ++ rest) b′ more) ≡ emitProgram s (programOf text h)
+    whole = whole-view rest (rw is at ready) copy ∙ (rw is at emission)
 
     -- what `finish` is lent can be patched
     pub lent-patchable : (rs : List Rule) → Good s → FromFile rs → e .refused ≡ 0 → Patchable s rs (state (world e (c ++ rest) b′ more))
     unfolding standing
-    lent-patchable rs g f on = patchable (f .file) s rs g (f .is) (programOf text h) (state (world e (c ++ rest) b′ more)) (sym (whole (rw is (whole-on (world e c b′ k) on))) ∙ rw on)
+    lent-patchable rs g f on = patchable (f .file) s rs g (f .is) (programOf text h) (state (world e (c ++ rest) b′ more)) (sym whole ∙ rw on)
 
-    -- a number that is no refusal comes through
-    outgrew-it : (rs : List Rule) {a m l d n f : List ℕ} {o : Outcome} → Ends (finishing s rs (view (world e (c ++ rest) b′ more))) a m l d n f o → e .refused ≡ outgrown → outgrew o ≡ true
-    unfolding standing _>>=_ outgrew
-    outgrew-it rs ends out = rw (ends .is, out, outgrew)
-
-    pub ends-emitted : (rs : List Rule) (code₀ : List ℕ) {lines d n l : List ℕ} {o : Outcome} → length (c ++ rest) ≡ length code₀ → (outgrew o ≡ true → (length book ≡ bookSize) × (length pool ≡ poolSize))
+    pub ends-emitted : (rs : List Rule) (code₀ : List ℕ) {lines d n l : List ℕ} {o : Outcome} → length (c ++ rest) ≡ length code₀
         → Ends (finishing s rs (view (world e (c ++ rest) b′ more))) (c ++ rest) more lines d n l o → Ends (compileProgram s rs (programOf text h)) code₀ constants lines d n l o
     unfolding compileProgram
-    ends-emitted rs code₀ eb enough ends =
-        let w : Whole v = λ out. (let long = enough (outgrew-it rs ends (rw is at out)) in whole-full kept (long .0) (long .1) out) in
-        record {
-          is = rw (whole w) at (ends .is);
-          held = λ f q. (let g = ends .held f (rw (whole w) q) in record { code = rw eb at (g .code); constants = rw (copy .long) at (g .constants); lines = g .lines });
-        }
-
-pub not-both : {b : Bool} → b ≡ true → b ≡ false → ⊥
-not-both t f = let z : _≡_ {A = ℕ} 0 1 = cc in omega arith
-
--- of the outputs before it, only the lengths are told
-pub ends-again : {x : Res FinalizedFunction} {a b c a′ b′ c′ d e f : List ℕ} {o : Outcome} → length a′ ≡ length a → length b′ ≡ length b → length c′ ≡ length c → Ends x a′ b′ c′ d e f o → Ends x a b c d e f o
-ends-again ea eb ec k = record { is = k .is; held = λ f q. (let g = k .held f q in record { code = rw ea at (g .code); constants = rw eb at (g .constants); lines = rw ec at (g .lines) }) }
-
-pub roomy-again : {a b c a′ b′ c′ : ℕ} → a′ ≡ a → b′ ≡ b → c′ ≡ c → Roomy (roomOf a b c) → Roomy (roomOf a′ b′ c′)
-roomy-again ea eb ec r = record { code = rw ea (r .code); constants = rw eb (r .constants); lines = rw ec (r .lines) }
+    ends-emitted rs code₀ eb ends = record {
+      is = rw whole at (ends .is);
+      held = λ f q. (let g = ends .held f (rw whole q) in record { code = rw eb at (g .code); constants = rw (copy .long) at (g .constants); lines = g .lines });
+    }
 
 -- ---- 14, 7, and the rest
 

@@ -50,8 +50,8 @@ module _ {A : Type 0} {P : A → Type 0} (f : List ℕ → A) (base size : ℕ) 
   each-row (suc n) i h e = by-place n i h (λ k. each-row n i k (each-front (rows f base size book n) (f (row base size book n) ∷ []) e)) e (eqb i n) refl
 
 -- a patch read back
-pub each-patch : {P : def.PendingPatch → Type 0} {p : PendingPatch} (book : List ℕ) (n i : ℕ) → Each P (patchesIn book n) → i < n → patchView p ≡ patchIn (row (patchBase (length book)) patchSize book i) → P (patchView p)
-each-patch {P} book n i e h is = subst P (sym is) (each-row patchIn (patchBase (length book)) patchSize book n i h e)
+pub each-patch : {P : def.PendingPatch → Type 0} {p : PendingPatch} (book : List ℕ) (n i : ℕ) → Each P (patchesIn book n) → i < n → patchView p ≡ patchIn (row patchBase patchSize book i) → P (patchView p)
+each-patch {P} book n i e h is = subst P (sym is) (each-row patchIn patchBase patchSize book n i h e)
 
 -- ---- where their labels are bound
 
@@ -79,14 +79,14 @@ module _ (labels : List (Option ℕ)) where
     unfolding targetsOf rows
     target-begins targets e = record { head = refl; room = e; within = omega arith }
 
-    pub target-goes-on : (targets : List ℕ) (i : ℕ) {p : PendingPatch} {place v : ℕ} → Targeting book n targets i → i < length targets → patchView p ≡ patchIn (row (patchBase (length book)) patchSize book i)
+    pub target-goes-on : (targets : List ℕ) (i : ℕ) {p : PendingPatch} {place v : ℕ} → Targeting book n targets i → i < length targets → patchView p ≡ patchIn (row patchBase patchSize book i)
         → place ≡ boundLabel labels (p .label .0) → v ≡ place → Targeting book n (set targets i v) (i + 1)
     unfolding targetsOf rows
     target-goes-on targets i {p} {place} {v} g h is at e =
         let F : def.PendingPatch → ℕ = λ q. boundLabel labels (q .label) in
-        let here : v ≡ F (patchIn (row (patchBase (length book)) patchSize book i)) = e ∙ at ∙ ap F is in
+        let here : v ≡ F (patchIn (row patchBase patchSize book i)) = e ∙ at ∙ ap F is in
         record {
-          head = rw (add-one i, take-suc-set targets i v h, g .head, here) (sym (map-append F (patchesIn book i) (patchIn (row (patchBase (length book)) patchSize book i) ∷ [])));
+          head = rw (add-one i, take-suc-set targets i v h, g .head, here) (sym (map-append F (patchesIn book i) (patchIn (row patchBase patchSize book i) ∷ [])));
           room = length-set targets i v ∙ g .room;
           within = omega (arith, g .room);
         }
@@ -147,11 +147,11 @@ module _ (labels : List (Option ℕ)) (m : OffsetMap) where
     unfolding patchJumps rows
     patch-begins = record { is = refl; room = refl; within = omega arith }
 
-    pub patch-goes-on : {code code′ : List ℕ} {i : ℕ} {p : PendingPatch} → Patching book n code₀ code i → i < n → patchView p ≡ patchIn (row (patchBase (length book)) patchSize book i)
+    pub patch-goes-on : {code code′ : List ℕ} {i : ℕ} {p : PendingPatch} → Patching book n code₀ code i → i < n → patchView p ≡ patchIn (row patchBase patchSize book i)
         → code′ ≡ patchJump labels m (patchView p) code → length code′ ≡ length code → Patching book n code₀ code′ (i + 1)
     unfolding rows
     patch-goes-on {code} {code′} {i} {p} g h at e long = record {
-      is = e ∙ rw (at, add-one i, g .is) (sym (patch-more (patchesIn book i) (patchIn (row (patchBase (length book)) patchSize book i)) code₀));
+      is = e ∙ rw (at, add-one i, g .is) (sym (patch-more (patchesIn book i) (patchIn (row patchBase patchSize book i)) code₀));
       room = long ∙ g .room;
       within = omega arith;
     }

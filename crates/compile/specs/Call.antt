@@ -1,9 +1,7 @@
 -- What the parts of the call give, said of the definition.
 use Prim.Native.Nat.{ℕ, _*_, _≤_}
 use mathlib.Core.Path.{_≡_}
-use mathlib.Core.Bool.{Bool, false}
 use mathlib.Core.List.{List}
-use lib.Dec.{eqb}
 use lib.ListN.{length}
 use Rattle.definition.specs.Limits.{maxCode, maxConstants, maxLines, entrySize}
 use Rattle.definition.specs.Res.{Res, ok, refuse, _>>=_}
@@ -13,7 +11,6 @@ use Rattle.definition.specs.Emit as def
 use Rattle.definition.specs.Lent.{filled, entryNumbers}
 use Rattle.definition.specs.Compile as compile
 use Rattle.definition.specs.Compile.{FinalizedFunction, finalizeFunction, Room, answer}
-use Rattle.emit.specs.Steps.{outgrown}
 use Rattle.compile.specs.declared.call.Answer.{Answer}
 use Rattle.compile.specs.declared.call.Outcome.{Outcome}
 use Rattle.compile.specs.declared.call.Outcome.the-variants.{Refused, Finished}
@@ -52,11 +49,6 @@ finishing s rs x = x >>= λ d. ok (finalizeFunction s rs d)
 abbrev pub outcomeOf : Res FinalizedFunction → Outcome
 outcomeOf (refuse n p) = Refused n p
 outcomeOf (ok f) = Finished (length (f .bytecode)) (f .depth) (length (f .constants)) (length (f .lineMap))
-
--- did emission outgrow a short book or pool?
-unfoldable pub outgrew : Outcome → Bool
-outgrew (Refused n p) = eqb n outgrown
-outgrew (Finished a d k e) = false
 
 -- the outputs hold a result, and 0 up to their ends
 pub record Held (f : FinalizedFunction) (bytes words numbers bytes′ words′ numbers′ : List ℕ) : Type 0 where

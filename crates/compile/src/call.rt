@@ -6,17 +6,17 @@ ghost use Rattle.definition.specs.Compile.{roomy, answer};
 ghost use Rattle.opcode.specs.Table.{sheetIn};
 ghost use Rattle.rules.specs.View.{rulesIn};
 ghost use Rattle.optimize.specs.View.{Tables};
+ghost use Rattle.emit.specs.Book.{bookSize};
 ghost use Rattle.emit.specs.View.{world, state, view};
-ghost use Rattle.emit.specs.Steps.{Fine, Slots};
+ghost use Rattle.emit.specs.Steps.{Fine};
 ghost use Rattle.compile.specs.View.{Patchable};
-ghost use Rattle.compile.specs.Call.{room, roomOf, answerView, finishing, settled, outgrew, Roomy, Ends};
+ghost use Rattle.compile.specs.Call.{room, roomOf, answerView, finishing, settled, Roomy, Ends};
 use definition::ENTRY_SIZE;
 use definition::MAX_CODE;
 use definition::MAX_CONSTANTS;
 use definition::MAX_LINES;
 use emit::Constant;
 use emit::Emitter;
-use emit::OUTGROWN;
 
 // What is answered: a refusal's number and place, or 0, 0, how many bytes, constants and line entries the outputs hold, and the depth.
 pub struct Answer {
@@ -92,7 +92,7 @@ pub fn finish(
 ) -> Outcome
     requires { ⌜ Tables (now sheet) (now rules) count ⌝ }
     requires { ⌜ Fine e ⌝ }
-    requires { ⌜ Slots e (now book) ⌝ }
+    requires { ⌜ length (now book) ≡ bookSize ⌝ }
     requires { ⌜ Roomy (room (now code) (now constants) (now lines)) ⌝ }
     requires { ⌜ (e .refused ≡ 0 → Patchable (sheetIn (now sheet)) (rulesIn (now rules) count) (state (world e (now code) (now book) (now constants)))) ⌝ }
     ensures { λ r. ⌜ Ends (finishing (sheetIn (now (sheet .entry))) (rulesIn (now (rules .entry)) count) (view (world e (now (code .entry)) (now (book .entry)) (now (constants .entry))))) (now (code .entry)) (now (constants .entry)) (now (lines .entry)) (now (code .exit)) (now (constants .exit)) (now (lines .exit)) r ⌝ }
@@ -110,16 +110,6 @@ pub fn finish(
         depth: f.max_stack_depth,
         pooled: e.constants,
         entries: f.entries,
-    }
-}
-
-// Did emission outgrow a short book or pool? It is no answer then, and made again.
-pub fn outgrew(outcome: Outcome) -> bool
-    ensures { λ r. ⌜ r ≡ outgrew outcome ⌝ }
-{
-    match outcome {
-        Outcome::Refused { number, .. } => number == OUTGROWN,
-        Outcome::Finished { .. } => false,
     }
 }
 

@@ -5,14 +5,11 @@ ghost use Rattle.definition.specs.Compile.{compileProgram, Compiles};
 ghost use Rattle.definition.specs.Claims.{Safe};
 ghost use Rattle.opcode.specs.Table.{IsTable, Good, sheetIn};
 ghost use Rattle.rules.specs.View.{rulesIn};
-ghost use mathlib.Core.Bool.{true, false};
-ghost use lib.ListN.{length};
-ghost use Rattle.emit.specs.Book.{bookSize, IsBook};
-ghost use Rattle.emit.specs.Pool.{poolSize, Held};
+ghost use Rattle.line_map.specs.View.{posView};
 ghost use Rattle.optimize.specs.View.{Tables};
-ghost use Rattle.program.specs.Check.{programOf};
-ghost use Rattle.compile.specs.Call.{room, answerView, outgrew, Roomy, Ends};
-ghost use Rattle.compile.specs.Entry.{FromFile, headerOf, Compilable, behindRules, behindSheet};
+ghost use Rattle.program.specs.Check.{Accepts, programOf};
+ghost use Rattle.compile.specs.Call.{room, answerView, Roomy, Ends};
+ghost use Rattle.compile.specs.Entry.{FromFile, behindRules, behindSheet};
 use crate::call;
 use crate::call::Answer;
 use crate::call::Outcome;
@@ -27,140 +24,46 @@ use program::Checked;
 use program::Cursor;
 use rules::RuleAnswer;
 
-// A text up to this length is emitted with a short book and pool first.
-const SHORT_TEXT: usize = 1024;
-
-// A checked text's header, and where its first statement's line begins.
-struct Top {
-    variables: u16,
-    statements: u16,
-    pos: Pos,
-    next: usize,
-}
-
-// Emission with this book and pool, and what follows. Of a program that outgrows short ones nothing is said.
-fn compile_lent(
-    sheet: &[u8],
-    rules: &[u16],
-    count: usize,
-    text: &[u8],
-    top: Top,
-    book: &mut [u16],
-    pool: &mut [Constant],
-    code: &mut [u8],
-    constants: &mut [Constant],
-    lines: &mut [u16],
-) -> Outcome
-    requires { ⌜ Compilable (now sheet) (now rules) count (now text) top (room (now code) (now constants) (now lines)) ⌝ }
-    requires { ⌜ IsBook (now book) ⌝ }
-    requires { ⌜ Held 0 (now pool) ⌝ }
-    ensures { λ r. ⌜ ((outgrew r ≡ true → (length (now (book .entry)) ≡ bookSize) × (length (now (pool .entry)) ≡ poolSize)) → Ends (compileProgram (sheetIn (now (sheet .entry))) (rulesIn (now (rules .entry)) count) (programOf (now (text .entry)) (headerOf top))) (now (code .entry)) (now (constants .entry)) (now (lines .entry)) (now (code .exit)) (now (constants .exit)) (now (lines .exit)) r) ⌝ }
-{
-    let begun = Emitter::new(top.pos);
-    let first = Cursor {
-        at: top.next,
-        row: 2,
-    };
-    let walked = stmt::emit_stmts(
-        text,
-        sheet,
-        &mut code[..MAX_CODE],
-        book,
-        pool,
-        top.variables,
-        numbers::wide(top.statements),
-        begun,
-        first,
-    );
-    let e = walked.emitter;
-    let n = e.constants;
-    store::fill_words(&pool[..n], constants);
-    call::finish(sheet, rules, count, e, book, code, constants, lines)
-}
-
-// With a short book and pool, which a small program does not outgrow.
-fn compile_short(
-    sheet: &[u8],
-    rules: &[u16],
-    count: usize,
-    text: &[u8],
-    top: Top,
-    code: &mut [u8],
-    constants: &mut [Constant],
-    lines: &mut [u16],
-) -> Outcome
-    requires { ⌜ Compilable (now sheet) (now rules) count (now text) top (room (now code) (now constants) (now lines)) ⌝ }
-    ensures { λ r. ⌜ (outgrew r ≡ false → Ends (compileProgram (sheetIn (now (sheet .entry))) (rulesIn (now (rules .entry)) count) (programOf (now (text .entry)) (headerOf top))) (now (code .entry)) (now (constants .entry)) (now (lines .entry)) (now (code .exit)) (now (constants .exit)) (now (lines .exit)) r) ⌝ }
-{
-    let mut book = [0u16; book::SHORT_SIZE];
-    let mut pool = [0u32; emit::SHORT_POOL];
-    compile_lent(
-        sheet,
-        rules,
-        count,
-        text,
-        top,
-        &mut book,
-        &mut pool,
-        code,
-        constants,
-        lines,
-    )
-}
-
-// With those of full length, which no program outgrows.
-fn compile_long(
-    sheet: &[u8],
-    rules: &[u16],
-    count: usize,
-    text: &[u8],
-    top: Top,
-    code: &mut [u8],
-    constants: &mut [Constant],
-    lines: &mut [u16],
-) -> Outcome
-    requires { ⌜ Compilable (now sheet) (now rules) count (now text) top (room (now code) (now constants) (now lines)) ⌝ }
-    ensures { λ r. ⌜ Ends (compileProgram (sheetIn (now (sheet .entry))) (rulesIn (now (rules .entry)) count) (programOf (now (text .entry)) (headerOf top))) (now (code .entry)) (now (constants .entry)) (now (lines .entry)) (now (code .exit)) (now (constants .exit)) (now (lines .exit)) r ⌝ }
-{
-    let mut book = [0u16; book::BOOK_SIZE];
-    let mut pool = [0u32; emit::POOL_SIZE];
-    compile_lent(
-        sheet,
-        rules,
-        count,
-        text,
-        top,
-        &mut book,
-        &mut pool,
-        code,
-        constants,
-        lines,
-    )
-}
-
-// A text that was checked: its emission, and what follows. What is cleared for it goes by its length.
+// A text that was checked: its emission, and what follows.
 fn compile_accepted(
     sheet: &[u8],
     rules: &[u16],
     count: usize,
     text: &[u8],
-    top: Top,
+    variables: u16,
+    statements: u16,
+    pos: Pos,
+    next: usize,
     code: &mut [u8],
     constants: &mut [Constant],
     lines: &mut [u16],
 ) -> Outcome
-    requires { ⌜ Compilable (now sheet) (now rules) count (now text) top (room (now code) (now constants) (now lines)) ⌝ }
-    ensures { λ r. ⌜ Ends (compileProgram (sheetIn (now (sheet .entry))) (rulesIn (now (rules .entry)) count) (programOf (now (text .entry)) (headerOf top))) (now (code .entry)) (now (constants .entry)) (now (lines .entry)) (now (code .exit)) (now (constants .exit)) (now (lines .exit)) r ⌝ }
+    requires { ⌜ Tables (now sheet) (now rules) count ⌝ }
+    requires { ⌜ Good (sheetIn (now sheet)) ⌝ }
+    requires { ⌜ FromFile (rulesIn (now rules) count) ⌝ }
+    requires { ⌜ Accepts (now text) (record { variables = variables; statements = statements; pos = posView pos }) next ⌝ }
+    requires { ⌜ Roomy (room (now code) (now constants) (now lines)) ⌝ }
+    ensures { λ r. ⌜ Ends (compileProgram (sheetIn (now (sheet .entry))) (rulesIn (now (rules .entry)) count) (programOf (now (text .entry)) (record { variables = variables; statements = statements; pos = posView pos }))) (now (code .entry)) (now (constants .entry)) (now (lines .entry)) (now (code .exit)) (now (constants .exit)) (now (lines .exit)) r ⌝ }
 {
-    if text.len() > SHORT_TEXT {
-        return compile_long(sheet, rules, count, text, top, code, constants, lines);
-    }
-    let first = compile_short(sheet, rules, count, text, top, code, constants, lines);
-    let again = call::outgrew(first);
-    if again {
-        return compile_long(sheet, rules, count, text, top, code, constants, lines);
-    }
-    first
+    let mut book = [0u16; book::BOOK_SIZE];
+    let mut pool = [0u32; emit::POOL_SIZE];
+    let begun = Emitter::new(pos);
+    let top = Cursor { at: next, row: 2 };
+    let walked = stmt::emit_stmts(
+        text,
+        sheet,
+        &mut code[..MAX_CODE],
+        &mut book,
+        &mut pool,
+        variables,
+        numbers::wide(statements),
+        begun,
+        top,
+    );
+    let e = walked.emitter;
+    let n = e.constants;
+    store::fill_words(&pool[..n], constants);
+    call::finish(sheet, rules, count, e, &book, code, constants, lines)
 }
 
 // 1, and line by line 6, 5, 2 and 3; then the rest.
@@ -189,15 +92,19 @@ fn compile_text(
             statements,
             pos,
             next,
-        } => {
-            let top = Top {
-                variables,
-                statements,
-                pos,
-                next,
-            };
-            compile_accepted(sheet, rules, count, text, top, code, constants, lines)
-        }
+        } => compile_accepted(
+            sheet,
+            rules,
+            count,
+            text,
+            variables,
+            statements,
+            pos,
+            next,
+            code,
+            constants,
+            lines,
+        ),
     }
 }
 

@@ -11,9 +11,9 @@ ghost use Rattle.opcode.specs.Table.{sheetIn};
 ghost use Rattle.rules.specs.View.{rulesIn};
 ghost use Rattle.rewrite.specs.View.{Clear};
 ghost use Rattle.optimize.specs.View.{mapIn, Tables};
-ghost use Rattle.emit.specs.Book.{labelsIn, patchesIn};
+ghost use Rattle.emit.specs.Book.{bookSize, labelsIn, patchesIn};
 ghost use Rattle.emit.specs.View.{world, state, patchView};
-ghost use Rattle.emit.specs.Steps.{Fine, Slots};
+ghost use Rattle.emit.specs.Steps.{Fine};
 ghost use Rattle.compile.specs.View.{targetsIn, Near, Inside, Patchable, Moved, Finalizes};
 use definition::MAX_BRANCHES;
 use emit::Emitter;
@@ -37,7 +37,7 @@ pub struct FinalizedFunction {
 // Where the labels of pending patches are bound, in the order of emission: each is protected.
 fn jump_targets(e: Emitter, book: &[u16], targets: &mut [u16])
     requires { ⌜ Fine e ⌝ }
-    requires { ⌜ Slots e (now book) ⌝ }
+    requires { ⌜ length (now book) ≡ bookSize ⌝ }
     requires { ⌜ length (now targets) ≡ e .patches ⌝ }
     requires { ⌜ Each (Near (e .size) (labelsIn (now book) (e .labels))) (patchesIn (now book) (e .patches)) ⌝ }
     ensures { λ r. ⌜ now (targets .exit) ≡ targetsIn e (now (book .entry)) ⌝ }
@@ -64,7 +64,7 @@ fn optimize_emitted(
 ) -> usize
     requires { ⌜ Tables (now sheet) (now rules) count ⌝ }
     requires { ⌜ Fine e ⌝ }
-    requires { ⌜ Slots e (now book) ⌝ }
+    requires { ⌜ length (now book) ≡ bookSize ⌝ }
     requires { ⌜ length (now code) ≡ e .size ⌝ }
     requires { ⌜ length (now targets) ≡ e .patches ⌝ }
     requires { ⌜ Clear (e .size) (now total) ⌝ }
@@ -79,7 +79,7 @@ fn optimize_emitted(
 // One branch: the low sixteen bits of its target's place less the next, low byte first, over its two offset bytes.
 fn patch_jump(e: Emitter, book: &[u16], moves: &[u16], patch: PendingPatch, code: &mut [u8])
     requires { ⌜ Fine e ⌝ }
-    requires { ⌜ Slots e (now book) ⌝ }
+    requires { ⌜ length (now book) ≡ bookSize ⌝ }
     requires { ⌜ length (now code) ≤ maxCode ⌝ }
     requires { ⌜ Near (e .size) (labelsIn (now book) (e .labels)) (patchView patch) ⌝ }
     requires { ⌜ Inside (mapIn (now moves)) (length (now code)) (patchView patch) ⌝ }
@@ -98,7 +98,7 @@ fn patch_jump(e: Emitter, book: &[u16], moves: &[u16], patch: PendingPatch, code
 // Every pending patch, in the order of emission.
 fn patch_jumps(e: Emitter, book: &[u16], moves: &[u16], code: &mut [u8])
     requires { ⌜ Fine e ⌝ }
-    requires { ⌜ Slots e (now book) ⌝ }
+    requires { ⌜ length (now book) ≡ bookSize ⌝ }
     requires { ⌜ length (now code) ≤ maxCode ⌝ }
     requires { ⌜ Each (Near (e .size) (labelsIn (now book) (e .labels))) (patchesIn (now book) (e .patches)) ⌝ }
     requires { ⌜ Each (Inside (mapIn (now moves)) (length (now code))) (patchesIn (now book) (e .patches)) ⌝ }
@@ -128,7 +128,7 @@ fn finalize_in(
     requires { ⌜ Tables (now sheet) (now rules) count ⌝ }
     requires { ⌜ Fine e ⌝ }
     requires { ⌜ maxCode ≤ length (now code) ⌝ }
-    requires { ⌜ Slots e (now book) ⌝ }
+    requires { ⌜ length (now book) ≡ bookSize ⌝ }
     requires { ⌜ maxLines * entrySize ≤ length (now lines) ⌝ }
     requires { ⌜ Patchable (sheetIn (now sheet)) (rulesIn (now rules) count) (state (world e (now code) (now book) [])) ⌝ }
     requires { ⌜ length (now targets) ≡ e .patches ⌝ }
@@ -170,7 +170,7 @@ pub fn finalize_function(
     requires { ⌜ Tables (now sheet) (now rules) count ⌝ }
     requires { ⌜ Fine e ⌝ }
     requires { ⌜ maxCode ≤ length (now code) ⌝ }
-    requires { ⌜ Slots e (now book) ⌝ }
+    requires { ⌜ length (now book) ≡ bookSize ⌝ }
     requires { ⌜ maxLines * entrySize ≤ length (now lines) ⌝ }
     requires { ⌜ Patchable (sheetIn (now sheet)) (rulesIn (now rules) count) (state (world e (now code) (now book) [])) ⌝ }
     ensures { λ r. ⌜ Finalizes (sheetIn (now (sheet .entry))) (rulesIn (now (rules .entry)) count) e (now (code .entry)) (now (book .entry)) (now (lines .entry)) (now (code .exit)) (now (lines .exit)) r ⌝ }

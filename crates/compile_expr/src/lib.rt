@@ -8,8 +8,9 @@ ghost use Rattle.definition.specs.CompileExpr.{emitClassifiedCmpBr};
 ghost use Rattle.opcode.specs.View.{compareView, roleView};
 ghost use Rattle.opcode.specs.Table.{sheetIn};
 ghost use Rattle.program_shape.specs.Shape.{cmpView};
+ghost use Rattle.emit.specs.Book.{bookSize};
 ghost use Rattle.emit.specs.View.{world};
-ghost use Rattle.emit.specs.Steps.{run, Fine, Slots, Ready, Coded, Filled};
+ghost use Rattle.emit.specs.Steps.{run, Fine, Ready, Coded, Filled};
 ghost use Rattle.compile_expr.specs.Branching.{branchingOn};
 use emit::Constant;
 use emit::Emitter;
@@ -55,7 +56,7 @@ pub fn emit_load_var(
 ) -> Emitter
     requires { ⌜ Fine e ⌝ }
     requires { ⌜ length (now code) ≡ maxCode ⌝ }
-    requires { ⌜ Slots e (now book) ⌝ }
+    requires { ⌜ length (now book) ≡ bookSize ⌝ }
     ensures { λ r. ⌜ Coded (act (sheetIn (now (sheet .entry))) (loadVariable variable)) e (now (code .entry)) (now (book .entry)) r (now (code .exit)) (now (book .exit)) ⌝ }
 {
     let loaded = e.load_variable(sheet, code, book, variable);
@@ -72,7 +73,7 @@ pub fn emit_store_var(
 ) -> Emitter
     requires { ⌜ Fine e ⌝ }
     requires { ⌜ length (now code) ≡ maxCode ⌝ }
-    requires { ⌜ Slots e (now book) ⌝ }
+    requires { ⌜ length (now book) ≡ bookSize ⌝ }
     ensures { λ r. ⌜ Coded (act (sheetIn (now (sheet .entry))) (storeVariable variable)) e (now (code .entry)) (now (book .entry)) r (now (code .exit)) (now (book .exit)) ⌝ }
 {
     e.store_variable(sheet, code, book, variable)
@@ -88,7 +89,7 @@ pub fn emit_typed(
 ) -> Emitter
     requires { ⌜ Fine e ⌝ }
     requires { ⌜ length (now code) ≡ maxCode ⌝ }
-    requires { ⌜ Slots e (now book) ⌝ }
+    requires { ⌜ length (now book) ≡ bookSize ⌝ }
     ensures { λ r. ⌜ Coded (act (sheetIn (now (sheet .entry))) (emitOpcode (roleView role))) e (now (code .entry)) (now (book .entry)) r (now (code .exit)) (now (book .exit)) ⌝ }
 {
     e.emit_opcode(sheet, code, book, role)

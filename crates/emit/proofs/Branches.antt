@@ -5,7 +5,7 @@ use Prim.Native.Nat.{ℕ, _+_, _*_, _≤_, _<_}
 use native.Mathlib.Omega.{arith}
 use lib.ListN.{length, take}
 use lib.Seq.{sets, length-sets}
-use Rattle.definition.specs.Limits.{maxCode, maxBranches, entrySize}
+use Rattle.definition.specs.Limits.{maxCode, maxLabels, maxBranches, maxLines, entrySize}
 use Rattle.definition.specs.Res.{Res, ok, refuse, _>>=_}
 use Rattle.definition.specs.Opcode.{Role, Sheet, CompareOp, comparisonByte, jmp, jmpIfNot, cmpBr}
 use Rattle.definition.specs.Emit as def
@@ -15,15 +15,14 @@ use Rattle.emit.specs.declared.Emitter.{Emitter}
 use Rattle.emit.specs.declared.Interned.{Interned}
 use Rattle.emit.specs.declared.patch.PendingPatch.{PendingPatch}
 use Rattle.emit.specs.declared.Last.the-variants.{Other}
-use Rattle.emit.specs.Book.{labelSize, patchSize, shortRows, patchRows, labelBase, patchBase, lineBase, bookSize, labelIn, patchIn, patchNumbers}
+use Rattle.emit.specs.Book.{labelSize, patchSize, labelBase, patchBase, lineBase, bookSize, labelIn, patchIn, patchNumbers}
 use Rattle.emit.specs.View.{world, state, patchView}
-use Rattle.emit.specs.Steps.{Step, Did, Fine, Slots, Kept, Coded, Filled}
-use Rattle.emit.specs.Parts.{counted, outgrew, Noted, Branched, Added, cmpOperand, patching, Interns}
+use Rattle.emit.specs.Steps.{Step, Did, Fine, Coded, Filled}
+use Rattle.emit.specs.Parts.{counted, Noted, Branched, Added, cmpOperand, patching, Interns}
 use Rattle.emit.proofs.Tables.{rows-more, rows-behind, rows-before, patch-back, patch-long}
-use Rattle.emit.proofs.Rows.{no-row}
-use Rattle.emit.proofs.Kept.{kept-self, kept-then, slots-in, sized-book, patch-tails}
+use Rattle.emit.proofs.Kept.{kept-self, kept-then, patch-tails}
 use Rattle.emit.proofs.Steps.{stays, goes, by-step, then, size-of}
-use Rattle.emit.proofs.Instructions.{noted-outgrown, coded-by}
+use Rattle.emit.proofs.Instructions.{coded-by}
 
 -- ---- a patch more
 
@@ -31,57 +30,48 @@ use Rattle.emit.proofs.Instructions.{noted-outgrown, coded-by}
 pub patch-fits : {e : Emitter} → Fine e → Branched e → e .refused ≡ 0 → e .patches < maxBranches
 patch-fits h more on = let q = more on in omega (arith, h .size)
 
-module _ (p : def.PendingPatch) {e : Emitter} {book : List ℕ} (h : Fine e) (slots : Slots e book) where
+module _ (p : def.PendingPatch) {e : Emitter} {book : List ℕ} (h : Fine e) (slots : length book ≡ bookSize) where
   pub patch-stays : (e .refused ≡ 0 → ⊥) → Noted (patching p) e book e book
   patch-stays off = record { fine = h; slots = slots; kept = λ code pool. kept-self (world e code book pool); did = λ code pool room. stays (patching p) off }
 
-  pub patch-outgrown : {r : Emitter} → e .refused ≡ 0 → Branched e → patchRows (length book) ≤ e .patches → r ≡ outgrew e → Noted (patching p) e book r book
-  patch-outgrown on more past out = noted-outgrown (patching p) h slots on out (λ full. no-row bookSize maxBranches shortRows (length book) (e .patches) past (patch-fits h more on) full)
-
-  pub patch-goes : {book′ : List ℕ} → e .refused ≡ 0 → Branched e → e .patches < patchRows (length book) → book′ ≡ sets book (patchBase (length book) + patchSize * e .patches) (patchNumbers p) → Noted (patching p) e book (counted e (e .labels) (e .patches + 1) (e .lines) (e .constants)) book′
+  pub patch-goes : {book′ : List ℕ} → e .refused ≡ 0 → Branched e → book′ ≡ sets book (patchBase + patchSize * e .patches) (patchNumbers p) → Noted (patching p) e book (counted e (e .labels) (e .patches + 1) (e .lines) (e .constants)) book′
   unfolding patched
-  patch-goes on more row put =
+  patch-goes on more put =
       let few = patch-fits h more on in
       let room′ = more on in
-      let base = patchBase (length book) in
-      let j = base + patchSize * e .patches in
+      let j = patchBase + patchSize * e .patches in
       let ns = patchNumbers p in
-      let same = length-sets book j ns in
-      let added : Slots e book → Slots (counted e (e .labels) (e .patches + 1) (e .lines) (e .constants)) (sets book j ns)
-      = λ k. slots-in book same (k .fits) (k .labels) (omega arith) (k .lines) in
       rw put (record {
         fine = record { size = h .size; labels = h .labels; patches = omega arith; lines = h .lines; constants = h .constants; last = h .last; depth = h .depth; deepest = h .deepest; place = h .place };
-        slots = added slots;
+        slots = length-sets book j ns ∙ slots;
         kept = λ code pool. record {
           grown = record { size = omega arith; labels = omega arith; patches = omega arith; lines = omega arith; constants = omega arith };
           code = refl;
-          book = patch-tails (counted e (e .labels) (e .patches + 1) (e .lines) (e .constants)) ns book (e .patches) (patch-long p) row (omega arith);
+          book = patch-tails (counted e (e .labels) (e .patches + 1) (e .lines) (e .constants)) ns book (e .patches) (patch-long p) few (omega arith);
           pool = refl;
           sticky = λ z. absurd (z on);
-          sized = sized-book code book (sets book j ns) pool same added refl;
         };
         did = λ code pool room. goes (patching p) (world e code book pool) (world (counted e (e .labels) (e .patches + 1) (e .lines) (e .constants)) code (sets book j ns) pool) on on
             (rw (
-              same,
-              rows-more patchIn base patchSize ns book (e .patches) (patch-long p) (omega (arith, slots .fits)),
+              rows-more patchIn patchBase patchSize ns book (e .patches) (patch-long p) (omega arith),
               patch-back p,
-              rows-behind labelIn labelBase labelSize ns book (e .labels) j (omega (arith, slots .labels)),
-              rows-before entryIn (lineBase (length book)) entrySize ns book (e .lines) j (rw (patch-long p) (omega arith)),
+              rows-behind labelIn labelBase labelSize ns book (e .labels) j (omega (arith, h .labels)),
+              rows-before entryIn lineBase entrySize ns book (e .lines) j (rw (patch-long p) (omega arith)),
             ));
       })
 
 -- ---- a branch: the instruction, and its patch
 
 branch-did : (s : Sheet) (r : Role) (operand : List ℕ) (p : def.PendingPatch) {e m u : Emitter} {code book pool code′ book′ book″ : List ℕ} → Fine e → length code ≡ maxCode → p .instructionOffset ≡ e .size
-    → Did (add s r (operand ++ le16 0) def.other) (world e code book pool) (world m code′ book′ pool) → Kept (world m code′ book′ pool) (world u code′ book″ pool) → Did (patching p) (world m code′ book′ pool) (world u code′ book″ pool)
+    → Did (add s r (operand ++ le16 0) def.other) (world e code book pool) (world m code′ book′ pool) → Did (patching p) (world m code′ book′ pool) (world u code′ book″ pool)
     → Did (branch s r operand (p .operandDelta) (p .label)) (world e code book pool) (world u code′ book″ pool)
 unfolding branch
-branch-did s r operand p {e} {code = code} h room is a k b = by-step (λ on. rw (size-of code h room, ← is)) (then a k b)
+branch-did s r operand p {e} {code = code} h room is a b = by-step (λ on. rw (size-of code h room, ← is)) (then a b)
 
 pub branch-done : (s : Sheet) (r : Role) (p : def.PendingPatch) {e m u : Emitter} {code book code′ book′ book″ : List ℕ} → Fine e → length code ≡ maxCode → p .instructionOffset ≡ e .size
     → Added s r (le16 0) Other e code book m code′ book′ → Noted (patching p) m book′ u book″ → Coded (branch s r [] (p .operandDelta) (p .label)) e code book u code′ book″
 branch-done s r p {code′ = code′} h room is a n =
-    record { fine = n .fine; room = a .coded .room; slots = n .slots; kept = λ pool. kept-then (a .coded .kept pool) (n .kept code′ pool); did = λ pool. branch-did s r [] p h room is (a .coded .did pool) (n .kept code′ pool) (n .did code′ pool (a .coded .room)) }
+    record { fine = n .fine; room = a .coded .room; slots = n .slots; kept = λ pool. kept-then (a .coded .kept pool) (n .kept code′ pool); did = λ pool. branch-did s r [] p h room is (a .coded .did pool) (n .did code′ pool (a .coded .room)) }
 
 module _ (s : Sheet) (l : ℕ) {x : ℕ} {p : def.PendingPatch} {e u : Emitter} {code book code′ book′ : List ℕ} (is : p ≡ record { instructionOffset = x; operandDelta = jmpOperandDelta; label = l }) where
   pub jmp-done : Coded (branch s jmp [] (p .operandDelta) (p .label)) e code book u code′ book′ → Coded (act s (emitJmp l)) e code book u code′ book′
@@ -99,10 +89,9 @@ pub cmp-br-done : (s : Sheet) (c : CompareOp) (v k l : ℕ) {x : ℕ} {p : def.P
     → Filled (act s (emitCmpBr c v k l)) (world e code book pool) (world u code′ book″ pool′)
 unfolding act cmpOperand
 cmp-br-done s c v k l {p = p} {i = i} {code = code} {book = book} {code′ = code′} {pool′ = pool′} room q is at a n =
-    let d = branch-did s cmpBr (comparisonByte s c ∷ le16 v ++ le16 (i .index)) p (q .pooled .fine) room (ap (λ (z : def.PendingPatch). z .instructionOffset) is ∙ at) (a .coded .did pool′) (n .kept code′ pool′) (n .did code′ pool′ (a .coded .room)) in
-    let k = kept-then (a .coded .kept pool′) (n .kept code′ pool′) in
+    let d = branch-did s cmpBr (comparisonByte s c ∷ le16 v ++ le16 (i .index)) p (q .pooled .fine) room (ap (λ (z : def.PendingPatch). z .instructionOffset) is ∙ at) (a .coded .did pool′) (n .did code′ pool′ (a .coded .room)) in
     record {
-      ready = record { fine = n .fine; room = a .coded .room; slots = n .slots; held = k .sized .held (q .pooled .held) };
-      kept = kept-then (q .pooled .kept code book) k;
-      did = then (q .pooled .did s code book) k (by-step (λ on. rw (← (q .index on))) (rw is at d));
+      ready = record { fine = n .fine; room = a .coded .room; slots = n .slots; held = q .pooled .held };
+      kept = kept-then (q .pooled .kept code book) (kept-then (a .coded .kept pool′) (n .kept code′ pool′));
+      did = then (q .pooled .did s code book) (by-step (λ on. rw (← (q .index on))) (rw is at d));
     }

@@ -18,7 +18,7 @@ use Rattle.definition.specs.Walk as walk
 use Rattle.emit.specs.Book.{labelSize, labelBase, labelIn}
 use Rattle.emit.specs.declared.Emitter as code
 use Rattle.emit.specs.View.{World, world, state, view}
-use Rattle.emit.specs.Steps.{Whole, Did, Ready, Kept, Filled, Begun, run}
+use Rattle.emit.specs.Steps.{Did, Ready, Filled, Begun, run}
 use Rattle.emit.proofs.Tables.{length-rows}
 use Rattle.emit.proofs.Kept.{kept-self, kept-then}
 use Rattle.emit.proofs.Steps.{then, by-step}
@@ -146,19 +146,19 @@ module _ (s : Sheet) where
   run-say c e = bind-ok (act s c e)
 
   -- one walk, and another
-  pub seq : (m k : Calls) {w v u : World} → Did (run s m) w v → Kept v u → Did (run s k) v u → Did (run s (walk._>>_ m k)) w u
-  seq m k a q b = by-step (λ on. run-then m k _) (then a q b)
+  pub seq : (m k : Calls) {w v u : World} → Did (run s m) w v → Did (run s k) v u → Did (run s (walk._>>_ m k)) w u
+  seq m k a b = by-step (λ on. run-then m k _) (then a b)
 
   pub said : (c : Call) {w v : World} → Did (act s c) w v → Did (run s (say c)) w v
   said c a = by-step (λ on. run-say c _) a
 
   -- a new label of the number that code gave it, and the rest
-  pub fresh : (h l : ℕ) (f : ℕ → Calls) {w v u : World} → l ≡ w .e .labels → Did (act s (createLabel h)) w v → Kept v u → Did (run s (f l)) v u → Did (run s (walk._>>=_ (newLabel h) f)) w u
-  fresh h l f {w} is a q b = by-step (λ on. run-label h f (state w) ∙ rw (length-rows labelIn labelBase labelSize (w .book) (w .e .labels), ← is)) (then a q b)
+  pub fresh : (h l : ℕ) (f : ℕ → Calls) {w v u : World} → l ≡ w .e .labels → Did (act s (createLabel h)) w v → Did (run s (f l)) v u → Did (run s (walk._>>=_ (newLabel h) f)) w u
+  fresh h l f {w} is a b = by-step (λ on. run-label h f (state w) ∙ rw (length-rows labelIn labelBase labelSize (w .book) (w .e .labels), ← is)) (then a b)
 
   pub none-done : (w : World) → Did (run s nothing) w w
   unfolding run nothing acts _>>=_
-  none-done w = record { is = λ whole. go (view w) }
+  none-done w = record { is = go (view w) }
     where
       go : (m : Res Emitter) → m ≡ m >>= run s nothing
       go (ok x) = refl
@@ -166,18 +166,18 @@ module _ (s : Sheet) where
 
   -- the same with what is ready for the next step
   pub seq-filled : (m k : Calls) {w v u : World} → Filled (run s m) w v → Filled (run s k) v u → Filled (run s (walk._>>_ m k)) w u
-  seq-filled m k a b = record { ready = b .ready; kept = kept-then (a .kept) (b .kept); did = seq m k (a .did) (b .kept) (b .did) }
+  seq-filled m k a b = record { ready = b .ready; kept = kept-then (a .kept) (b .kept); did = seq m k (a .did) (b .did) }
 
   pub said-filled : (c : Call) {w v : World} → Filled (act s c) w v → Filled (run s (say c)) w v
   said-filled c a = record { ready = a .ready; kept = a .kept; did = said c (a .did) }
 
   pub fresh-filled : (h l : ℕ) (f : ℕ → Calls) {w v u : World} → l ≡ w .e .labels → Filled (act s (createLabel h)) w v → Filled (run s (f l)) v u → Filled (run s (walk._>>=_ (newLabel h) f)) w u
-  fresh-filled h l f is a b = record { ready = b .ready; kept = kept-then (a .kept) (b .kept); did = fresh h l f is (a .did) (b .kept) (b .did) }
+  fresh-filled h l f is a b = record { ready = b .ready; kept = kept-then (a .kept) (b .kept); did = fresh h l f is (a .did) (b .did) }
 
   pub none-filled : (w : World) → Ready w → Filled (run s nothing) w w
   none-filled w r = record { ready = r; kept = kept-self w; did = none-done w }
 
   -- a walk from the first state on: its labels are numbered from 0
-  pub begun-acts : (m : Calls) {p : Pos} {r : code.Emitter} {bytes book pool : List ℕ} {v : World} → Begun p r → Did (run s m) (world r bytes book pool) v → Whole v → view v ≡ acts s (m 0 .1) (emitterAt p)
+  pub begun-acts : (m : Calls) {p : Pos} {r : code.Emitter} {bytes book pool : List ℕ} {v : World} → Begun p r → Did (run s m) (world r bytes book pool) v → view v ≡ acts s (m 0 .1) (emitterAt p)
   unfolding run _>>=_ emitterAt
-  begun-acts m {bytes = bytes} {book = book} {pool = pool} b d whole = d .is whole ∙ ap (λ (x : Res Emitter). x >>= run s m) (b .is bytes book pool)
+  begun-acts m {bytes = bytes} {book = book} {pool = pool} b d = d .is ∙ ap (λ (x : Res Emitter). x >>= run s m) (b .is bytes book pool)

@@ -17,14 +17,12 @@ use Rattle.definition.specs.Emit.{loadConstant, addConstant, refused, act, add,
 use Rattle.emit.specs.declared.Emitter.{Emitter}
 use Rattle.emit.specs.declared.Interned.{Interned}
 use Rattle.emit.specs.declared.Last.the-variants.{Other}
-use Rattle.emit.specs.Pool.{poolSize, shortConstants, constantRows, constantsIn, Held, Appended}
+use Rattle.emit.specs.Pool.{Held, Appended}
 use Rattle.emit.specs.View.{world, state}
 use Rattle.emit.specs.Steps.{Did, Fine, Bare, Pooled, Coded, Filled}
-use Rattle.emit.specs.Parts.{counted, outgrew, Added, Interns}
-use Rattle.emit.proofs.Rows.{no-row}
+use Rattle.emit.specs.Parts.{counted, Added, Interns}
 use Rattle.emit.proofs.Kept.{tails-self, kept-self, kept-then}
-use Rattle.emit.proofs.Steps.{stays, goes, by-step, stops, then, lost, is-refused, count-of}
-use Rattle.emit.proofs.State.{fine-outgrown, kept-outgrown, out-of-rows}
+use Rattle.emit.proofs.Steps.{stays, goes, by-step, stops, then, is-refused, count-of}
 
 -- ---- the lookup
 
@@ -84,7 +82,7 @@ module _ (pool : List ℕ) (n k : ℕ) where
 
 -- ---- a constant in the pool
 
-module _ (k : ℕ) {e : Emitter} {pool : List ℕ} (h : Fine e) (long : Held (e .constants) pool) where
+module _ (k : ℕ) {e : Emitter} {pool : List ℕ} (h : Fine e) (long : Held pool) where
   pub intern-stays : (e .refused ≡ 0 → ⊥) → Interns k e pool (record { emitter = e; index = 0 }) pool
   intern-stays off = record { pooled = record { fine = h; held = long; kept = λ code book. kept-self (world e code book pool); did = λ s code book. stays (act s (addConstant k)) off }; index = λ z. absurd (off z) }
 
@@ -96,7 +94,7 @@ module _ (k : ℕ) {e : Emitter} {pool : List ℕ} (h : Fine e) (long : Held (e 
         fine = h;
         held = long;
         kept = λ code book. kept-self (world e code book pool);
-        did = λ s code book. goes (act s (addConstant k)) (world e code book pool) (world e code book pool) on on (rw (count-of (e .constants) pool long, ← is, lt-ltb _ _ few));
+        did = λ s code book. goes (act s (addConstant k)) (world e code book pool) (world e code book pool) on on (rw (count-of pool h long, ← is, lt-ltb _ _ few));
       };
       index = λ z. is-x ∙ is;
     }
@@ -107,33 +105,21 @@ module _ (k : ℕ) {e : Emitter} {pool : List ℕ} (h : Fine e) (long : Held (e 
       intern-full full b = record {
         pooled = record {
           fine = b .fine;
-          held = b .kept [] [] pool .sized .held long;
+          held = long;
           kept = λ code book. b .kept code book pool;
-          did = λ s code book. stops (act s (addConstant k)) constantsFull 0 code book pool b (rw (count-of (e .constants) pool long, ← is, le-ltb _ _ absent, count-of (e .constants) pool long, le-ltb _ _ full));
+          did = λ s code book. stops (act s (addConstant k)) constantsFull 0 code book pool b (rw (count-of pool h long, ← is, le-ltb _ _ absent, count-of pool h long, le-ltb _ _ full));
         };
         index = λ z. absurd (is-refused b z);
       }
 
-      pub intern-outgrown : {r : Emitter} → e .refused ≡ 0 → e .constants < maxConstants → constantRows (length pool) ≤ e .constants → r ≡ outgrew e → Interns k e pool (record { emitter = r; index = 0 }) pool
-      intern-outgrown {r} on few past out = record {
-        pooled = record {
-          fine = fine-outgrown h on out;
-          held = rw out long;
-          kept = λ code book. kept-outgrown h on out code book pool;
-          did = λ s code book. lost (act s (addConstant k)) (world e code book pool) (world r code book pool) (out-of-rows h on out) (λ b full. no-row poolSize maxConstants shortConstants (length pool) (e .constants) past few full);
-        };
-        index = λ z. absurd (let q = out-of-rows h on out in omega arith);
-      }
-
-      pub intern-more : {pool′ : List ℕ} → e .refused ≡ 0 → e .constants < maxConstants → e .constants < constantRows (length pool) → i ≤ e .constants → Appended (e .constants) k pool pool′
+      pub intern-more : {pool′ : List ℕ} → e .refused ≡ 0 → e .constants < maxConstants → i ≤ e .constants → Appended (e .constants) k pool pool′
           → Interns k e pool (record { emitter = counted e (e .labels) (e .patches) (e .lines) (e .constants + 1); index = x }) pool′
       unfolding act pooled pooledIf demand _>>_ withConstant
-      intern-more {pool′} on few row most a =
-          let count = count-of (e .constants) pool long in
-          let rows = constantRows (length pool) in
-          let here : e .constants < length (constantsIn pool) = rw (length-take-le rows pool (omega (arith, long .fits))) row in
+      intern-more {pool′} on few most a =
+          let count = count-of pool h long in
+          let here : e .constants < length (take maxConstants pool) = rw (length-take-le maxConstants pool (omega (arith, long .size))) few in
           let more : take (e .constants + 1) pool′ ≡ take (e .constants) pool ++ (k ∷ [])
-          = sym (take-take (e .constants + 1) (constantRows (length pool′)) pool′ (rw (a .long) (omega arith))) ∙ rw (a .is, add-one, take-suc-set (constantsIn pool) (e .constants) k here, take-take (e .constants) rows pool (omega arith)) in
+          = sym (take-take (e .constants + 1) maxConstants pool′ (omega arith)) ∙ rw (a .is, add-one, take-suc-set (take maxConstants pool) (e .constants) k here, take-take (e .constants) maxConstants pool (omega arith)) in
           let new : indexOf k (take (e .constants) pool ++ (k ∷ [])) ≡ length (take (e .constants) pool) = index-new (take (e .constants) pool) k (rw (count, ← is) absent) in
           record {
             pooled = record {
@@ -143,9 +129,8 @@ module _ (k : ℕ) {e : Emitter} {pool : List ℕ} (h : Fine e) (long : Held (e 
                 grown = record { size = omega arith; labels = omega arith; patches = omega arith; lines = omega arith; constants = omega arith };
                 code = refl;
                 book = tails-self (counted e (e .labels) (e .patches) (e .lines) (e .constants + 1)) book;
-                pool = rw (a .is) (drop-set-lt (e .constants + 1) (constantsIn pool) (e .constants) k (omega arith));
+                pool = rw (a .is) (drop-set-lt (e .constants + 1) (take maxConstants pool) (e .constants) k (omega arith));
                 sticky = λ z. absurd (z on);
-                sized = record { book = refl; pool = a .long; slots = λ s. record { fits = s .fits; labels = s .labels; patches = s .patches; lines = s .lines }; held = λ s. a .held };
               };
               did = λ s code book. goes (act s (addConstant k)) (world e code book pool) (world (counted e (e .labels) (e .patches) (e .lines) (e .constants + 1)) code book pool′) on on
                   (rw (count, ← is, le-ltb _ _ absent, count, lt-ltb _ _ few, more));
@@ -159,7 +144,7 @@ pub constant-loaded : (s : Sheet) (k : ℕ) {e r : Emitter} {i : Interned} {code
     → Filled (act s (loadConstant k)) (world e code book pool) (world r code′ book′ pool′)
 unfolding act
 constant-loaded s k {i = i} {code = code} {book = book} {pool′ = pool′} p a = record {
-  ready = record { fine = a .coded .fine; room = a .coded .room; slots = a .coded .slots; held = a .coded .kept pool′ .sized .held (p .pooled .held) };
+  ready = record { fine = a .coded .fine; room = a .coded .room; slots = a .coded .slots; held = p .pooled .held };
   kept = kept-then (p .pooled .kept code book) (a .coded .kept pool′);
-  did = then (p .pooled .did s code book) (a .coded .kept pool′) (by-step (λ on. rw (p .index on)) (a .coded .did pool′));
+  did = then (p .pooled .did s code book) (by-step (λ on. rw (p .index on)) (a .coded .did pool′));
 }

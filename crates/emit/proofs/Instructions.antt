@@ -9,7 +9,7 @@ use borrow.Author.Tests.{le-ltb, lt-ltb, le-leb, lt-leb}
 use lib.Dec.{leb}
 use lib.ListN.{length, take, drop}
 use lib.Seq.{sets, length-sets}
-use Rattle.definition.specs.Limits.{maxCode, maxLines, codeFull, linesFull, entrySize}
+use Rattle.definition.specs.Limits.{maxCode, maxLabels, maxBranches, maxLines, codeFull, linesFull, entrySize}
 use Rattle.definition.specs.Res.{Res, ok, refuse, _>>=_, _>>_, demand}
 use Rattle.definition.specs.Tree as tree
 use Rattle.definition.specs.Opcode.{Role, Sheet, CompareOp, Effect, cmpBr, comparisonByte, shift, effect, opcode}
@@ -25,47 +25,36 @@ use Rattle.line_map.proofs.Entries.{length-one}
 use Rattle.emit.specs.declared.Emitter.{Emitter}
 use Rattle.emit.specs.declared.Last.{Last}
 use Rattle.emit.specs.declared.Last.the-variants.{Other, Loaded, Stored}
-use Rattle.emit.specs.Book.{labelSize, patchSize, shortRows, lineRows, labelBase, patchBase, lineBase, bookSize, labelIn, patchIn, row, rows, linesIn}
+use Rattle.emit.specs.Book.{labelSize, patchSize, labelBase, patchBase, lineBase, bookSize, labelIn, patchIn, row, rows, linesIn}
 use Rattle.emit.specs.View.{world, lastView, state}
-use Rattle.emit.specs.Steps.{Step, LastAt, Fine, Slots, Kept, Bare, Coded}
-use Rattle.emit.specs.Parts.{altered, counted, outgrew, lined, prepared, Noted, Prepared, Branched, Added, cmpOperand}
+use Rattle.emit.specs.Steps.{Step, LastAt, Fine, Bare, Coded}
+use Rattle.emit.specs.Parts.{altered, counted, lined, prepared, Noted, Prepared, Branched, Added, cmpOperand}
 use Rattle.emit.proofs.Tables.{pushed-sets, length-rows, rows-more, rows-behind, last-none, last-row, entry-back}
-use Rattle.emit.proofs.Rows.{no-row}
-use Rattle.emit.proofs.Kept.{tails-self, kept-self, kept-then, sized-alike, slots-in, sized-book, sets-tail, line-tails}
-use Rattle.emit.proofs.Steps.{stays, goes, by-step, stops, then, lost, is-refused, size-of}
-use Rattle.emit.proofs.State.{fine-altered, alike, shift-most, fine-outgrown, slots-outgrown, kept-outgrown, out-of-rows}
+use Rattle.emit.proofs.Kept.{tails-self, kept-self, kept-then, sets-tail, line-tails}
+use Rattle.emit.proofs.Steps.{stays, goes, by-step, stops, then, is-refused, size-of}
+use Rattle.emit.proofs.State.{fine-altered, shift-most}
 
 -- ---- the last entry's position
 
 module _ (book : List ℕ) (n : ℕ) (p : Pos) where
   pub stands-nowhere : n ≡ 0 → false ≡ standsAt (posView p) (lastEntry (linesIn book n))
   unfolding standsAt
-  stands-nowhere e = rw (last-none entryIn (lineBase (length book)) entrySize book n e)
+  stands-nowhere e = rw (last-none entryIn lineBase entrySize book n e)
 
-  pub stands-by : {x : code.LineEntry} {b : Bool} → (n ≡ 0 → ⊥) → entryView x ≡ entryIn (row (lineBase (length book)) entrySize book (n - 1)) → b ≡ samePos (posView (x .pos)) (posView p) → b ≡ standsAt (posView p) (lastEntry (linesIn book n))
+  pub stands-by : {x : code.LineEntry} {b : Bool} → (n ≡ 0 → ⊥) → entryView x ≡ entryIn (row lineBase entrySize book (n - 1)) → b ≡ samePos (posView (x .pos)) (posView p) → b ≡ standsAt (posView p) (lastEntry (linesIn book n))
   unfolding standsAt
-  stands-by {x} more is here = rw (last-row entryIn (lineBase (length book)) entrySize book n (omega arith), ← is) here
-
--- ---- a short book has no row left
-
-pub noted-outgrown : (f : Step) {e r : Emitter} {book : List ℕ} → Fine e → Slots e book → e .refused ≡ 0 → r ≡ outgrew e → (length book ≡ bookSize → ⊥) → Noted f e book r book
-noted-outgrown f {e} {r} {book} h slots on out short = record {
-  fine = fine-outgrown h on out;
-  slots = slots-outgrown h on out slots;
-  kept = λ code pool. kept-outgrown h on out code book pool;
-  did = λ code pool room. lost f (world e code book pool) (world r code book pool) (out-of-rows h on out) (λ full p. short full);
-}
+  stands-by {x} more is here = rw (last-row entryIn lineBase entrySize book n (omega arith), ← is) here
 
 -- ---- room and line entry
 
-module _ (n : ℕ) {e : Emitter} {book : List ℕ} (h : Fine e) (slots : Slots e book) where
+module _ (n : ℕ) {e : Emitter} {book : List ℕ} (h : Fine e) (slots : length book ≡ bookSize) where
   pub prepare-stays : (e .refused ≡ 0 → ⊥) → Prepared n e book e book
   prepare-stays off = record { noted = record { fine = h; slots = slots; kept = λ code pool. kept-self (world e code book pool); did = λ code pool room. stays (prepared n) off }; fits = λ z. absurd (off z) }
 
   pub prepare-full : {r : Emitter} → maxCode < e .size + n → Bare (refused (record { number = codeFull; place = 0 })) e r → Prepared n e book r book
   unfolding prepared demand _>>_
   prepare-full full b = record {
-    noted = record { fine = b .fine; slots = b .kept [] book [] .sized .slots slots; kept = λ code pool. b .kept code book pool; did = λ code pool room. stops (prepared n) codeFull 0 code book pool b (rw (size-of code h room, lt-leb _ _ full)) };
+    noted = record { fine = b .fine; slots = slots; kept = λ code pool. b .kept code book pool; did = λ code pool room. stops (prepared n) codeFull 0 code book pool b (rw (size-of code h room, lt-leb _ _ full)) };
     fits = λ z. absurd (is-refused b z);
   }
 
@@ -83,43 +72,32 @@ module _ (n : ℕ) {e : Emitter} {book : List ℕ} (h : Fine e) (slots : Slots e
       prepare-lines full b = record {
         noted = record {
           fine = b .fine;
-          slots = b .kept [] book [] .sized .slots slots;
+          slots = slots;
           kept = λ code pool. b .kept code book pool;
           did = λ code pool room. stops (prepared n) linesFull 0 code book pool b
-              (rw (size-of code h room, le-leb _ _ fits, recorded, ← off, length-rows entryIn (lineBase (length book)) entrySize book (e .lines), le-ltb _ _ full));
+              (rw (size-of code h room, le-leb _ _ fits, recorded, ← off, length-rows entryIn lineBase entrySize book (e .lines), le-ltb _ _ full));
         };
         fits = λ z. absurd (is-refused b z);
       }
 
-      pub prepare-outgrown : {r : Emitter} → e .refused ≡ 0 → e .lines < maxLines → lineRows (length book) ≤ e .lines → r ≡ outgrew e → Prepared n e book r book
-      prepare-outgrown on few past out = record {
-        noted = noted-outgrown (prepared n) h slots on out (λ full. no-row bookSize maxLines shortRows (length book) (e .lines) past few full);
-        fits = λ z. absurd (let q = out-of-rows h on out in omega arith);
-      }
-
-      pub prepare-noted : {book′ : List ℕ} {offset : ℕ} → offset ≡ e .size → e .refused ≡ 0 → e .lines < maxLines → e .lines < lineRows (length book)
-          → book′ ≡ sets book (lineBase (length book) + entrySize * e .lines) (oneEntry (record { offset = offset; pos = posView (e .position) })) → Prepared n e book (counted e (e .labels) (e .patches) (e .lines + 1) (e .constants)) book′
+      pub prepare-noted : {book′ : List ℕ} {offset : ℕ} → offset ≡ e .size → e .refused ≡ 0 → e .lines < maxLines
+          → book′ ≡ sets book (lineBase + entrySize * e .lines) (oneEntry (record { offset = offset; pos = posView (e .position) })) → Prepared n e book (counted e (e .labels) (e .patches) (e .lines + 1) (e .constants)) book′
       unfolding prepared demand _>>_ _>>=_ recorded lined
-      prepare-noted here on few row put =
+      prepare-noted here on few put =
           let x : LineEntry = record { offset = e .size; pos = posView (e .position) } in
           let ns = oneEntry x in
-          let base = lineBase (length book) in
-          let j = base + entrySize * e .lines in
+          let j = lineBase + entrySize * e .lines in
           let put′ = rw here at put in
-          let same = length-sets book j ns in
-          let more : Slots e book → Slots (counted e (e .labels) (e .patches) (e .lines + 1) (e .constants)) (sets book j ns)
-          = λ k. slots-in book same (k .fits) (k .labels) (k .patches) (omega arith) in
           rw put′ (record {
             noted = record {
               fine = record { size = h .size; labels = h .labels; patches = h .patches; lines = omega arith; constants = h .constants; last = h .last; depth = h .depth; deepest = h .deepest; place = h .place };
-              slots = more slots;
+              slots = length-sets book j ns ∙ slots;
               kept = λ code pool. record {
                 grown = record { size = omega arith; labels = omega arith; patches = omega arith; lines = omega arith; constants = omega arith };
                 code = refl;
-                book = line-tails (counted e (e .labels) (e .patches) (e .lines + 1) (e .constants)) ns book (e .lines) (length-one x) row (omega arith);
+                book = line-tails (counted e (e .labels) (e .patches) (e .lines + 1) (e .constants)) ns book (e .lines) (length-one x) few (omega arith);
                 pool = refl;
                 sticky = λ z. absurd (z on);
-                sized = sized-book code book (sets book j ns) pool same more refl;
               };
               did = λ code pool room. goes (prepared n) (world e code book pool) (world (counted e (e .labels) (e .patches) (e .lines + 1) (e .constants)) code (sets book j ns) pool) on on
                   (rw (
@@ -128,13 +106,12 @@ module _ (n : ℕ) {e : Emitter} {book : List ℕ} (h : Fine e) (slots : Slots e
                     recorded,
                     ← off,
                     size-of code h room,
-                    length-rows entryIn (lineBase (length book)) entrySize book (e .lines),
+                    length-rows entryIn lineBase entrySize book (e .lines),
                     lt-ltb _ _ few,
-                    same,
-                    rows-more entryIn base entrySize ns book (e .lines) (length-one x) (omega (arith, slots .fits)),
+                    rows-more entryIn lineBase entrySize ns book (e .lines) (length-one x) (omega arith),
                     entry-back x,
-                    rows-behind labelIn labelBase labelSize ns book (e .labels) j (omega (arith, slots .labels)),
-                    rows-behind patchIn (patchBase (length book)) patchSize ns book (e .patches) j (omega (arith, slots .patches)),
+                    rows-behind labelIn labelBase labelSize ns book (e .labels) j (omega (arith, h .labels)),
+                    rows-behind patchIn patchBase patchSize ns book (e .patches) j (omega (arith, h .patches, h .size)),
                   ));
             };
             fits = λ z. fits;
@@ -178,7 +155,7 @@ module _ (s : Sheet) (r : Role) (operand : List ℕ) (l : Last) (n : ℕ) {e p :
           room = room;
           slots = prep .noted .slots;
           kept = λ pool. prep .noted .kept code pool;
-          did = λ pool. by-step (λ on. add-is s r operand (lastView l) _) (then (prep′ .noted .did code pool room) (kept-self _) (stays _ off));
+          did = λ pool. by-step (λ on. add-is s r operand (lastView l) _) (then (prep′ .noted .did code pool room) (stays _ off));
         };
         branched = λ two z. absurd (off z);
       }
@@ -194,22 +171,19 @@ module _ (s : Sheet) (r : Role) (operand : List ℕ) (l : Last) (n : ℕ) {e p :
       let bytes : take (p .size + k) code′ ≡ take (p .size) code ++ (opcode s r ∷ operand) = pushed-bytes (opcode s r ∷ operand) code code′ (p .size) _ put fits in
       let v = altered p (p .size + k) l (shift (effect r) (p .depth)) (max (p .deepest) (shift (effect r) (p .depth))) in
       let tail : drop (p .size + k) code′ ≡ drop (p .size + k) code = pushed-tail (opcode s r ∷ operand) code code′ (p .size) _ put fits in
-      let written : (pool : List ℕ) → Kept (world p code book′ pool) (world v code′ book′ pool)
-      = λ pool. record {
-        grown = record { size = omega arith; labels = omega arith; patches = omega arith; lines = omega arith; constants = omega arith };
-        code = tail;
-        book = tails-self v book′;
-        pool = refl;
-        sticky = λ z. absurd (z on);
-        sized = sized-alike code code′ book′ pool alike;
-      } in
       record {
         coded = record {
           fine = fine;
           room = ap (λ (t : Store). length (t .cells)) put ∙ length-pushAll (at code (p .size)) (opcode s r ∷ operand) ∙ room;
-          slots = rw is′ (record { fits = prep .noted .slots .fits; labels = prep .noted .slots .labels; patches = prep .noted .slots .patches; lines = prep .noted .slots .lines });
-          kept = λ pool. rw is′ (kept-then (prep .noted .kept code pool) (written pool));
-          did = λ pool. by-step (λ on. add-is s r operand (lastView l) _) (then (prep′ .noted .did code pool room) (rw is′ (written pool))
+          slots = prep .noted .slots;
+          kept = λ pool. rw is′ (kept-then (prep .noted .kept code pool) (record {
+            grown = record { size = omega arith; labels = omega arith; patches = omega arith; lines = omega arith; constants = omega arith };
+            code = tail;
+            book = tails-self v book′;
+            pool = refl;
+            sticky = λ z. absurd (z on);
+          }));
+          did = λ pool. by-step (λ on. add-is s r operand (lastView l) _) (then (prep′ .noted .did code pool room)
               (rw is′ (goes (λ y. ok (added s r operand (lastView l) (y .lineMap) y)) (world p code book′ pool) (world v code′ book′ pool) on on (rw bytes))));
         };
         branched = λ two. rw is′ (λ z. omega (arith, prep .noted .fine .patches));

@@ -7,34 +7,33 @@ use native.Mathlib.Omega.{arith}
 use borrow.Author.Tests.{le-ltb, lt-ltb}
 use lib.ListN.{length, take, set}
 use lib.Seq.{sets, length-sets, set-out}
-use Rattle.definition.specs.Limits.{maxLabels, labelsFull, entrySize}
+use Rattle.definition.specs.Limits.{maxLabels, maxBranches, maxLines, labelsFull, entrySize}
 use Rattle.definition.specs.Res.{Res, ok, refuse, _>>_, demand}
 use Rattle.definition.specs.Emit.{Call, createLabel, bindLabel, refused, act, labelled}
 use Rattle.definition.specs.Lent.{entryIn}
 use Rattle.emit.specs.declared.Emitter.{Emitter}
 use Rattle.emit.specs.declared.Last.the-variants.{Other}
-use Rattle.emit.specs.Book.{labelSize, patchSize, shortRows, labelRows, labelBase, patchBase, lineBase, bookSize, labelIn, patchIn, rows, labelsIn, patchesIn, linesIn}
+use Rattle.emit.specs.Book.{labelSize, patchSize, labelBase, patchBase, lineBase, bookSize, labelIn, patchIn, rows, labelsIn, patchesIn, linesIn}
 use Rattle.emit.specs.View.{world, state}
-use Rattle.emit.specs.Steps.{Fine, Slots, Bare, Booked, Created}
-use Rattle.emit.specs.Parts.{altered, counted, outgrew}
+use Rattle.emit.specs.Steps.{Fine, Bare, Booked, Created}
+use Rattle.emit.specs.Parts.{altered, counted}
 use Rattle.emit.proofs.Tables.{length-rows, rows-more, rows-set, rows-before}
-use Rattle.emit.proofs.Rows.{no-row}
-use Rattle.emit.proofs.Kept.{grown-self, kept-self, kept-bare, slots-in, sized-book, label-tails}
-use Rattle.emit.proofs.Steps.{stays, goes, stops, lost, size-of}
-use Rattle.emit.proofs.State.{fine-altered, alike, fine-outgrown, slots-outgrown, kept-outgrown, out-of-rows}
+use Rattle.emit.proofs.Kept.{grown-self, kept-self, kept-bare, label-tails}
+use Rattle.emit.proofs.Steps.{stays, goes, stops, size-of}
+use Rattle.emit.proofs.State.{fine-altered}
 
 -- a label's row leaves the other tables as they are
-module _ (ns book : List ℕ) (l : ℕ) (long : length ns ≡ labelSize) (few : l < labelRows (length book)) where
+module _ (ns book : List ℕ) (l : ℕ) (long : length ns ≡ labelSize) (few : l < maxLabels) where
   patches-kept : (n : ℕ) → patchesIn (sets book (labelBase + labelSize * l) ns) n ≡ patchesIn book n
-  patches-kept n = rw (length-sets book (labelBase + labelSize * l) ns) (rows-before patchIn (patchBase (length book)) patchSize ns book n (labelBase + labelSize * l) (rw long (omega arith)))
+  patches-kept n = rows-before patchIn patchBase patchSize ns book n (labelBase + labelSize * l) (rw long (omega arith))
 
   lines-kept : (n : ℕ) → linesIn (sets book (labelBase + labelSize * l) ns) n ≡ linesIn book n
-  lines-kept n = rw (length-sets book (labelBase + labelSize * l) ns) (rows-before entryIn (lineBase (length book)) entrySize ns book n (labelBase + labelSize * l) (rw long (omega arith)))
+  lines-kept n = rows-before entryIn lineBase entrySize ns book n (labelBase + labelSize * l) (rw long (omega arith))
 
 fine-bound : {e : Emitter} → Fine e → Fine (altered e (e .size) Other (e .depth) (e .deepest))
 fine-bound {e} h = fine-altered (e .size) Other (e .depth) (e .deepest) h (omega arith) (h .size) tt (h .depth) (h .deepest)
 
-module _ {e : Emitter} {book : List ℕ} {l : ℕ} (h : Fine e) (slots : Slots e book) where
+module _ {e : Emitter} {book : List ℕ} {l : ℕ} (h : Fine e) (slots : length book ≡ bookSize) where
   pub create-stays : l ≡ e .labels → (e .refused ≡ 0 → ⊥) → Created e book e book l
   create-stays is off = record { fine = h; slots = slots; label = is; kept = λ code pool. kept-self (world e code book pool); did = λ s x code pool. stays (act s (createLabel x)) off }
 
@@ -42,50 +41,37 @@ module _ {e : Emitter} {book : List ℕ} {l : ℕ} (h : Fine e) (slots : Slots e
   unfolding act demand _>>_
   create-full is full b = record {
     fine = b .fine;
-    slots = b .kept [] book [] .sized .slots slots;
+    slots = slots;
     label = is;
     kept = λ code pool. b .kept code book pool;
     did = λ s x code pool. stops (act s (createLabel x)) labelsFull 0 code book pool b (rw (length-rows labelIn labelBase labelSize book (e .labels), le-ltb _ _ full));
   }
 
-  pub create-outgrown : {r : Emitter} → l ≡ e .labels → e .refused ≡ 0 → e .labels < maxLabels → labelRows (length book) ≤ e .labels → r ≡ outgrew e → Created e book r book l
-  create-outgrown {r} is on few past out = record {
-    fine = fine-outgrown h on out;
-    slots = slots-outgrown h on out slots;
-    label = is;
-    kept = λ code pool. kept-outgrown h on out code book pool;
-    did = λ s x code pool. lost (act s (createLabel x)) (world e code book pool) (world r code book pool) (out-of-rows h on out) (λ full p. no-row bookSize maxLabels shortRows (length book) (e .labels) past few full);
-  }
-
-  pub create-goes : {book′ : List ℕ} (ns : List ℕ) → length ns ≡ labelSize → labelIn ns ≡ none → l ≡ e .labels → e .refused ≡ 0 → e .labels < maxLabels → e .labels < labelRows (length book)
+  pub create-goes : {book′ : List ℕ} (ns : List ℕ) → length ns ≡ labelSize → labelIn ns ≡ none → l ≡ e .labels → e .refused ≡ 0 → e .labels < maxLabels
       → book′ ≡ sets book (labelBase + labelSize * e .labels) ns → Created e book (counted e (e .labels + 1) (e .patches) (e .lines) (e .constants)) book′ l
   unfolding act demand _>>_ labelled
-  create-goes ns long free is on few row put = rw put (record {
+  create-goes ns long free is on few put = rw put (record {
     fine = record { size = h .size; labels = omega arith; patches = h .patches; lines = h .lines; constants = h .constants; last = h .last; depth = h .depth; deepest = h .deepest; place = h .place };
-    slots = more slots;
+    slots = length-sets book (labelBase + labelSize * e .labels) ns ∙ slots;
     label = is;
     kept = λ code pool. record {
       grown = record { size = omega arith; labels = omega arith; patches = omega arith; lines = omega arith; constants = omega arith };
       code = refl;
-      book = label-tails (counted e (e .labels + 1) (e .patches) (e .lines) (e .constants)) ns book (e .labels) long row (omega arith);
+      book = label-tails (counted e (e .labels + 1) (e .patches) (e .lines) (e .constants)) ns book (e .labels) long few (omega arith);
       pool = refl;
       sticky = λ off. absurd (off on);
-      sized = sized-book code book (sets book (labelBase + labelSize * e .labels) ns) pool (length-sets book (labelBase + labelSize * e .labels) ns) more refl;
     };
     did = λ s x code pool.
         goes (act s (createLabel x)) (world e code book pool) (world (counted e (e .labels + 1) (e .patches) (e .lines) (e .constants)) code (sets book (labelBase + labelSize * e .labels) ns) pool) on on
         (rw (
           length-rows labelIn labelBase labelSize book (e .labels),
           lt-ltb _ _ few,
-          rows-more labelIn labelBase labelSize ns book (e .labels) long (omega (arith, slots .fits)),
+          rows-more labelIn labelBase labelSize ns book (e .labels) long (omega arith),
           free,
-          patches-kept ns book (e .labels) long row (e .patches),
-          lines-kept ns book (e .labels) long row (e .lines),
+          patches-kept ns book (e .labels) long few (e .patches),
+          lines-kept ns book (e .labels) long few (e .lines),
         ));
   })
-    where
-      more : Slots e book → Slots (counted e (e .labels + 1) (e .patches) (e .lines) (e .constants)) (sets book (labelBase + labelSize * e .labels) ns)
-      more k = slots-in book (length-sets book (labelBase + labelSize * e .labels) ns) (k .fits) (omega arith) (k .patches) (k .lines)
 
   pub bind-stays : (e .refused ≡ 0 → ⊥) → Booked (bindLabel l) e book e book
   bind-stays off = record { fine = h; slots = slots; kept = λ code pool. kept-self (world e code book pool); did = λ s code pool room. stays (act s (bindLabel l)) off }
@@ -94,8 +80,8 @@ module _ {e : Emitter} {book : List ℕ} {l : ℕ} (h : Fine e) (slots : Slots e
   unfolding act labelled
   bind-nowhere same is on few = let many : e .labels ≤ l = omega arith in rw is (record {
     fine = fine-bound h;
-    slots = record { fits = slots .fits; labels = slots .labels; patches = slots .patches; lines = slots .lines };
-    kept = λ code pool. kept-bare (grown-self e) alike on code book pool;
+    slots = slots;
+    kept = λ code pool. kept-bare (grown-self e) on code book pool;
     did = λ s code pool room. goes (act s (bindLabel l)) (world e code book pool) (world (altered e (e .size) Other (e .depth) (e .deepest)) code book pool) on on
         (rw (set-out (labelsIn book (e .labels)) l (some (length (take (e .size) code))) (rw (length-rows labelIn labelBase labelSize book (e .labels)) many)));
   })
@@ -106,28 +92,24 @@ module _ {e : Emitter} {book : List ℕ} {l : ℕ} (h : Fine e) (slots : Slots e
   bind-goes ns long is-here is on same below put′ =
       let few : l < e .labels = omega arith in
       let put = rw same at put′ in
-      let row : l < labelRows (length book) = omega (arith, slots .labels) in
-      let same-long = length-sets book (labelBase + labelSize * l) ns in
-      let bound : Slots e book → Slots (altered e (e .size) Other (e .depth) (e .deepest)) (sets book (labelBase + labelSize * l) ns)
-      = λ k. slots-in book same-long (k .fits) (k .labels) (k .patches) (k .lines) in
+      let small : l < maxLabels = omega (arith, h .labels) in
       rw (is, put) (record {
         fine = fine-bound h;
-        slots = bound slots;
+        slots = length-sets book (labelBase + labelSize * l) ns ∙ slots;
         kept = λ code pool. record {
           grown = grown-self e;
           code = refl;
-          book = label-tails (altered e (e .size) Other (e .depth) (e .deepest)) ns book l long row few;
+          book = label-tails (altered e (e .size) Other (e .depth) (e .deepest)) ns book l long small few;
           pool = refl;
           sticky = λ off. absurd (off on);
-          sized = sized-book code book (sets book (labelBase + labelSize * l) ns) pool same-long bound refl;
         };
         did = λ s code pool room. goes (act s (bindLabel l)) (world e code book pool) (world (altered e (e .size) Other (e .depth) (e .deepest)) code (sets book (labelBase + labelSize * l) ns) pool) on on
             (rw (
               size-of code h room,
-              rows-set labelIn labelBase labelSize ns book (e .labels) l few long (omega (arith, slots .labels, slots .fits)),
+              rows-set labelIn labelBase labelSize ns book (e .labels) l few long (omega (arith, h .labels)),
               is-here,
-              patches-kept ns book l long row (e .patches),
-              lines-kept ns book l long row (e .lines),
+              patches-kept ns book l long small (e .patches),
+              lines-kept ns book l long small (e .lines),
             ));
       })
 

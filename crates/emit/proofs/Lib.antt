@@ -1,4 +1,3 @@
-pub mod Rows
 pub mod Tables
 pub mod Kept
 pub mod Steps

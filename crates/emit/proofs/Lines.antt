@@ -6,10 +6,10 @@ use native.Mathlib.Nat.{mul-suc}
 use native.Mathlib.Omega.{arith}
 use lib.ListN.{length, take, drop, length-drop}
 use lib.Seq.{take-add, take-take, length-take-le, drop-drop}
-use Rattle.definition.specs.Limits.{entrySize}
+use Rattle.definition.specs.Limits.{maxLines, entrySize}
 use Rattle.definition.specs.Lent.{entryIn, entryNumbers, entriesOf, oneEntry}
 use Rattle.line_map.proofs.Entries.{in-front, numbers-append, entries-back}
-use Rattle.emit.specs.Book.{lineRows, lineBase, row, rows, linesIn, IsBook}
+use Rattle.emit.specs.Book.{lineBase, bookSize, row, rows, linesIn}
 
 -- the entries of a table as numbers are the table itself
 module _ (base : ℕ) (book : List ℕ) where
@@ -28,18 +28,15 @@ module _ (base : ℕ) (book : List ℕ) where
       drop-both n = drop-drop (entrySize * n) base book
 
 -- as a part of the book
-module _ (book : List ℕ) (n : ℕ) (fits : IsBook book) (few : n ≤ lineRows (length book)) where
-  abbrev base : ℕ
-  base = lineBase (length book)
-
+module _ (book : List ℕ) (n : ℕ) (slots : length book ≡ bookSize) (few : n ≤ maxLines) where
   abbrev part : List ℕ
-  part = take (base + entrySize * n - base) (drop base book)
+  part = take (lineBase + entrySize * n - lineBase) (drop lineBase book)
 
-  size-is : base + entrySize * n - base ≡ entrySize * n
+  size-is : lineBase + entrySize * n - lineBase ≡ entrySize * n
   size-is = omega arith
 
   pub lines-there : entriesOf part ≡ linesIn book n
-  lines-there = rw size-is (ap entriesOf (sym (numbers-rows base book n (omega arith))) ∙ entries-back (linesIn book n))
+  lines-there = rw size-is (ap entriesOf (sym (numbers-rows lineBase book n (omega arith))) ∙ entries-back (linesIn book n))
 
   pub lines-long : length part ≡ entrySize * n
-  lines-long = rw size-is (length-take-le (entrySize * n) (drop base book) (rw (length-drop base book) (omega arith)))
+  lines-long = rw size-is (length-take-le (entrySize * n) (drop lineBase book) (rw (length-drop lineBase book) (omega arith)))

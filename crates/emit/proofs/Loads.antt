@@ -20,14 +20,15 @@ use Rattle.emit.specs.declared.Last.{Last}
 use Rattle.emit.specs.declared.Last.the-variants.{Other, Loaded, Stored}
 use Rattle.emit.specs.declared.load.LoadForm.{LoadForm}
 use Rattle.emit.specs.declared.load.LoadForm.the-variants.{Load, Dup, Fold}
+use Rattle.emit.specs.Book.{bookSize}
 use Rattle.emit.specs.View.{World, world, lastView, state, standing, view}
-use Rattle.emit.specs.Steps.{Step, Whole, Did, LastAt, Fine, Slots, Bare, Coded}
+use Rattle.emit.specs.Steps.{Step, Did, LastAt, Fine, Bare, Coded}
 use Rattle.emit.specs.Load.{loadForm, loadBy, Reading, noReading, readBy, readOr, reading, readingOf, Loads}
 use Rattle.emit.specs.Parts.{altered, Written, Added}
 use Rattle.emit.proofs.Tables.{sets-front}
-use Rattle.emit.proofs.Kept.{tails-self, kept-self, sized-alike, sets-tail}
+use Rattle.emit.proofs.Kept.{tails-self, kept-self, sets-tail}
 use Rattle.emit.proofs.Steps.{stays, goes, stops, size-of}
-use Rattle.emit.proofs.State.{fine-altered, alike}
+use Rattle.emit.proofs.State.{fine-altered}
 use Rattle.emit.proofs.Instructions.{coded-by}
 
 -- ---- a byte put before the last three
@@ -84,7 +85,6 @@ module _ (s : Sheet) {e : Emitter} {code : List ℕ} (h : Fine e) (room : length
           book = tails-self (altered e (e .size + 1) Other (e .depth + 1) m) book;
           pool = refl;
           sticky = λ z. absurd (z on);
-          sized = sized-alike code (sets code i ns) book pool alike;
         };
         did = λ book pool. goes (foldStore s) (world e code book pool) (world (altered e (e .size + 1) Other (e .depth + 1) m) (sets code i ns) book pool) on on
             (rw (size-of code h room, lt-ltb _ _ fits, bytes, front, behind, ← is-b, one, two, is-m));
@@ -143,9 +143,9 @@ folds-three {e} v h is = go (e .last) (h .last) is
 
 -- what was read, from what was done
 read-is : (s : Sheet) (v : ℕ) {w u : World} {q x : Reading} → Did (act s (loadVariable v)) w u → x ≡ readBy (loadForm (lastView (w .e .last)) v) (length (take (w .e .size) (w .code)))
-    → (u .e .refused ≡ 0 → q ≡ x) → ((u .e .refused ≡ 0 → ⊥) → q ≡ noReading) → Whole u → q ≡ readOr (view w >>= reading s v)
+    → (u .e .refused ≡ 0 → q ≡ x) → ((u .e .refused ≡ 0 → ⊥) → q ≡ noReading) → q ≡ readOr (view w >>= reading s v)
 unfolding standing _>>=_ _>>_ reading readOr
-read-is s v {w} {u} {q} {x} d is a b whole = go (w .e .refused) (u .e .refused) (d .is whole) a b
+read-is s v {w} {u} {q} {x} d is a b = go (w .e .refused) (u .e .refused) (d .is) a b
   where
     go : (k m : ℕ) → standing m (u .e .place) (state u) ≡ standing k (w .e .place) (state w) >>= act s (loadVariable v) → (m ≡ 0 → q ≡ x) → ((m ≡ 0 → ⊥) → q ≡ noReading)
         → q ≡ readOr (standing k (w .e .place) (state w) >>= reading s v)
@@ -162,12 +162,11 @@ module _ (s : Sheet) (v : ℕ) (form : LoadForm) {e u : Emitter} {code book code
       let d : Coded (act s (loadVariable v)) e code book u code′ book′ = coded-by (λ pool. load-by s v (state (world e code book pool)) ∙ rw (← is)) c in
       record {
         coded = rw same d;
-        read = λ pool whole. read-is s v (d .did pool) (rw (size-of code h room, is)) good bad (rw same at whole);
-        stopped = λ off. bad (rw same at off);
+        read = λ pool. read-is s v (d .did pool) (rw (size-of code h room, is)) good bad;
       }
 
-pub written-coded : {f : Step} {e r : Emitter} {code book code′ : List ℕ} → Slots e book → Written f e code r code′ → Coded f e code book r code′ book
-written-coded {book = book} slots d = record { fine = d .fine; room = d .room; slots = d .kept book [] .sized .slots slots; kept = λ pool. d .kept book pool; did = λ pool. d .did book pool }
+pub written-coded : {f : Step} {e r : Emitter} {code book code′ : List ℕ} → length book ≡ bookSize → Written f e code r code′ → Coded f e code book r code′ book
+written-coded {book = book} slots d = record { fine = d .fine; room = d .room; slots = slots; kept = λ pool. d .kept book pool; did = λ pool. d .did book pool }
 
 -- the step of each form
 pub load-is : (s : Sheet) (v : ℕ) (x : def.Emitter) → loadBy Load s v x ≡ add s loadVar (le16 v) (def.loaded v) x

@@ -1,5 +1,5 @@
 -- An emitter to begin with; refusal, position and depth.
-use mathlib.Core.Path.{_≡_, refl, ap, sym}
+use mathlib.Core.Path.{_≡_, refl, sym}
 use mathlib.Core.List.{List}
 use Prim.Native.Nat.{ℕ, zero, suc, _+_, _*_, _≤_, _<_, max}
 use native.Mathlib.Omega.{arith}
@@ -15,9 +15,9 @@ use Rattle.emit.specs.declared.Last.{Last}
 use Rattle.emit.specs.declared.Last.the-variants.{Other}
 use Rattle.emit.specs.Book.{rows}
 use Rattle.emit.specs.View.{World, world, state, standing, view}
-use Rattle.emit.specs.Steps.{Step, outgrown, Did, LastAt, maxHeight, Fine, Slots, Kept, Bare, Begun}
-use Rattle.emit.specs.Parts.{altered, stopped, outgrew, placed, counted}
-use Rattle.emit.proofs.Kept.{Alike, grown-self, kept-self, kept-bare}
+use Rattle.emit.specs.Steps.{Step, Did, LastAt, maxHeight, Fine, Bare, Begun}
+use Rattle.emit.specs.Parts.{altered, stopped, placed, counted}
+use Rattle.emit.proofs.Kept.{grown-self, kept-self, kept-bare}
 use Rattle.emit.proofs.Steps.{stays, goes}
 
 -- ---- what stays fine
@@ -35,17 +35,11 @@ shift-most same d = omega arith
 
 -- ---- methods with nothing lent
 
-pub alike : {e : Emitter} {size : ℕ} {last : Last} {depth deepest : ℕ} → Alike e (altered e size last depth deepest)
-alike = record { labels = refl; patches = refl; lines = refl; constants = refl }
-
 pub begins : (p : Pos) → Begun (posView p) (record { size = 0; labels = 0; patches = 0; lines = 0; constants = 0; last = Other; depth = 0; deepest = 0; position = p; refused = 0; place = 0 })
 unfolding standing rows emitterAt
 begins p = record {
   fine = record { size = omega arith; labels = omega arith; patches = omega arith; lines = omega arith; constants = omega arith; last = tt; depth = omega arith; deepest = omega arith; place = λ z. refl };
   is = λ code book pool. refl;
-  slots = λ book fits. record { fits = fits; labels = omega arith; patches = omega arith; lines = omega arith };
-  constants = refl;
-  on = refl;
 }
 
 pub bare-stays : {e : Emitter} (c : Call) → Fine e → (e .refused ≡ 0 → ⊥) → Bare c e e
@@ -55,8 +49,8 @@ pub refuses : {e : Emitter} (n p : ℕ) → Fine e → e .refused ≡ 0 → 0 < 
 unfolding act standing _>>=_
 refuses {e} n p h on more = record {
   fine = record { size = h .size; labels = h .labels; patches = h .patches; lines = h .lines; constants = h .constants; last = h .last; depth = h .depth; deepest = h .deepest; place = λ z. absurd (omega arith) };
-  kept = kept-bare (grown-self e) (record { labels = refl; patches = refl; lines = refl; constants = refl }) on;
-  did = λ s code book pool. record { is = λ whole. rw on (go n (state (world (stopped e n p) code book pool)) more) };
+  kept = kept-bare (grown-self e) on;
+  did = λ s code book pool. record { is = rw on (go n (state (world (stopped e n p) code book pool)) more) };
 }
   where
     go : (n : ℕ) (x : def.Emitter) → 0 < n → standing n p x ≡ refuse n p
@@ -67,7 +61,7 @@ pub resets : {e : Emitter} (d : ℕ) {d′ : ℕ} → Fine e → e .refused ≡ 
 unfolding act settled
 resets {e} d h on is small = rw is (record {
   fine = fine-altered (e .size) (e .last) d (e .deepest) h (omega arith) (h .size) (h .last) (omega arith) (h .deepest);
-  kept = kept-bare (grown-self e) alike on;
+  kept = kept-bare (grown-self e) on;
   did = λ s code book pool. goes (act s (resetStackDepth d)) (world e code book pool) (world (altered e (e .size) (e .last) d (e .deepest)) code book pool) on on refl;
 })
 
@@ -75,21 +69,6 @@ pub places : {e : Emitter} (p : Pos) → Fine e → e .refused ≡ 0 → Bare (s
 unfolding act settled
 places {e} p h on = record {
   fine = record { size = h .size; labels = h .labels; patches = h .patches; lines = h .lines; constants = h .constants; last = h .last; depth = h .depth; deepest = h .deepest; place = h .place };
-  kept = kept-bare (grown-self e) (record { labels = refl; patches = refl; lines = refl; constants = refl }) on;
+  kept = kept-bare (grown-self e) on;
   did = λ s code book pool. goes (act s (setPosition (posView p))) (world e code book pool) (world (placed e p) code book pool) on on refl;
 }
-
--- ---- a short book or pool has no row left
-
-module _ {e r : Emitter} (h : Fine e) (on : e .refused ≡ 0) (is : r ≡ outgrew e) where
-  pub fine-outgrown : Fine r
-  fine-outgrown = rw is (record { size = h .size; labels = h .labels; patches = h .patches; lines = h .lines; constants = h .constants; last = h .last; depth = h .depth; deepest = h .deepest; place = λ z. absurd (omega arith) })
-
-  pub slots-outgrown : {book : List ℕ} → Slots e book → Slots r book
-  slots-outgrown s = rw is (record { fits = s .fits; labels = s .labels; patches = s .patches; lines = s .lines })
-
-  pub kept-outgrown : (code book pool : List ℕ) → Kept (world e code book pool) (world r code book pool)
-  kept-outgrown code book pool = rw is (kept-bare (grown-self e) (record { labels = refl; patches = refl; lines = refl; constants = refl }) on code book pool)
-
-  pub out-of-rows : r .refused ≡ outgrown
-  out-of-rows = ap (λ (x : Emitter). x .refused) is

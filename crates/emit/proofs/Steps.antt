@@ -12,10 +12,10 @@ use Rattle.definition.specs.Tree.{Pos}
 use Rattle.definition.specs.Emit as def
 use Rattle.definition.specs.Emit.{Call, createLabel, refused, act, emitterAt}
 use Rattle.emit.specs.declared.Emitter.{Emitter}
-use Rattle.emit.specs.Book.{bookSize, IsBook}
-use Rattle.emit.specs.Pool.{poolSize, Held}
+use Rattle.emit.specs.Book.{bookSize}
+use Rattle.emit.specs.Pool.{Held}
 use Rattle.emit.specs.View.{World, world, state, standing, view}
-use Rattle.emit.specs.Steps.{Step, outgrown, Whole, Did, Fine, Kept, Ready, Bare, Booked, Created, Pooled, Coded, Filled, Begun}
+use Rattle.emit.specs.Steps.{Step, Did, Fine, Ready, Bare, Booked, Created, Pooled, Coded, Filled, Begun}
 use Rattle.emit.proofs.Kept.{kept-then}
 
 bind-assoc : (m : Res def.Emitter) (f g : Step) → (m >>= f) >>= g ≡ m >>= (λ e. f e >>= g)
@@ -28,7 +28,7 @@ bind-assoc (refuse n p) f g = refl
 -- refused before: nothing changes
 pub stays : (f : Step) {w : World} → (w .e .refused ≡ 0 → ⊥) → Did f w w
 unfolding standing _>>=_
-stays f {w} h = record { is = λ whole. go (w .e .refused) h }
+stays f {w} h = record { is = go (w .e .refused) h }
   where
     go : (n : ℕ) → (n ≡ 0 → ⊥) → standing n (w .e .place) (state w) ≡ standing n (w .e .place) (state w) >>= f
     go zero h = absurd (h refl)
@@ -37,12 +37,12 @@ stays f {w} h = record { is = λ whole. go (w .e .refused) h }
 -- its tests hold: what is left is the state
 pub goes : (f : Step) (w v : World) → w .e .refused ≡ 0 → v .e .refused ≡ 0 → f (state w) ≡ ok (state v) → Did f w v
 unfolding standing _>>=_
-goes f w v on on′ e = record { is = λ whole. rw (on, on′) (sym e) }
+goes f w v on on′ e = record { is = rw (on, on′) (sym e) }
 
 -- it is another step at this state
 pub by-step : {f g : Step} {w v : World} → (w .e .refused ≡ 0 → f (state w) ≡ g (state w)) → Did g w v → Did f w v
 unfolding standing _>>=_
-by-step {f} {g} {w} e d = record { is = λ whole. d .is whole ∙ go (w .e .refused) e }
+by-step {f} {g} {w} e d = record { is = d .is ∙ go (w .e .refused) e }
   where
     go : (n : ℕ) → (n ≡ 0 → f (state w) ≡ g (state w)) → standing n (w .e .place) (state w) >>= g ≡ standing n (w .e .place) (state w) >>= f
     go zero e = sym (e refl)
@@ -59,7 +59,7 @@ stops f n p code book pool b h = by-step (λ on. h) (b .did noSheet code book po
 -- and then it is refused
 pub is-refused : {n p : ℕ} {e r : Emitter} → Bare (refused (record { number = n; place = p })) e r → r .refused ≡ 0 → ⊥
 unfolding act standing _>>=_
-is-refused {n} {p} {e} {r} b z = go (e .refused) (rw z at (b .did noSheet [] [] [] .is (λ out. omega arith)))
+is-refused {n} {p} {e} {r} b z = go (e .refused) (rw z at (b .did noSheet [] [] [] .is))
   where
     w : World
     w = world e [] [] []
@@ -70,30 +70,11 @@ is-refused {n} {p} {e} {r} b z = go (e .refused) (rw z at (b .did noSheet [] [] 
 
 -- ---- steps in turn
 
--- what is whole was so before: a refusal stays
-pub whole-before : {v u : World} → Kept v u → Whole u → Whole v
-whole-before {v} {u} k whole out =
-    let same : u ≡ v = k .sticky (λ z. omega arith) in
-    let full = whole (ap (λ (x : World). x .e .refused) same ∙ out) in
-    (ap (λ (x : World). length (x .book)) (sym same) ∙ full .0, ap (λ (x : World). length (x .pool)) (sym same) ∙ full .1)
-
--- what is not refused is whole
-pub whole-on : (w : World) → w .e .refused ≡ 0 → Whole w
-whole-on w on out = absurd (omega arith)
-
--- and what has lists of full length stays so
-pub whole-full : {w v : World} → Kept w v → length (w .book) ≡ bookSize → length (w .pool) ≡ poolSize → Whole v
-whole-full k b p out = (k .sized .book ∙ b, k .sized .pool ∙ p)
-
-pub then : {f g : Step} {w v u : World} → Did f w v → Kept v u → Did g v u → Did (λ e. f e >>= g) w u
-then {f} {g} {w} p k q = record { is = λ whole. q .is whole ∙ ap (λ (m : Res def.Emitter). m >>= g) (p .is (whole-before k whole)) ∙ bind-assoc (view w) f g }
+pub then : {f g : Step} {w v u : World} → Did f w v → Did g v u → Did (λ e. f e >>= g) w u
+then {f} {g} {w} p q = record { is = q .is ∙ ap (λ (m : Res def.Emitter). m >>= g) (p .is) ∙ bind-assoc (view w) f g }
 
 pub filled-then : {f g : Step} {w v u : World} → Filled f w v → Filled g v u → Filled (λ e. f e >>= g) w u
-filled-then a b = record { ready = b .ready; kept = kept-then (a .kept) (b .kept); did = then (a .did) (b .kept) (b .did) }
-
--- one that outgrew a short book or pool
-pub lost : (f : Step) (w v : World) → v .e .refused ≡ outgrown → (length (v .book) ≡ bookSize → length (v .pool) ≡ poolSize → ⊥) → Did f w v
-lost f w v out short = record { is = λ whole. (let full = whole out in absurd (short (full .0) (full .1))) }
+filled-then a b = record { ready = b .ready; kept = kept-then (a .kept) (b .kept); did = then (a .did) (b .did) }
 
 pub filled-by : {f g : Step} {w v : World} → (w .e .refused ≡ 0 → f (state w) ≡ g (state w)) → Filled g w v → Filled f w v
 filled-by e a = record { ready = a .ready; kept = a .kept; did = by-step e (a .did) }
@@ -102,25 +83,23 @@ filled-by e a = record { ready = a .ready; kept = a .kept; did = by-step e (a .d
 
 module _ {e r : Emitter} {code book pool : List ℕ} (w : Ready (world e code book pool)) where
   pub bare-filled : (s : Sheet) {c : Call} → Bare c e r → Filled (act s c) (world e code book pool) (world r code book pool)
-  bare-filled s b =
-      let k = b .kept code book pool in
-      record { ready = record { fine = b .fine; room = w .room; slots = k .sized .slots (w .slots); held = k .sized .held (w .held) }; kept = k; did = b .did s code book pool }
+  bare-filled s b = record { ready = record { fine = b .fine; room = w .room; slots = w .slots; held = w .held }; kept = b .kept code book pool; did = b .did s code book pool }
 
   pub booked-filled : (s : Sheet) {c : Call} {book′ : List ℕ} → Booked c e book r book′ → Filled (act s c) (world e code book pool) (world r code book′ pool)
-  booked-filled s b = record { ready = record { fine = b .fine; room = w .room; slots = b .slots; held = b .kept code pool .sized .held (w .held) }; kept = b .kept code pool; did = b .did s code pool (w .room) }
+  booked-filled s b = record { ready = record { fine = b .fine; room = w .room; slots = b .slots; held = w .held }; kept = b .kept code pool; did = b .did s code pool (w .room) }
 
   pub created-filled : (s : Sheet) (h : ℕ) {book′ : List ℕ} {l : ℕ} → Created e book r book′ l → Filled (act s (createLabel h)) (world e code book pool) (world r code book′ pool)
-  created-filled s h b = record { ready = record { fine = b .fine; room = w .room; slots = b .slots; held = b .kept code pool .sized .held (w .held) }; kept = b .kept code pool; did = b .did s h code pool }
+  created-filled s h b = record { ready = record { fine = b .fine; room = w .room; slots = b .slots; held = w .held }; kept = b .kept code pool; did = b .did s h code pool }
 
   pub pooled-filled : (s : Sheet) {c : Call} {pool′ : List ℕ} → Pooled c e pool r pool′ → Filled (act s c) (world e code book pool) (world r code book pool′)
-  pooled-filled s b = record { ready = record { fine = b .fine; room = w .room; slots = b .kept code book .sized .slots (w .slots); held = b .held }; kept = b .kept code book; did = b .did s code book }
+  pooled-filled s b = record { ready = record { fine = b .fine; room = w .room; slots = w .slots; held = b .held }; kept = b .kept code book; did = b .did s code book }
 
   pub coded-filled : {f : Step} {code′ book′ : List ℕ} → Coded f e code book r code′ book′ → Filled f (world e code book pool) (world r code′ book′ pool)
-  coded-filled b = record { ready = record { fine = b .fine; room = b .room; slots = b .slots; held = b .kept pool .sized .held (w .held) }; kept = b .kept pool; did = b .did pool }
+  coded-filled b = record { ready = record { fine = b .fine; room = b .room; slots = b .slots; held = w .held }; kept = b .kept pool; did = b .did pool }
 
 -- the first state of a call
-pub begun-ready : {p : Pos} {r : Emitter} {code book pool : List ℕ} → Begun p r → length code ≡ maxCode → IsBook book → Held 0 pool → Ready (world r code book pool)
-begun-ready {book = book} b room slots held = record { fine = b .fine; room = room; slots = b .slots book slots; held = rw (b .constants) held }
+pub begun-ready : {p : Pos} {r : Emitter} {code book pool : List ℕ} → Begun p r → length code ≡ maxCode → length book ≡ bookSize → Held pool → Ready (world r code book pool)
+begun-ready b room slots held = record { fine = b .fine; room = room; slots = slots; held = held }
 
 -- ---- what the view is
 
@@ -149,5 +128,5 @@ patches-fit h = omega (arith, h .patches, h .size)
 pub size-of : {e : Emitter} (code : List ℕ) → Fine e → length code ≡ maxCode → length (take (e .size) code) ≡ e .size
 size-of {e} code h room = length-take-le (e .size) code (omega (arith, h .size))
 
-pub count-of : (n : ℕ) (pool : List ℕ) → Held n pool → length (take n pool) ≡ n
-count-of n pool held = length-take-le n pool (omega (arith, held .counted, held .fits))
+pub count-of : {e : Emitter} (pool : List ℕ) → Fine e → Held pool → length (take (e .constants) pool) ≡ e .constants
+count-of {e} pool h held = length-take-le (e .constants) pool (omega (arith, h .constants, held .size))

@@ -20,8 +20,7 @@ use Rattle.store.proofs.Stores.{push-room}
 use Rattle.line_map.proofs.Entries.{length-one, one-back, in-front}
 use Rattle.line_map.specs.declared.LineEntry as code
 use Rattle.line_map.specs.View.{entryView}
-use Rattle.emit.specs.Book.{labelSize, patchSize, shortRows, bookSize, shortSize, labelBase, labelIn, patchNumbers, patchIn, row, rows, labelsIn, IsBook}
-use Rattle.emit.proofs.Rows.{rows-full, rows-short}
+use Rattle.emit.specs.Book.{labelSize, patchSize, labelBase, patchBase, lineBase, bookSize, labelIn, patchNumbers, patchIn, row, rows, labelsIn, patchesIn, linesIn}
 
 -- ---- numbers put into a list, and its parts
 
@@ -195,18 +194,18 @@ module _ (book : List ℕ) (n : ℕ) where
       let z : getD (row labelBase labelSize book n) 0 0 ≡ getD book (labelBase + labelSize * n) 0 = rw i at (row-number labelBase labelSize book n 0 (omega arith)) in
       rw (labelIn, ne-eqb _ _ (λ q. off (sym z ∙ q)), boundOr0) (sym (row-number labelBase labelSize book n 1 (omega arith)))
 
-  pub patch-read : (base : ℕ) {p : PendingPatch} → p .instructionOffset ≡ getD book (base + patchSize * n) 0 → p .operandDelta ≡ getD book (base + patchSize * n + 1) 0 → p .label ≡ getD book (base + patchSize * n + 2) 0
-      → p ≡ patchIn (row base patchSize book n)
+  pub patch-read : {p : PendingPatch} → p .instructionOffset ≡ getD book (patchBase + patchSize * n) 0 → p .operandDelta ≡ getD book (patchBase + patchSize * n + 1) 0 → p .label ≡ getD book (patchBase + patchSize * n + 2) 0
+      → p ≡ patchIn (row patchBase patchSize book n)
   unfolding patchIn
-  patch-read base {p} a b c =
-      let i : base + patchSize * n + 0 ≡ base + patchSize * n = omega arith in
-      rw (a, b, c, row-number base patchSize book n 0 (omega arith), row-number base patchSize book n 1 (omega arith), row-number base patchSize book n 2 (omega arith), i)
+  patch-read {p} a b c =
+      let i : patchBase + patchSize * n + 0 ≡ patchBase + patchSize * n = omega arith in
+      rw (a, b, c, row-number patchBase patchSize book n 0 (omega arith), row-number patchBase patchSize book n 1 (omega arith), row-number patchBase patchSize book n 2 (omega arith), i)
 
-  pub line-put : (base : ℕ) {book′ : List ℕ} {m : ℕ} (x : LineEntry) → at book′ m ≡ pushAll (at book (base + entrySize * n)) (oneEntry x) → base + entrySize * n + entrySize ≤ length book → book′ ≡ sets book (base + entrySize * n) (oneEntry x)
-  line-put base x e fits = ap (λ (s : Store). s .cells) e ∙ pushed-sets (oneEntry x) book (base + entrySize * n) (rw (length-one x) (omega arith))
+  pub line-put : {book′ : List ℕ} {m : ℕ} (x : LineEntry) → at book′ m ≡ pushAll (at book (lineBase + entrySize * n)) (oneEntry x) → length book ≡ bookSize → n < maxLines → book′ ≡ sets book (lineBase + entrySize * n) (oneEntry x)
+  line-put x e slots few = ap (λ (s : Store). s .cells) e ∙ pushed-sets (oneEntry x) book (lineBase + entrySize * n) (rw (length-one x) (omega arith))
 
-  pub line-read : (base : ℕ) {x : LineEntry} → x ≡ entryIn (drop (base + entrySize * n) book) → base + entrySize * n + entrySize ≤ length book → x ≡ entryIn (row base entrySize book n)
-  line-read base e fits = e ∙ entry-alone (drop (base + entrySize * n) book) (rw (length-drop (base + entrySize * n) book) (omega arith))
+  pub line-read : {x : LineEntry} → x ≡ entryIn (drop (lineBase + entrySize * n) book) → length book ≡ bookSize → n < maxLines → x ≡ entryIn (row lineBase entrySize book n)
+  line-read e slots few = e ∙ entry-alone (drop (lineBase + entrySize * n) book) (rw (length-drop (lineBase + entrySize * n) book) (omega arith))
 
   -- `bound_label`
   pub bound-at : (l : ℕ) {m x : ℕ} → m ≡ l → m < n → x ≡ boundOr0 (labelIn (row labelBase labelSize book m)) → x ≡ boundLabel (labelsIn book n) l
@@ -216,16 +215,3 @@ module _ (book : List ℕ) (n : ℕ) where
   pub bound-none : (l : ℕ) {m : ℕ} → m ≡ l → n ≤ m → _≡_ {A = ℕ} 0 (boundLabel (labelsIn book n) l)
   unfolding boundLabel boundOr0
   bound-none l is many = rw (← is, rows-past labelIn labelBase labelSize book n _ none many)
-
--- ---- books to begin with
-
-pub full-book : (book : List ℕ) → length book ≡ bookSize → IsBook book
-full-book book e =
-    let n = length book in
-    omega (arith, e, rows-full bookSize maxLabels shortRows n e, rows-full bookSize maxBranches shortRows n e, rows-full bookSize maxLines shortRows n e)
-
-pub short-book : (book : List ℕ) → length book ≡ shortSize → IsBook book
-short-book book e =
-    let n = length book in
-    let off : n ≡ bookSize → ⊥ = λ q. omega arith in
-    omega (arith, e, rows-short bookSize maxLabels shortRows n off, rows-short bookSize maxBranches shortRows n off, rows-short bookSize maxLines shortRows n off)

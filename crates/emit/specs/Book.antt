@@ -1,15 +1,14 @@
 -- The book: labels, pending patches and line entries in one lent list of 16-bit numbers, a table each. A table has a base, and rows of one size; all
--- follow from the limits and from the book's length: a short book has fewer rows, and can be outgrown.
-use Prim.Native.Nat.{ℕ, zero, suc, _+_, _*_, _≤_}
+-- follow from the limits.
+use Prim.Native.Nat.{ℕ, zero, suc, _+_, _*_}
 use mathlib.Core.Bool.{true, false}
 use mathlib.Core.Option.{Option, some, none}
 use mathlib.Core.List.{List, [], _∷_, _++_}
 use lib.Dec.{eqb}
-use lib.ListN.{length, take, drop, getD}
+use lib.ListN.{take, drop, getD}
 use Rattle.definition.specs.Limits.{maxLabels, maxBranches, maxLines, entrySize}
 use Rattle.definition.specs.Emit.{PendingPatch, LineEntry}
 use Rattle.definition.specs.Lent.{entryIn}
-use Rattle.emit.specs.Rows.{rowsOf}
 
 -- numbers of a label, and of a patch (those of a line entry: entrySize)
 abbrev pub labelSize : ℕ
@@ -18,43 +17,17 @@ labelSize = 2
 abbrev pub patchSize : ℕ
 patchSize = 3
 
--- rows of each table in a short book
-abbrev pub shortRows : ℕ
-shortRows = 128
-
--- numbers of a book that has all the rows that the limits allow, and of a short one
-abbrev pub bookSize : ℕ
-bookSize = labelSize * maxLabels + patchSize * maxBranches + entrySize * maxLines
-
-abbrev pub shortSize : ℕ
-shortSize = (labelSize + patchSize + entrySize) * shortRows
-
--- rows of the tables in a book of n numbers
-abbrev pub labelRows : ℕ → ℕ
-labelRows n = rowsOf bookSize maxLabels shortRows n
-
-abbrev pub patchRows : ℕ → ℕ
-patchRows n = rowsOf bookSize maxBranches shortRows n
-
-abbrev pub lineRows : ℕ → ℕ
-lineRows n = rowsOf bookSize maxLines shortRows n
-
--- where the tables begin, and the last one ends
 abbrev pub labelBase : ℕ
 labelBase = 0
 
-abbrev pub patchBase : ℕ → ℕ
-patchBase n = labelBase + labelSize * labelRows n
+abbrev pub patchBase : ℕ
+patchBase = labelBase + labelSize * maxLabels
 
-abbrev pub lineBase : ℕ → ℕ
-lineBase n = patchBase n + patchSize * patchRows n
+abbrev pub lineBase : ℕ
+lineBase = patchBase + patchSize * maxBranches
 
-abbrev pub tablesEnd : ℕ → ℕ
-tablesEnd n = lineBase n + entrySize * lineRows n
-
--- a list that the tables lie in
-abbrev pub IsBook : List ℕ → Type 0
-IsBook book = tablesEnd (length book) ≤ length book
+abbrev pub bookSize : ℕ
+bookSize = lineBase + entrySize * maxLines
 
 -- ---- what a row stands for
 
@@ -87,7 +60,7 @@ abbrev pub labelsIn : List ℕ → ℕ → List (Option ℕ)
 labelsIn book n = rows labelIn labelBase labelSize book n
 
 abbrev pub patchesIn : List ℕ → ℕ → List PendingPatch
-patchesIn book n = rows patchIn (patchBase (length book)) patchSize book n
+patchesIn book n = rows patchIn patchBase patchSize book n
 
 abbrev pub linesIn : List ℕ → ℕ → List LineEntry
-linesIn book n = rows entryIn (lineBase (length book)) entrySize book n
+linesIn book n = rows entryIn lineBase entrySize book n

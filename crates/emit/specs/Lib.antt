@@ -1,4 +1,3 @@
-pub mod Rows
 pub mod Book
 pub mod Pool
 pub mod View

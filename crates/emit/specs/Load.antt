@@ -14,7 +14,7 @@ use Rattle.emit.specs.declared.load.Loaded.{Loaded}
 use Rattle.emit.specs.declared.load.LoadForm.{LoadForm}
 use Rattle.emit.specs.declared.load.LoadForm.the-variants.{Load, Dup, Fold}
 use Rattle.emit.specs.View.{world, view}
-use Rattle.emit.specs.Steps.{Step, Whole, Coded}
+use Rattle.emit.specs.Steps.{Step, Coded}
 
 -- how a load of v is emitted, by the last instruction
 unfoldable pub loadForm : def.Last → ℕ → LoadForm
@@ -57,5 +57,4 @@ readingOf r = record { offset = r .offset; dup = r .dup; moved = r .moved }
 -- what `load_variable` answers: the step, and what it did; after a refusal 0 and false
 pub record Loads (s : Sheet) (v : ℕ) (e : Emitter) (code book : List ℕ) (r : Loaded) (code′ book′ : List ℕ) : Type 0 where
   pub coded : Coded (act s (loadVariable v)) e code book (r .emitter) code′ book′
-  pub read : (pool : List ℕ) → Whole (world (r .emitter) code′ book′ pool) → readingOf r ≡ readOr (view (world e code book pool) >>= reading s v)
-  pub stopped : (r .emitter .refused ≡ 0 → ⊥) → readingOf r ≡ noReading
+  pub read : (pool : List ℕ) → readingOf r ≡ readOr (view (world e code book pool) >>= reading s v)

@@ -13,8 +13,9 @@ use Rattle.line_map.specs.declared.Pos.{Pos}
 use Rattle.emit.specs.declared.Emitter.{Emitter}
 use Rattle.emit.specs.declared.Interned.{Interned}
 use Rattle.emit.specs.declared.Last.{Last}
+use Rattle.emit.specs.Book.{bookSize}
 use Rattle.emit.specs.View.{world, lastView}
-use Rattle.emit.specs.Steps.{Step, outgrown, Did, Fine, Slots, Kept, Pooled, Coded}
+use Rattle.emit.specs.Steps.{Step, Did, Fine, Kept, Pooled, Coded}
 
 -- the struct with other size, last instruction and depths
 abbrev pub altered : Emitter → ℕ → Last → ℕ → ℕ → Emitter
@@ -80,10 +81,6 @@ stopped e number place = record {
   place = place;
 }
 
--- its short book has no row left
-abbrev pub outgrew : Emitter → Emitter
-outgrew e = stopped e outgrown 0
-
 -- an emitter with other line entries
 unfoldable pub lined : List LineEntry → def.Emitter → def.Emitter
 lined entries e = record {
@@ -105,7 +102,7 @@ prepared n e = demand (leb (length (e .bytecode) + n) maxCode) codeFull 0 >> (re
 -- a step that changes the book alone
 pub record Noted (f : Step) (e : Emitter) (book : List ℕ) (r : Emitter) (book′ : List ℕ) : Type 0 where
   pub fine : Fine r
-  pub slots : Slots r book′
+  pub slots : length book′ ≡ bookSize
   pub kept : (code pool : List ℕ) → Kept (world e code book pool) (world r code book′ pool)
   pub did : (code pool : List ℕ) → length code ≡ maxCode → Did f (world e code book pool) (world r code book′ pool)
 

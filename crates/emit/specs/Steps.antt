@@ -2,7 +2,7 @@
 use Prim.Native.Nat.{ℕ, _+_, _*_, _≤_, _<_}
 use mathlib.Core.Path.{_≡_}
 use mathlib.Core.List.{List}
-use lib.ListN.{length, drop}
+use lib.ListN.{length, take, drop}
 use Rattle.definition.specs.Limits.{maxCode, maxLabels, maxBranches, maxLines, maxConstants, entrySize}
 use Rattle.definition.specs.Res.{Res, ok, _>>=_}
 use Rattle.definition.specs.Opcode.{Sheet}
@@ -13,24 +13,16 @@ use Rattle.definition.specs.Walk.{Calls}
 use Rattle.emit.specs.declared.Emitter.{Emitter}
 use Rattle.emit.specs.declared.Last.{Last}
 use Rattle.emit.specs.declared.Last.the-variants.{Other, Loaded, Stored}
-use Rattle.emit.specs.Book.{labelSize, patchSize, labelRows, patchRows, lineRows, labelBase, patchBase, lineBase, bookSize, row, IsBook}
-use Rattle.emit.specs.Pool.{poolSize, constantsIn, Held}
+use Rattle.emit.specs.Book.{labelSize, patchSize, labelBase, patchBase, lineBase, bookSize, row}
+use Rattle.emit.specs.Pool.{Held}
 use Rattle.emit.specs.View.{World, world, view}
 
 abbrev pub Step : Type 0
 Step = def.Emitter → Res def.Emitter
 
--- the number of an emitter whose short book or pool had no row left
-abbrev pub outgrown : ℕ
-outgrown = 255
-
--- it is not that number, or book and pool are of full length, which are never outgrown
-abbrev pub Whole : World → Type 0
-Whole w = w .e .refused ≡ outgrown → (length (w .book) ≡ bookSize) × (length (w .pool) ≡ poolSize)
-
--- the step f leads from w to v, and of one that outgrew a short book or pool nothing is said; where w is refused, v is refused alike
+-- the step f leads from w to v; where w is refused, v is refused alike
 pub record Did (f : Step) (w v : World) : Type 0 where
-  pub is : Whole v → view v ≡ view w >>= f
+  pub is : view v ≡ view w >>= f
 
 -- the calls of a walk as one step, its labels numbered from those that there are
 unfoldable pub run : Sheet → Calls → Step
@@ -62,19 +54,12 @@ pub record Fine (e : Emitter) : Type 0 where
   -- a place comes with a refusal
   pub place : e .refused ≡ 0 → e .place ≡ 0
 
--- the book's tables lie in it, with a row for each that is counted
-pub record Slots (e : Emitter) (book : List ℕ) : Type 0 where
-  pub fits : IsBook book
-  pub labels : e .labels ≤ labelRows (length book)
-  pub patches : e .patches ≤ patchRows (length book)
-  pub lines : e .lines ≤ lineRows (length book)
-
--- code is exactly as long as its limit, book and pool have the rows
+-- what is lent is exactly as long as its limit, and what the pool's table says is so
 pub record Ready (w : World) : Type 0 where
   pub fine : Fine (w .e)
   pub room : length (w .code) ≡ maxCode
-  pub slots : Slots (w .e) (w .book)
-  pub held : Held (w .e .constants) (w .pool)
+  pub slots : length (w .book) ≡ bookSize
+  pub held : Held (w .pool)
 
 -- ---- what no state shows
 
@@ -91,25 +76,17 @@ Grown e r = Risen (e .size) (r .size) (e .labels) (r .labels) (e .patches) (r .p
 
 -- the rows of the book's tables past their counts
 pub record Tails (r : Emitter) (book book′ : List ℕ) : Type 0 where
-  pub labels : (i : ℕ) → r .labels ≤ i → i < labelRows (length book) → row labelBase labelSize book′ i ≡ row labelBase labelSize book i
-  pub patches : (i : ℕ) → r .patches ≤ i → i < patchRows (length book) → row (patchBase (length book)) patchSize book′ i ≡ row (patchBase (length book)) patchSize book i
-  pub lines : (i : ℕ) → r .lines ≤ i → i < lineRows (length book) → row (lineBase (length book)) entrySize book′ i ≡ row (lineBase (length book)) entrySize book i
-
--- book and pool stay as long, and have the rows
-pub record Sized (w v : World) : Type 0 where
-  pub book : length (v .book) ≡ length (w .book)
-  pub pool : length (v .pool) ≡ length (w .pool)
-  pub slots : Slots (w .e) (w .book) → Slots (v .e) (v .book)
-  pub held : Held (w .e .constants) (w .pool) → Held (v .e .constants) (v .pool)
+  pub labels : (i : ℕ) → r .labels ≤ i → i < maxLabels → row labelBase labelSize book′ i ≡ row labelBase labelSize book i
+  pub patches : (i : ℕ) → r .patches ≤ i → i < maxBranches → row patchBase patchSize book′ i ≡ row patchBase patchSize book i
+  pub lines : (i : ℕ) → r .lines ≤ i → i < maxLines → row lineBase entrySize book′ i ≡ row lineBase entrySize book i
 
 -- what lies past the counts stays as it is, but for the pool's table; and all of it, once there is a refusal
 pub record Kept (w v : World) : Type 0 where
   pub grown : Grown (w .e) (v .e)
   pub code : drop (v .e .size) (v .code) ≡ drop (v .e .size) (w .code)
   pub book : Tails (v .e) (w .book) (v .book)
-  pub pool : drop (v .e .constants) (constantsIn (v .pool)) ≡ drop (v .e .constants) (constantsIn (w .pool))
+  pub pool : drop (v .e .constants) (take maxConstants (v .pool)) ≡ drop (v .e .constants) (take maxConstants (w .pool))
   pub sticky : (w .e .refused ≡ 0 → ⊥) → v ≡ w
-  pub sized : Sized w v
 
 -- ---- what a method does, by what is lent to it: whatever is not lent stays as it is, whatever that is
 
@@ -122,14 +99,14 @@ pub record Bare (c : Call) (e r : Emitter) : Type 0 where
 -- the book
 pub record Booked (c : Call) (e : Emitter) (book : List ℕ) (r : Emitter) (book′ : List ℕ) : Type 0 where
   pub fine : Fine r
-  pub slots : Slots r book′
+  pub slots : length book′ ≡ bookSize
   pub kept : (code pool : List ℕ) → Kept (world e code book pool) (world r code book′ pool)
   pub did : (s : Sheet) (code pool : List ℕ) → length code ≡ maxCode → Did (act s c) (world e code book pool) (world r code book′ pool)
 
 -- the book, for a new label: its number, whatever height it is to be bound at
 pub record Created (e : Emitter) (book : List ℕ) (r : Emitter) (book′ : List ℕ) (l : ℕ) : Type 0 where
   pub fine : Fine r
-  pub slots : Slots r book′
+  pub slots : length book′ ≡ bookSize
   pub label : l ≡ e .labels
   pub kept : (code pool : List ℕ) → Kept (world e code book pool) (world r code book′ pool)
   pub did : (s : Sheet) (h : ℕ) (code pool : List ℕ) → Did (act s (createLabel h)) (world e code book pool) (world r code book′ pool)
@@ -137,7 +114,7 @@ pub record Created (e : Emitter) (book : List ℕ) (r : Emitter) (book′ : List
 -- the pool
 pub record Pooled (c : Call) (e : Emitter) (pool : List ℕ) (r : Emitter) (pool′ : List ℕ) : Type 0 where
   pub fine : Fine r
-  pub held : Held (r .constants) pool′
+  pub held : Held pool′
   pub kept : (code book : List ℕ) → Kept (world e code book pool) (world r code book pool′)
   pub did : (s : Sheet) (code book : List ℕ) → Did (act s c) (world e code book pool) (world r code book pool′)
 
@@ -145,7 +122,7 @@ pub record Pooled (c : Call) (e : Emitter) (pool : List ℕ) (r : Emitter) (pool
 pub record Coded (f : Step) (e : Emitter) (code book : List ℕ) (r : Emitter) (code′ book′ : List ℕ) : Type 0 where
   pub fine : Fine r
   pub room : length code′ ≡ maxCode
-  pub slots : Slots r book′
+  pub slots : length book′ ≡ bookSize
   pub kept : (pool : List ℕ) → Kept (world e code book pool) (world r code′ book′ pool)
   pub did : (pool : List ℕ) → Did f (world e code book pool) (world r code′ book′ pool)
 
@@ -159,6 +136,3 @@ pub record Filled (f : Step) (w v : World) : Type 0 where
 pub record Begun (p : Pos) (r : Emitter) : Type 0 where
   pub fine : Fine r
   pub is : (code book pool : List ℕ) → view (world r code book pool) ≡ ok (emitterAt p)
-  pub slots : (book : List ℕ) → IsBook book → Slots r book
-  pub constants : r .constants ≡ 0
-  pub on : r .refused ≡ 0

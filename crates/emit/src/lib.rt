@@ -1,8 +1,8 @@
 // The emitter (emit.rs, and the pool of compile.rs): counts, the last instruction, depths, position and refusal by value; its tables are lent.
 //
-// Lent are the code (MAX_CODE bytes), the book (BOOK_SIZE numbers: labels, patches and line entries) and the pool (POOL_SIZE numbers), each exactly as
-// long; or a short book and a short pool, which can be OUTGROWN. A method has only those that its call can change. Its contract names the `act` of the
-// definition's call that it is, in every state: a refusal is sticky, and a refused emitter comes back as it was, with what is lent.
+// Lent are the code (MAX_CODE bytes), the book (BOOK_SIZE numbers: labels, patches and line entries) and the pool (POOL_SIZE constants), each exactly as
+// long. A method has only those that its call can change. Its contract names the `act` of the definition's call that it is, in every state: a refusal is
+// sticky, and a refused emitter comes back as it was, with what is lent.
 ghost use mathlib.Core.Path.{_≡_};
 ghost use Prim.Native.Nat.{_≤_, _<_, _+_, max};
 ghost use mathlib.Core.List.{[]};
@@ -14,12 +14,12 @@ ghost use Rattle.definition.specs.Compile.{boundLabel};
 ghost use Rattle.opcode.specs.View.{roleView, compareView};
 ghost use Rattle.opcode.specs.Table.{sheetIn};
 ghost use Rattle.line_map.specs.View.{posView};
-ghost use Rattle.emit.specs.Book.{labelsIn, linesIn};
+ghost use Rattle.emit.specs.Book.{bookSize, labelsIn, linesIn};
 ghost use Rattle.emit.specs.Pool.{Held};
 ghost use Rattle.emit.specs.View.{world, patchView};
-ghost use Rattle.emit.specs.Steps.{LastAt, Fine, Slots, Ready, Bare, Booked, Created, Pooled, Coded, Filled, Begun};
+ghost use Rattle.emit.specs.Steps.{LastAt, Fine, Ready, Bare, Booked, Created, Pooled, Coded, Filled, Begun};
 ghost use Rattle.emit.specs.Load.{Loads};
-ghost use Rattle.emit.specs.Parts.{altered, outgrew, Noted, Prepared, Written, Branched, Added, cmpOperand, patching, Interns};
+ghost use Rattle.emit.specs.Parts.{altered, Noted, Prepared, Written, Branched, Added, cmpOperand, patching, Interns};
 use crate::load::LoadForm;
 use crate::load::Loaded;
 use crate::patch::PendingPatch;
@@ -42,19 +42,12 @@ pub mod bytes; // bytes.rt: operands, and a byte put before the store that ends 
 pub mod load; // load.rt: how a load is emitted, and what it did
 pub mod patch; // patch.rt: pending patches
 mod pool; // pool.rt: the pool's lookup, and the table behind the constants
-mod short; // short.rt: short books and pools
 
 // A constant's bits. The pool's width is this type.
 pub type Constant = u32;
 
-// Numbers of a pool: the constants, and a table that finds them.
+// Elements of a pool: the constants, and a table that finds them.
 pub const POOL_SIZE: usize = pool::SIZE;
-
-// Those of a short pool.
-pub const SHORT_POOL: usize = pool::SHORT_SIZE;
-
-// The number of an emitter that outgrew a short book or pool. It is no refusal: nothing is said of what was emitted.
-pub const OUTGROWN: u8 = 255;
 
 // Bytes of a store, which a load may fold into.
 const STORE_SIZE: usize = 3;
@@ -155,16 +148,6 @@ impl Emitter {
         e
     }
 
-    // Refused for good, since a short book or pool has no row left.
-    fn outgrow(self) -> Emitter
-        ensures { λ r. ⌜ r ≡ outgrew self ⌝ }
-    {
-        let mut e = self;
-        e.refused = OUTGROWN;
-        e.place = 0;
-        e
-    }
-
     // The position of what is emitted from here on (`set_source_position`).
     pub fn set_position(self, position: Pos) -> Emitter
         requires { ⌜ Fine self ⌝ }
@@ -197,7 +180,7 @@ impl Emitter {
     // A label more, not bound yet (11). Its number is the count before, refused or not.
     pub fn create_label(self, book: &mut [u16]) -> NewLabel
         requires { ⌜ Fine self ⌝ }
-        requires { ⌜ Slots self (now book) ⌝ }
+        requires { ⌜ length (now book) ≡ bookSize ⌝ }
         ensures { λ r. ⌜ Created self (now (book .entry)) (r .emitter) (now (book .exit)) (r .label .0) ⌝ }
     {
         let n = self.labels;
@@ -214,12 +197,6 @@ impl Emitter {
                 label: label,
             };
         }
-        if n >= book::label_rows(book) {
-            return NewLabel {
-                emitter: self.outgrow(),
-                label: label,
-            };
-        }
         book::put_label(book, n, 0, 0);
         let mut e = self;
         e.labels = n + 1;
@@ -232,7 +209,7 @@ impl Emitter {
     // The label is bound to the end of the code, and no load folds across it. One that was never created is bound nowhere.
     pub fn bind_label(self, book: &mut [u16], label: Label) -> Emitter
         requires { ⌜ Fine self ⌝ }
-        requires { ⌜ Slots self (now book) ⌝ }
+        requires { ⌜ length (now book) ≡ bookSize ⌝ }
         ensures { λ r. ⌜ Booked (bindLabel (label .0)) self (now (book .entry)) r (now (book .exit)) ⌝ }
     {
         if self.refused != 0 {
@@ -250,7 +227,7 @@ impl Emitter {
     // Where a label is bound; 0 where it is not (`bound_label`).
     pub fn bound_label(self, book: &[u16], label: Label) -> usize
         requires { ⌜ Fine self ⌝ }
-        requires { ⌜ Slots self (now book) ⌝ }
+        requires { ⌜ length (now book) ≡ bookSize ⌝ }
         ensures { λ r. ⌜ r ≡ boundLabel (labelsIn (now (book .entry)) (self .labels)) (label .0) ⌝ }
     {
         let n = numbers::wide(label.0);
@@ -267,7 +244,7 @@ impl Emitter {
     // Is the last line entry of the position?
     fn stands_here(self, book: &[u16]) -> bool
         requires { ⌜ Fine self ⌝ }
-        requires { ⌜ Slots self (now book) ⌝ }
+        requires { ⌜ length (now book) ≡ bookSize ⌝ }
         ensures { λ r. ⌜ r ≡ standsAt (posView (self .position)) (lastEntry (linesIn (now (book .entry)) (self .lines))) ⌝ }
     {
         if self.lines == 0 {
@@ -282,7 +259,7 @@ impl Emitter {
     // Room for an instruction of so many bytes (10), and its line entry unless the last one is of this position (`record_position_for_next_opcode`, 12).
     fn prepare(self, book: &mut [u16], bytes: usize) -> Emitter
         requires { ⌜ Fine self ⌝ }
-        requires { ⌜ Slots self (now book) ⌝ }
+        requires { ⌜ length (now book) ≡ bookSize ⌝ }
         requires { ⌜ bytes ≤ maxCode ⌝ }
         ensures { λ r. ⌜ Prepared bytes self (now (book .entry)) r (now (book .exit)) ⌝ }
     {
@@ -299,9 +276,6 @@ impl Emitter {
         let n = self.lines;
         if n >= MAX_LINES {
             return self.refuse(LINES_FULL, 0);
-        }
-        if n >= book::line_rows(book) {
-            return self.outgrow();
         }
         let position = self.position;
         let entry = LineEntry {
@@ -332,7 +306,7 @@ impl Emitter {
     fn add_plain(self, sheet: &[u8], code: &mut [u8], book: &mut [u16], role: Role) -> Emitter
         requires { ⌜ Fine self ⌝ }
         requires { ⌜ length (now code) ≡ maxCode ⌝ }
-        requires { ⌜ Slots self (now book) ⌝ }
+        requires { ⌜ length (now book) ≡ bookSize ⌝ }
         ensures { λ r. ⌜ Added (sheetIn (now (sheet .entry))) (roleView role) [] Last.Other self (now (code .entry)) (now (book .entry)) r (now (code .exit)) (now (book .exit)) ⌝ }
     {
         let e = self.prepare(book, 1);
@@ -356,7 +330,7 @@ impl Emitter {
     ) -> Emitter
         requires { ⌜ Fine self ⌝ }
         requires { ⌜ length (now code) ≡ maxCode ⌝ }
-        requires { ⌜ Slots self (now book) ⌝ }
+        requires { ⌜ length (now book) ≡ bookSize ⌝ }
         ensures { λ r. ⌜ Added (sheetIn (now (sheet .entry))) (roleView role) (le16 x) last self (now (code .entry)) (now (book .entry)) r (now (code .exit)) (now (book .exit)) ⌝ }
     {
         let e = self.prepare(book, 3);
@@ -381,7 +355,7 @@ impl Emitter {
     ) -> Emitter
         requires { ⌜ Fine self ⌝ }
         requires { ⌜ length (now code) ≡ maxCode ⌝ }
-        requires { ⌜ Slots self (now book) ⌝ }
+        requires { ⌜ length (now book) ≡ bookSize ⌝ }
         ensures { λ r. ⌜ Added (sheetIn (now (sheet .entry))) cmpBr (cmpOperand (sheetIn (now (sheet .entry))) (compareView op) v index) Last.Other self (now (code .entry)) (now (book .entry)) r (now (code .exit)) (now (book .exit)) ⌝ }
     {
         let e = self.prepare(book, 8);
@@ -398,7 +372,7 @@ impl Emitter {
     pub fn emit_opcode(self, sheet: &[u8], code: &mut [u8], book: &mut [u16], role: Role) -> Emitter
         requires { ⌜ Fine self ⌝ }
         requires { ⌜ length (now code) ≡ maxCode ⌝ }
-        requires { ⌜ Slots self (now book) ⌝ }
+        requires { ⌜ length (now book) ≡ bookSize ⌝ }
         ensures { λ r. ⌜ Coded (act (sheetIn (now (sheet .entry))) (emitOpcode (roleView role))) self (now (code .entry)) (now (book .entry)) r (now (code .exit)) (now (book .exit)) ⌝ }
     {
         self.add_plain(sheet, code, book, role)
@@ -431,7 +405,7 @@ impl Emitter {
     pub fn load_variable(self, sheet: &[u8], code: &mut [u8], book: &mut [u16], v: u16) -> Loaded
         requires { ⌜ Fine self ⌝ }
         requires { ⌜ length (now code) ≡ maxCode ⌝ }
-        requires { ⌜ Slots self (now book) ⌝ }
+        requires { ⌜ length (now book) ≡ bookSize ⌝ }
         ensures { λ r. ⌜ Loads (sheetIn (now (sheet .entry))) v self (now (code .entry)) (now (book .entry)) r (now (code .exit)) (now (book .exit)) ⌝ }
     {
         let size = self.size;
@@ -457,7 +431,7 @@ impl Emitter {
     pub fn store_variable(self, sheet: &[u8], code: &mut [u8], book: &mut [u16], v: u16) -> Emitter
         requires { ⌜ Fine self ⌝ }
         requires { ⌜ length (now code) ≡ maxCode ⌝ }
-        requires { ⌜ Slots self (now book) ⌝ }
+        requires { ⌜ length (now book) ≡ bookSize ⌝ }
         ensures { λ r. ⌜ Coded (act (sheetIn (now (sheet .entry))) (storeVariable v)) self (now (code .entry)) (now (book .entry)) r (now (code .exit)) (now (book .exit)) ⌝ }
     {
         self.add_u16(sheet, code, book, Role::StoreVar, v, Last::Stored(v))
@@ -470,7 +444,7 @@ impl Emitter {
     // Equal constants share an index, new ones are appended (`intern_i32_constant`, 13).
     fn intern_constant(self, pool: &mut [Constant], k: Constant) -> Interned
         requires { ⌜ Fine self ⌝ }
-        requires { ⌜ Held (self .constants) (now pool) ⌝ }
+        requires { ⌜ Held (now pool) ⌝ }
         ensures { λ r. ⌜ Interns k self (now (pool .entry)) r (now (pool .exit)) ⌝ }
     {
         if self.refused != 0 {
@@ -494,12 +468,6 @@ impl Emitter {
                 index: 0,
             };
         }
-        if n >= pool::room(pool) {
-            return Interned {
-                emitter: self.outgrow(),
-                index: 0,
-            };
-        }
         pool::append(pool, n, k);
         let mut e = self;
         e.constants = n + 1;
@@ -512,7 +480,7 @@ impl Emitter {
     // A constant that enters the pool before the instruction that names it.
     pub fn add_constant(self, pool: &mut [Constant], k: Constant) -> Emitter
         requires { ⌜ Fine self ⌝ }
-        requires { ⌜ Held (self .constants) (now pool) ⌝ }
+        requires { ⌜ Held (now pool) ⌝ }
         ensures { λ r. ⌜ Pooled (addConstant k) self (now (pool .entry)) r (now (pool .exit)) ⌝ }
     {
         let interned = self.intern_constant(pool, k);
@@ -543,7 +511,7 @@ impl Emitter {
     // A patch more.
     fn add_patch(self, book: &mut [u16], patch: PendingPatch) -> Emitter
         requires { ⌜ Fine self ⌝ }
-        requires { ⌜ Slots self (now book) ⌝ }
+        requires { ⌜ length (now book) ≡ bookSize ⌝ }
         requires { ⌜ Branched self ⌝ }
         ensures { λ r. ⌜ Noted (patching (patchView patch)) self (now (book .entry)) r (now (book .exit)) ⌝ }
     {
@@ -551,9 +519,6 @@ impl Emitter {
             return self;
         }
         let n = self.patches;
-        if n >= book::patch_rows(book) {
-            return self.outgrow();
-        }
         book::put_patch(book, n, patch);
         let mut e = self;
         e.patches = n + 1;
@@ -571,7 +536,7 @@ impl Emitter {
     ) -> Emitter
         requires { ⌜ Fine self ⌝ }
         requires { ⌜ length (now code) ≡ maxCode ⌝ }
-        requires { ⌜ Slots self (now book) ⌝ }
+        requires { ⌜ length (now book) ≡ bookSize ⌝ }
         requires { ⌜ patch .«instruction_offset» ≡ self .size ⌝ }
         ensures { λ r. ⌜ Coded (branch (sheetIn (now (sheet .entry))) (roleView role) [] (patch .«operand_delta») (patch .label .0)) self (now (code .entry)) (now (book .entry)) r (now (code .exit)) (now (book .exit)) ⌝ }
     {
@@ -582,7 +547,7 @@ impl Emitter {
     pub fn emit_jmp(self, sheet: &[u8], code: &mut [u8], book: &mut [u16], label: Label) -> Emitter
         requires { ⌜ Fine self ⌝ }
         requires { ⌜ length (now code) ≡ maxCode ⌝ }
-        requires { ⌜ Slots self (now book) ⌝ }
+        requires { ⌜ length (now book) ≡ bookSize ⌝ }
         ensures { λ r. ⌜ Coded (act (sheetIn (now (sheet .entry))) (emitJmp (label .0))) self (now (code .entry)) (now (book .entry)) r (now (code .exit)) (now (book .exit)) ⌝ }
     {
         let patch = PendingPatch::jmp(numbers::narrow(self.size), label);
@@ -598,7 +563,7 @@ impl Emitter {
     ) -> Emitter
         requires { ⌜ Fine self ⌝ }
         requires { ⌜ length (now code) ≡ maxCode ⌝ }
-        requires { ⌜ Slots self (now book) ⌝ }
+        requires { ⌜ length (now book) ≡ bookSize ⌝ }
         ensures { λ r. ⌜ Coded (act (sheetIn (now (sheet .entry))) (emitJmpIfNot (label .0))) self (now (code .entry)) (now (book .entry)) r (now (code .exit)) (now (book .exit)) ⌝ }
     {
         let patch = PendingPatch::jmp_if_not(numbers::narrow(self.size), label);

@@ -12,8 +12,9 @@ ghost use Rattle.field.specs.View.{lineEnd};
 ghost use Rattle.opcode.specs.View.{roleView};
 ghost use Rattle.opcode.specs.Table.{sheetIn};
 ghost use Rattle.program.specs.Walk.{cursorOf, Near};
+ghost use Rattle.emit.specs.Book.{bookSize};
 ghost use Rattle.emit.specs.View.{world};
-ghost use Rattle.emit.specs.Steps.{maxHeight, Fine, Slots, Ready};
+ghost use Rattle.emit.specs.Steps.{maxHeight, Fine, Ready};
 ghost use Rattle.expr.specs.Went.{WentExpr, WentTwo, Operated, Behind, emitTwo, boolRole};
 use emit::Constant;
 use emit::Emitter;
@@ -38,7 +39,7 @@ fn bool_role(b: bool) -> Role
 fn operate(w: Walked, sheet: &[u8], code: &mut [u8], book: &mut [u16], role: Role) -> Walked
     requires { ⌜ Fine (w .emitter) ⌝ }
     requires { ⌜ length (now code) ≡ maxCode ⌝ }
-    requires { ⌜ Slots (w .emitter) (now book) ⌝ }
+    requires { ⌜ length (now book) ≡ bookSize ⌝ }
     ensures { λ r. ⌜ Operated (sheetIn (now (sheet .entry))) (roleView role) w (now (code .entry)) (now (book .entry)) r (now (code .exit)) (now (book .exit)) ⌝ }
 {
     let cursor = w.cursor;

@@ -9,9 +9,9 @@ ghost use Rattle.opcode.specs.View.{compareView};
 ghost use Rattle.opcode.specs.Table.{sheetIn};
 ghost use Rattle.program.specs.Walk.{cursorOf, Near};
 ghost use Rattle.program_shape.specs.Shape.{blockAt};
+ghost use Rattle.emit.specs.Book.{bookSize};
 ghost use Rattle.emit.specs.View.{world};
-ghost use Rattle.line_map.specs.View.{posView};
-ghost use Rattle.emit.specs.Steps.{Fine, Slots, Ready, Begun, Booked, Created, Coded, Filled};
+ghost use Rattle.emit.specs.Steps.{Fine, Ready, Booked, Created, Coded, Filled};
 ghost use Rattle.expr.specs.Went.{Went};
 ghost use Rattle.line_run.specs.Run.{entriesIn, kept, over};
 use definition::ENTRY_SIZE;
@@ -44,7 +44,7 @@ struct Followed {
 
 fn create_label(mut e: Lent, book: &mut [u16]) -> Labelled
     requires { ⌜ Fine (e .emitter) ⌝ }
-    requires { ⌜ Slots (e .emitter) (now book) ⌝ }
+    requires { ⌜ length (now book) ≡ bookSize ⌝ }
     ensures { λ r. ⌜ Created (e .emitter) (now (book .entry)) (r .lent .emitter) (now (book .exit)) (r .label .0) ⌝ }
 {
     let label = e.create_label(book);
@@ -56,7 +56,7 @@ fn create_label(mut e: Lent, book: &mut [u16]) -> Labelled
 
 fn bind_label(mut e: Lent, book: &mut [u16], label: Label) -> Lent
     requires { ⌜ Fine (e .emitter) ⌝ }
-    requires { ⌜ Slots (e .emitter) (now book) ⌝ }
+    requires { ⌜ length (now book) ≡ bookSize ⌝ }
     ensures { λ r. ⌜ Booked (bindLabel (label .0)) (e .emitter) (now (book .entry)) (r .emitter) (now (book .exit)) ⌝ }
 {
     e.bind_label(book, label);
@@ -66,7 +66,7 @@ fn bind_label(mut e: Lent, book: &mut [u16], label: Label) -> Lent
 fn load_var(mut e: Lent, sheet: &[u8], code: &mut [u8], book: &mut [u16], v: u16) -> Lent
     requires { ⌜ Fine (e .emitter) ⌝ }
     requires { ⌜ length (now code) ≡ maxCode ⌝ }
-    requires { ⌜ Slots (e .emitter) (now book) ⌝ }
+    requires { ⌜ length (now book) ≡ bookSize ⌝ }
     ensures { λ r. ⌜ Coded (act (sheetIn (now (sheet .entry))) (loadVariable v)) (e .emitter) (now (code .entry)) (now (book .entry)) (r .emitter) (now (code .exit)) (now (book .exit)) ⌝ }
 {
     e.emit_load_var(sheet, code, book, v);
@@ -76,7 +76,7 @@ fn load_var(mut e: Lent, sheet: &[u8], code: &mut [u8], book: &mut [u16], v: u16
 fn store_var(mut e: Lent, sheet: &[u8], code: &mut [u8], book: &mut [u16], v: u16) -> Lent
     requires { ⌜ Fine (e .emitter) ⌝ }
     requires { ⌜ length (now code) ≡ maxCode ⌝ }
-    requires { ⌜ Slots (e .emitter) (now book) ⌝ }
+    requires { ⌜ length (now book) ≡ bookSize ⌝ }
     ensures { λ r. ⌜ Coded (act (sheetIn (now (sheet .entry))) (storeVariable v)) (e .emitter) (now (code .entry)) (now (book .entry)) (r .emitter) (now (code .exit)) (now (book .exit)) ⌝ }
 {
     e.emit_store_var(sheet, code, book, v);
@@ -101,7 +101,7 @@ fn load_constant(
 fn jmp(mut e: Lent, sheet: &[u8], code: &mut [u8], book: &mut [u16], label: Label) -> Lent
     requires { ⌜ Fine (e .emitter) ⌝ }
     requires { ⌜ length (now code) ≡ maxCode ⌝ }
-    requires { ⌜ Slots (e .emitter) (now book) ⌝ }
+    requires { ⌜ length (now book) ≡ bookSize ⌝ }
     ensures { λ r. ⌜ Coded (act (sheetIn (now (sheet .entry))) (emitJmp (label .0))) (e .emitter) (now (code .entry)) (now (book .entry)) (r .emitter) (now (code .exit)) (now (book .exit)) ⌝ }
 {
     e.emit_jmp(sheet, code, book, label);
@@ -183,7 +183,7 @@ fn print_bytes(bytes: &[u8]) {
 fn print_emitted(e: Emitter, code: &[u8], book: &[u16])
     requires { ⌜ Fine e ⌝ }
     requires { ⌜ length (now code) ≡ maxCode ⌝ }
-    requires { ⌜ Slots e (now book) ⌝ }
+    requires { ⌜ length (now book) ≡ bookSize ⌝ }
 {
     print_bytes(&code[..e.size]);
     let mut n = 0;
@@ -196,7 +196,7 @@ fn print_emitted(e: Emitter, code: &[u8], book: &[u16])
 }
 
 fn start() -> Emitter
-    ensures { λ r. ⌜ Begun (posView (record { line = 1; column = 1 })) r ⌝ }
+    ensures { λ r. ⌜ Fine r ⌝ }
 {
     Emitter::new(Pos { line: 1, column: 1 })
 }

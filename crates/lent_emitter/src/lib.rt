@@ -11,8 +11,9 @@ ghost use Rattle.opcode.specs.View.{compareView};
 ghost use Rattle.opcode.specs.Table.{sheetIn};
 ghost use Rattle.program.specs.Walk.{cursorOf, Near};
 ghost use Rattle.program_shape.specs.Shape.{blockAt};
+ghost use Rattle.emit.specs.Book.{bookSize};
 ghost use Rattle.emit.specs.View.{world};
-ghost use Rattle.emit.specs.Steps.{Fine, Slots, Ready, Booked, Created, Coded, Filled};
+ghost use Rattle.emit.specs.Steps.{Fine, Ready, Booked, Created, Coded, Filled};
 ghost use Rattle.expr.specs.Went.{Went};
 use emit::Constant;
 use emit::Emitter;
@@ -30,7 +31,7 @@ impl Lent {
     // A label more (11).
     pub fn create_label(&mut self, book: &mut [u16]) -> Label
         requires { ⌜ Fine (now self .emitter) ⌝ }
-        requires { ⌜ Slots (now self .emitter) (now book) ⌝ }
+        requires { ⌜ length (now book) ≡ bookSize ⌝ }
         ensures { λ r. ⌜ Created (now (self .entry) .emitter) (now (book .entry)) (now (self .exit) .emitter) (now (book .exit)) (r .0) ⌝ }
     {
         let new = self.emitter.create_label(book);
@@ -40,7 +41,7 @@ impl Lent {
 
     pub fn bind_label(&mut self, book: &mut [u16], label: Label)
         requires { ⌜ Fine (now self .emitter) ⌝ }
-        requires { ⌜ Slots (now self .emitter) (now book) ⌝ }
+        requires { ⌜ length (now book) ≡ bookSize ⌝ }
         ensures { λ _. ⌜ Booked (bindLabel (label .0)) (now (self .entry) .emitter) (now (book .entry)) (now (self .exit) .emitter) (now (book .exit)) ⌝ }
     {
         self.emitter = self.emitter.bind_label(book, label);
@@ -53,7 +54,7 @@ impl Lent {
     pub fn emit_load_var(&mut self, sheet: &[u8], code: &mut [u8], book: &mut [u16], variable: u16)
         requires { ⌜ Fine (now self .emitter) ⌝ }
         requires { ⌜ length (now code) ≡ maxCode ⌝ }
-        requires { ⌜ Slots (now self .emitter) (now book) ⌝ }
+        requires { ⌜ length (now book) ≡ bookSize ⌝ }
         ensures { λ _. ⌜ Coded (act (sheetIn (now (sheet .entry))) (loadVariable variable)) (now (self .entry) .emitter) (now (code .entry)) (now (book .entry)) (now (self .exit) .emitter) (now (code .exit)) (now (book .exit)) ⌝ }
     {
         self.emitter = compile_expr::emit_load_var(self.emitter, sheet, code, book, variable);
@@ -62,7 +63,7 @@ impl Lent {
     pub fn emit_store_var(&mut self, sheet: &[u8], code: &mut [u8], book: &mut [u16], variable: u16)
         requires { ⌜ Fine (now self .emitter) ⌝ }
         requires { ⌜ length (now code) ≡ maxCode ⌝ }
-        requires { ⌜ Slots (now self .emitter) (now book) ⌝ }
+        requires { ⌜ length (now book) ≡ bookSize ⌝ }
         ensures { λ _. ⌜ Coded (act (sheetIn (now (sheet .entry))) (storeVariable variable)) (now (self .entry) .emitter) (now (code .entry)) (now (book .entry)) (now (self .exit) .emitter) (now (code .exit)) (now (book .exit)) ⌝ }
     {
         self.emitter = compile_expr::emit_store_var(self.emitter, sheet, code, book, variable);
@@ -90,7 +91,7 @@ impl Lent {
     pub fn emit_jmp(&mut self, sheet: &[u8], code: &mut [u8], book: &mut [u16], label: Label)
         requires { ⌜ Fine (now self .emitter) ⌝ }
         requires { ⌜ length (now code) ≡ maxCode ⌝ }
-        requires { ⌜ Slots (now self .emitter) (now book) ⌝ }
+        requires { ⌜ length (now book) ≡ bookSize ⌝ }
         ensures { λ _. ⌜ Coded (act (sheetIn (now (sheet .entry))) (emitJmp (label .0))) (now (self .entry) .emitter) (now (code .entry)) (now (book .entry)) (now (self .exit) .emitter) (now (code .exit)) (now (book .exit)) ⌝ }
     {
         self.emitter = self.emitter.emit_jmp(sheet, code, book, label);

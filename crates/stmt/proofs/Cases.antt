@@ -5,7 +5,6 @@ use mathlib.Core.List.{List, [], _∷_}
 use Prim.Native.Nat.{ℕ, zero, suc, _+_, _-_, _≤_, _<_}
 use native.Mathlib.Numerals.{sub-one}
 use native.Mathlib.Omega.{arith}
-use lib.ListN.{length}
 use Rattle.definition.specs.Limits.{maxNesting}
 use Rattle.definition.specs.Opcode.{Sheet, CompareOp, Eq, Ge, Le, dup, pop}
 use Rattle.definition.specs.Opcode as role
@@ -119,11 +118,9 @@ module _ (s : Sheet) (ctx : Context) (text : List ℕ) (end : ℕ) where
     pub end-is : armsHere ctx text more (cursorOf here) .1 ≡ armsHere ctx text n c .1
     pub near : Near text (here .at) (here .row)
     pub ready : Ready w
-    pub book : length (w .book) ≡ length (w₀ .book)
-    pub pool : length (w .pool) ≡ length (w₀ .pool)
 
   pub arms-begin : (n : ℕ) (c : Cursor) (w : World) (ls : List ℕ) → Lent text (ctx .variables) ls → Near text (c .at) (c .row) → Ready w → Arming n (cursorOf c) w ls w ls n c
-  arms-begin n c w ls slots near ready = record { did = λ u d. d; marks = refl; loops = refl; slots = slots; end-is = refl; near = near; ready = ready; book = refl; pool = refl }
+  arms-begin n c w ls slots near ready = record { did = λ u d. d; marks = refl; loops = refl; slots = slots; end-is = refl; near = near; ready = ready }
 
 module _ {s : Sheet} {ctx : Context} {text : List ℕ} {end n : ℕ} {c : def.Cursor} {w₀ w : World} {ls₀ ls : List ℕ} {more : ℕ} {here : Cursor} (a : Arming s ctx text end n c w₀ ls₀ w ls more here) where
   pub arms-on : (x y : ℕ) {next here′ : Cursor} {u : World} {ls′ : List ℕ} → lineAt armForms (ctx .left) text (here .at) ≡ is (M x y) → Skipped text (nextLine text (cursorOf here)) next
@@ -143,8 +140,6 @@ module _ {s : Sheet} {ctx : Context} {text : List ℕ} {end n : ℕ} {c : def.Cu
         end-is = rw (r .place .is) (rw b at (a .end-is));
         near = r .place .near;
         ready = r .filled .ready;
-        book = r .filled .kept .sized .book ∙ a .book;
-        pool = r .filled .kept .sized .pool ∙ a .pool;
       }
 
   pub arms-bad : (k : ℕ) {r : Emitter} → lineAt armForms (ctx .left) text (here .at) ≡ not k → 0 < more → Bare (refused (record { number = k; place = here .row })) (w .e) r

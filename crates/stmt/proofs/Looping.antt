@@ -165,7 +165,7 @@ module _ (s : Sheet) (ctx : Context) (text : List ℕ) (i n : ℕ) (q : Cursor) 
       let os = loopsOf (opensIn ls (ctx .inside)) in
       let x₁ = created-on ready s 0 m₁ in
       let x₂ = created-on (x₁ .ready) s 0 m₂ in
-      let y₃ : Ready (world e₃ code b₂ p₃) = record { fine = p .fine; room = ready .room; slots = p .slots b₂ (x₂ .ready .slots); held = p .held } in
+      let y₃ : Ready (world e₃ code b₂ p₃) = record { fine = p .fine; room = ready .room; slots = x₂ .ready .slots; held = p .held } in
       let whole : Filled (run s (repeatBy (classify x) i x head end (continues i blk) (λ o. emitBlock blk o) os)) (world e₂ code b₂ pool) w₆ =
       rw (repeat-parts (classify x) i x head end (continues i blk) (λ o. emitBlock blk o) os) (p .did s code b₂ (walk._>>_ (say (bindLabel head)) (walk._>>_ (loopBody i end (continues i blk) (λ o. emitBlock blk o) os) (branchUnlessBy (classify x) x head))) _ (x₂ .ready) (seq-filled s _ _ (said-filled s _ (booked-on y₃ s f)) (seq-filled s _ _ (b .filled) (filled t)))) in
       record {

@@ -2,7 +2,7 @@
 use mathlib.Core.Path.{_≡_, refl, ap, sym, _∙_}
 use mathlib.Core.Bool.{Bool, true, false}
 use mathlib.Core.Option.{Option, some, none}
-use mathlib.Core.List.{List, []}
+use mathlib.Core.List.{List}
 use Prim.Native.Nat.{ℕ}
 use Rattle.definition.specs.Opcode.{Sheet, ret}
 use Rattle.definition.specs.Tree.{Source, Expr, Pos}
@@ -38,15 +38,15 @@ use Rattle.stmt.proofs.Behind.{lent-behind}
 
 pub unrecorded : (x : Line StmtLine) {e : Emitter} {b : Bool} → b ≡ false → Fine e → Placed b x e e
 unfolding recordedBy
-unrecorded x off h = rw off (record { fine = h; slots = λ book k. k; held = λ pool k. k; did = λ s row code book pool k u y d. d })
+unrecorded x off h = rw off (record { fine = h; did = λ s row code book pool k u y d. d })
 
 pub unplaced : {b : Bool} (n : ℕ) {e : Emitter} → b ≡ true → Fine e → Placed b (not n) e e
 unfolding recordedBy lineSource recordPosition
-unplaced n on h = rw on (record { fine = h; slots = λ book k. k; held = λ pool k. k; did = λ s row code book pool k u y d. seq-filled s _ _ (none-filled s _ y) d })
+unplaced n on h = rw on (record { fine = h; did = λ s row code book pool k u y d. seq-filled s _ _ (none-filled s _ y) d })
 
 pub placed : {b : Bool} (x : Line StmtLine) (p : Pos) {e r : Emitter} → b ≡ true → ((row : ℕ) → lineSource row x ≡ some (record { pos = p; row = row })) → Bare (setPosition p) e r → Placed b x e r
 unfolding recordedBy recordPosition
-placed x p on src d = rw on (record { fine = d .fine; slots = λ book k. d .kept [] book [] .sized .slots k; held = λ pool k. d .kept [] [] pool .sized .held k; did = λ s row code book pool k u y q. rw (src row) (seq-filled s _ _ (said-filled s _ (bare-on y s d)) q) })
+placed x p on src d = rw on (record { fine = d .fine; did = λ s row code book pool k u y q. rw (src row) (seq-filled s _ _ (said-filled s _ (bare-on y s d)) q) })
 
 -- the source of the statement here is its line's
 pub source-here : (x : Line StmtLine) (ctx : Context) (text : List ℕ) (c : def.Cursor) → lineAt (stmtForms (ctx .variables)) (ctx .left) text (c .at) ≡ x → sourceOf (stmtIn ctx text c .0) ≡ lineSource (c .row) x

@@ -15,8 +15,7 @@ use Rattle.definition.specs.Walk.{Calls, _>>=_, _>>_, say, nothing, newLabel}
 use Rattle.definition.specs.Stmt.{Loops, continues, isDone, branchUnless, elsePart, emitStmt, emitBlock, emitRest, emitLoop, recordPosition, sourceOf, shape, emitArms}
 use Rattle.emit.specs.declared.Emitter.{Emitter}
 use Rattle.emit.specs.View.{World, world}
-use Rattle.emit.specs.Pool.{Held}
-use Rattle.emit.specs.Steps.{run, Ready, Fine, Slots, Filled}
+use Rattle.emit.specs.Steps.{run, Ready, Fine, Filled}
 use Rattle.stmt_parts.specs.declared.Context.{Context}
 
 -- ---- statements in order: a nested block records each position, the top does not
@@ -44,8 +43,6 @@ lineSource row (not n) = none
 -- the position of a line was recorded, if it is to be
 pub record Placed (b : Bool) (x : Line def.StmtLine) (e r : Emitter) : Type 0 where
   pub fine : Fine r
-  pub slots : (book : List ℕ) → Slots e book → Slots r book
-  pub held : (pool : List ℕ) → Held (e .constants) pool → Held (r .constants) pool
   pub did : (s : Sheet) (row : ℕ) (code book pool : List ℕ) (k : Calls) (u : World) → Ready (world e code book pool) → Filled (run s k) (world r code book pool) u → Filled (run s (recordedBy b (lineSource row x) k)) (world e code book pool) u
 
 -- ---- statements, each behind its line

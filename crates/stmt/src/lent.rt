@@ -8,7 +8,8 @@ ghost use Rattle.definition.specs.Stmt.{labels, exitOf};
 ghost use Rattle.opcode.specs.Table.{sheetIn};
 ghost use Rattle.program.specs.Walk.{cursorOf, Near, Skipped};
 ghost use Rattle.program_shape.specs.Shape.{Shaped};
-ghost use Rattle.emit.specs.Steps.{Fine, Slots};
+ghost use Rattle.emit.specs.Book.{bookSize};
+ghost use Rattle.emit.specs.Steps.{Fine};
 ghost use Rattle.stmt_parts.specs.Loops.{openAt, opensIn, loopsOf};
 ghost use Rattle.stmt_parts.specs.Parts.{jumpRow, Stepped};
 ghost use Rattle.stmt.specs.Lent.{lentSize, Lent, Opens, Continues, Looked};
@@ -49,7 +50,7 @@ pub fn exit(
     requires { ⌜ Skipped (now text) (nextLine (now text) (cursorOf c)) on ⌝ }
     requires { ⌜ Fine e ⌝ }
     requires { ⌜ length (now code) ≡ maxCode ⌝ }
-    requires { ⌜ Slots e (now book) ⌝ }
+    requires { ⌜ length (now book) ≡ bookSize ⌝ }
     requires { ⌜ length (now loops) ≡ lentSize ⌝ }
     requires { ⌜ inside ≤ maxNesting ⌝ }
     ensures { λ r. ⌜ Stepped (sheetIn (now (sheet .entry))) (jumpRow (c .row) (exitOf (labels i (loopsOf (opensIn (now (loops .entry)) inside))))) (now (text .entry)) (nextLine (now (text .entry)) (cursorOf c)) e (now (code .entry)) (now (book .entry)) r (now (code .exit)) (now (book .exit)) ⌝ }
@@ -74,7 +75,7 @@ pub fn continue_(
     requires { ⌜ Skipped (now text) (nextLine (now text) (cursorOf c)) on ⌝ }
     requires { ⌜ Fine e ⌝ }
     requires { ⌜ length (now code) ≡ maxCode ⌝ }
-    requires { ⌜ Slots e (now book) ⌝ }
+    requires { ⌜ length (now book) ≡ bookSize ⌝ }
     requires { ⌜ length (now loops) ≡ lentSize ⌝ }
     requires { ⌜ inside ≤ maxNesting ⌝ }
     ensures { λ r. ⌜ Continues (sheetIn (now (sheet .entry))) inside i (now (text .entry)) (cursorOf c) e (now (code .entry)) (now (book .entry)) (now (loops .entry)) r (now (code .exit)) (now (book .exit)) (now (loops .exit)) ⌝ }

@@ -12,8 +12,9 @@ ghost use Rattle.opcode.specs.Table.{sheetIn};
 ghost use Rattle.program_line.specs.View.{stmtLine};
 ghost use Rattle.program.specs.Walk.{cursorOf, Near, Behind};
 ghost use Rattle.program_shape.specs.Shape.{blockAt};
+ghost use Rattle.emit.specs.Book.{bookSize};
 ghost use Rattle.emit.specs.View.{world};
-ghost use Rattle.emit.specs.Steps.{Ready, Fine, Slots};
+ghost use Rattle.emit.specs.Steps.{Ready, Fine};
 ghost use Rattle.expr.specs.Went.{Went};
 ghost use Rattle.stmt_parts.specs.Context.{exprIn};
 ghost use Rattle.stmt_parts.specs.Parts.{Stepped};
@@ -202,7 +203,7 @@ fn return_(
     requires { ⌜ Near (now text) (c .at) (c .row) ⌝ }
     requires { ⌜ Fine e ⌝ }
     requires { ⌜ length (now code) ≡ maxCode ⌝ }
-    requires { ⌜ Slots e (now book) ⌝ }
+    requires { ⌜ length (now book) ≡ bookSize ⌝ }
     ensures { λ r. ⌜ Stepped (sheetIn (now (sheet .entry))) (say (emitOpcode ret)) (now (text .entry)) (cursorOf c) e (now (code .entry)) (now (book .entry)) r (now (code .exit)) (now (book .exit)) ⌝ }
 {
     let emitter = e.emit_opcode(sheet, code, book, Role::Ret);

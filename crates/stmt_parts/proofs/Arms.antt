@@ -4,7 +4,6 @@ use mathlib.Core.List.{List, [], _∷_}
 use Prim.Native.Nat.{ℕ, zero, suc, _-_, _≤_, _<_}
 use native.Mathlib.Numerals.{sub-one}
 use native.Mathlib.Omega.{arith}
-use lib.ListN.{length}
 use Rattle.definition.specs.Opcode.{Sheet, CompareOp, Eq, Ge, Le, dup}
 use Rattle.definition.specs.Opcode as role
 use Rattle.definition.specs.Tree.{CaseLabel, value, range}
@@ -95,23 +94,18 @@ pub record Testing (s : Sheet) (left : ℕ) (text : List ℕ) (body fail n : ℕ
   pub left-over : 0 < more
   pub near : Near text (here .at) (here .row)
   pub ready : Ready w
-  pub book : length (w .book) ≡ length (w₀ .book)
-  pub pool : length (w .pool) ≡ length (w₀ .pool)
 
 pub tests : (s : Sheet) (left : ℕ) (text : List ℕ) (body fail n : ℕ) (c : Cursor) (w : World) → Near text (c .at) (c .row) → Ready w → 0 < n → Testing s left text body fail n (cursorOf c) w w n c
-tests s left text body fail n c w near ready h = record { did = λ u d. d; end = refl; left-over = h; near = near; ready = ready; book = refl; pool = refl }
+tests s left text body fail n c w near ready h = record { did = λ u d. d; end = refl; left-over = h; near = near; ready = ready }
 
 module _ {s : Sheet} {left : ℕ} {text : List ℕ} {body fail n : ℕ} {c : def.Cursor} {w₀ w : World} {more : ℕ} {here : Cursor} (t : Testing s left text body fail n c w₀ w more here) where
-  pub tests-on : {u : World} {here′ : Cursor} → Leads s (testJump (labelHere left text (cursorOf here) .0) body) text (labelHere left text (cursorOf here) .1) w u here′ → 1 < more → length (u .book) ≡ length (w .book) → length (u .pool) ≡ length (w .pool)
-      → Testing s left text body fail n c w₀ u (more - 1) here′
-  tests-on r h book pool = record {
+  pub tests-on : {u : World} {here′ : Cursor} → Leads s (testJump (labelHere left text (cursorOf here) .0) body) text (labelHere left text (cursorOf here) .1) w u here′ → 1 < more → Testing s left text body fail n c w₀ u (more - 1) here′
+  tests-on r h = record {
     did = λ u d. t .did u (rw (tests-more left text (cursorOf here) more body fail h) (r .did _ u (rw (r .place .is) at d)));
     end = rw (r .place .is) (sym (labels-end left text (cursorOf here) more h) ∙ t .end);
     left-over = omega arith;
     near = r .place .near;
     ready = r .ready;
-    book = book ∙ t .book;
-    pool = pool ∙ t .pool;
   }
 
   pub tests-end : {u : World} {here′ : Cursor} → more ≤ 1 → Went s (testLabel (labelHere left text (cursorOf here) .0) fail) text (labelHere left text (cursorOf here) .1) w u here′ → Went s (testAll (labelsAt left text n c .0) body fail) text (labelsAt left text n c .1) w₀ u here′
@@ -150,7 +144,7 @@ unfolding armEnd
 arm-ends s next end {code = code} {book = book} {k₁ = k₁} {b₂ = b₂} j b d = record {
   fine = d .fine;
   room = j .room;
-  slots = d .kept k₁ b₂ [] .sized .slots (b .slots);
+  slots = b .slots;
   kept = λ pool. kept-then (j .kept pool) (kept-then (b .kept k₁ pool) (d .kept k₁ b₂ pool));
-  did = λ pool. seq s _ _ (said s _ (j .did pool)) (kept-then (b .kept k₁ pool) (d .kept k₁ b₂ pool)) (seq s _ _ (said s _ (b .did s k₁ pool (j .room))) (d .kept k₁ b₂ pool) (said s _ (d .did s k₁ b₂ pool)));
+  did = λ pool. seq s _ _ (said s _ (j .did pool)) (seq s _ _ (said s _ (b .did s k₁ pool (j .room))) (said s _ (d .did s k₁ b₂ pool)));
 }

@@ -2,7 +2,7 @@
 use mathlib.Core.Path.{_≡_, refl}
 use mathlib.Core.Bool.{Bool, true, false}
 use mathlib.Core.Option.{some}
-use mathlib.Core.List.{List, []}
+use mathlib.Core.List.{List}
 use Prim.Native.Nat.{ℕ, zero, suc, _+_, _-_, _*_, _≤_, _<_}
 use native.Mathlib.Numerals.{sub-one}
 use native.Mathlib.Omega.{arith}
@@ -19,7 +19,8 @@ use Rattle.program.specs.declared.Cursor.{Cursor}
 use Rattle.program.specs.Walk.{Skipped}
 use Rattle.program.proofs.Laws.{line-some}
 use Rattle.emit.specs.declared.Emitter.{Emitter}
-use Rattle.emit.specs.Steps.{run, Fine, Slots, Bare, Booked, Coded}
+use Rattle.emit.specs.Book.{bookSize}
+use Rattle.emit.specs.Steps.{run, Fine, Bare, Booked, Coded}
 use Rattle.emit.proofs.Calls.{said, said-filled, none-filled}
 use Rattle.stmt_parts.specs.Loops.{loopSize, loopsSize, openAt, opensIn, loopsOf, foundAt, Finds}
 use Rattle.stmt_parts.specs.Parts.{jumpRow, Stepped, Continued, BindsNext}
@@ -44,11 +45,11 @@ found-some ls (suc r) h = rw sub-one
 pub coded-run : (s : Sheet) (c : Call) {e r : Emitter} {code book code′ book′ : List ℕ} → Coded (act s c) e code book r code′ book′ → Coded (run s (say c)) e code book r code′ book′
 coded-run s c d = record { fine = d .fine; room = d .room; slots = d .slots; kept = d .kept; did = λ pool. said s c (d .did pool) }
 
-bare-run : (s : Sheet) (c : Call) {e r : Emitter} {code book : List ℕ} → length code ≡ maxCode → Slots e book → Bare c e r → Coded (run s (say c)) e code book r code book
-bare-run s c {code = code} {book = book} room slots d = record { fine = d .fine; room = room; slots = d .kept code book [] .sized .slots slots; kept = λ pool. d .kept code book pool; did = λ pool. said s c (d .did s code book pool) }
+bare-run : (s : Sheet) (c : Call) {e r : Emitter} {code book : List ℕ} → length code ≡ maxCode → length book ≡ bookSize → Bare c e r → Coded (run s (say c)) e code book r code book
+bare-run s c {code = code} {book = book} room slots d = record { fine = d .fine; room = room; slots = slots; kept = λ pool. d .kept code book pool; did = λ pool. said s c (d .did s code book pool) }
 
 module _ (s : Sheet) (inside i : ℕ) (text : List ℕ) (c : def.Cursor) {n : Cursor} (on : Skipped text (nextLine text c) n) (r : ℕ) {e u : Emitter} {code book ls : List ℕ} (f : Finds ls inside i r) where
-  pub exit-none : r ≡ 0 → length code ≡ maxCode → Slots e book → Bare (refused (record { number = noLoop; place = c .row })) e u
+  pub exit-none : r ≡ 0 → length code ≡ maxCode → length book ≡ bookSize → Bare (refused (record { number = noLoop; place = c .row })) e u
       → Stepped s (jumpRow (c .row) (exitOf (labels i (loopsOf (opensIn ls inside))))) text (nextLine text c) e code book (record { cursor = n; emitter = u }) code book
   unfolding foundAt exitOf jumpRow
   exit-none z room slots d = record { place = on; coded = rw (labels-found ls inside i r f, z) (bare-run s _ room slots d) }
@@ -58,7 +59,7 @@ module _ (s : Sheet) (inside i : ℕ) (text : List ℕ) (c : def.Cursor) {n : Cu
   unfolding exitOf jumpRow openAt
   exit-found z is-l d = record { place = on; coded = rw (labels-found ls inside i r f, found-some ls r z, ← is-l) (coded-run s _ d) }
 
-  pub continue-none : r ≡ 0 → length code ≡ maxCode → Slots e book → length ls ≡ loopsSize → Bare (refused (record { number = noLoop; place = c .row })) e u
+  pub continue-none : r ≡ 0 → length code ≡ maxCode → length book ≡ bookSize → length ls ≡ loopsSize → Bare (refused (record { number = noLoop; place = c .row })) e u
       → Continued s inside i text c e code book ls (record { cursor = n; emitter = u }) code book ls
   unfolding foundAt nextOf jumpRow
   continue-none z room slots long d = record {
@@ -82,10 +83,10 @@ module _ (s : Sheet) (inside i : ℕ) (text : List ℕ) (c : def.Cursor) {n : Cu
       }
 
 -- the label of CONTINUEs, bound or not
-pub binds-none : (next : ℕ) {used : Bool} {e : Emitter} {book : List ℕ} → used ≡ false → Fine e → Slots e book → BindsNext used next e book e book
+pub binds-none : (next : ℕ) {used : Bool} {e : Emitter} {book : List ℕ} → used ≡ false → Fine e → length book ≡ bookSize → BindsNext used next e book e book
 unfolding when
-binds-none next z fine slots = rw z (record { fine = fine; slots = slots; held = λ pool h. h; did = λ s code pool y. none-filled s _ y })
+binds-none next z fine slots = rw z (record { fine = fine; slots = slots; did = λ s code pool y. none-filled s _ y })
 
 pub binds-some : (next : ℕ) {used : Bool} {e r : Emitter} {book book′ : List ℕ} → used ≡ true → Booked (bindLabel next) e book r book′ → BindsNext used next e book r book′
 unfolding when
-binds-some next z d = rw z (record { fine = d .fine; slots = d .slots; held = λ pool h. d .kept [] pool .sized .held h; did = λ s code pool y. said-filled s _ (booked-on y s d) })
+binds-some next z d = rw z (record { fine = d .fine; slots = d .slots; did = λ s code pool y. said-filled s _ (booked-on y s d) })

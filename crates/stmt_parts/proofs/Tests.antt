@@ -2,7 +2,7 @@
 use mathlib.Core.Path.{_≡_}
 use mathlib.Core.Bool.{true, false}
 use mathlib.Core.Option.{Option, some, none}
-use mathlib.Core.List.{List, []}
+use mathlib.Core.List.{List}
 use Prim.Native.Nat.{ℕ}
 use lib.ListN.{length}
 use Rattle.definition.specs.Opcode.{Sheet, CompareOp, Add}
@@ -105,8 +105,8 @@ module _ (s : Sheet) (x : Expr) (end : ℕ) where
 
 pub pools : (x : Expr) (f : ClassifiedCmp) {e r : Emitter} {pool pool′ : List ℕ} → some f ≡ classify x → Pooled (addConstant (f .constant)) e pool r pool′ → PoolsFirst (classify x) e pool r pool′
 unfolding poolFirst
-pools x f is-f a = rw (← is-f) (record { fine = a .fine; held = a .held; slots = λ book k. a .kept [] book .sized .slots k; did = λ s code book q u y d. seq-filled s _ _ (said-filled s _ (pooled-on y s a)) d })
+pools x f is-f a = rw (← is-f) (record { fine = a .fine; held = a .held; did = λ s code book q u y d. seq-filled s _ _ (said-filled s _ (pooled-on y s a)) d })
 
-pub pools-none : (x : Expr) {e : Emitter} {pool : List ℕ} → none ≡ classify x → Fine e → Held (e .constants) pool → PoolsFirst (classify x) e pool e pool
+pub pools-none : (x : Expr) {e : Emitter} {pool : List ℕ} → none ≡ classify x → Fine e → Held pool → PoolsFirst (classify x) e pool e pool
 unfolding poolFirst
-pools-none x is-f fine held = rw (← is-f) (record { fine = fine; held = held; slots = λ book k. k; did = λ s code book q u y d. d })
+pools-none x is-f fine held = rw (← is-f) (record { fine = fine; held = held; did = λ s code book q u y d. d })

@@ -21,9 +21,10 @@ use Rattle.definition.specs.Stmt.{labels, nextOf, testLabel, testLabels}
 use Rattle.program.specs.declared.Cursor.{Cursor}
 use Rattle.program.specs.Walk.{Skipped}
 use Rattle.emit.specs.declared.Emitter.{Emitter}
+use Rattle.emit.specs.Book.{bookSize}
 use Rattle.emit.specs.Pool.{Held}
 use Rattle.emit.specs.View.{World, world}
-use Rattle.emit.specs.Steps.{run, Ready, Fine, Slots, Coded, Filled}
+use Rattle.emit.specs.Steps.{run, Ready, Fine, Coded, Filled}
 use Rattle.expr.specs.declared.Walked.{Walked}
 use Rattle.stmt_parts.specs.declared.labels.ArmParts.{ArmParts}
 use Rattle.stmt_parts.specs.Loops.{loopsSize, opensIn, loopsOf, marked}
@@ -96,15 +97,13 @@ poolFirst none k = k
 
 pub record PoolsFirst (o : Option ClassifiedCmp) (e : Emitter) (pool : List ℕ) (r : Emitter) (pool′ : List ℕ) : Type 0 where
   pub fine : Fine r
-  pub held : Held (r .constants) pool′
-  pub slots : (book : List ℕ) → Slots e book → Slots r book
+  pub held : Held pool′
   pub did : (s : Sheet) (code book : List ℕ) (k : Calls) (u : World) → Ready (world e code book pool) → Filled (run s k) (world r code book pool′) u → Filled (run s (poolFirst o k)) (world e code book pool) u
 
 -- the label of a loop's CONTINUEs was bound, if one leads there
 pub record BindsNext (used : Bool) (next : ℕ) (e : Emitter) (book : List ℕ) (r : Emitter) (book′ : List ℕ) : Type 0 where
   pub fine : Fine r
-  pub slots : Slots r book′
-  pub held : (pool : List ℕ) → Held (e .constants) pool → Held (r .constants) pool
+  pub slots : length book′ ≡ bookSize
   pub did : (s : Sheet) (code pool : List ℕ) → Ready (world e code book pool) → Filled (run s (when used (say (bindLabel next)))) (world e code book pool) (world r code book′ pool)
 
 -- ---- CASE

@@ -278,7 +278,7 @@ pub fn pool_first(
 ) -> Emitter
     requires { ⌜ Near (now text) (c .at) (c .row) ⌝ }
     requires { ⌜ Fine e ⌝ }
-    requires { ⌜ Held (e .constants) (now pool) ⌝ }
+    requires { ⌜ Held (now pool) ⌝ }
     ensures { λ r. ⌜ PoolsFirst (classify (exprIn ctx (now (text .entry)) (cursorOf c) .0)) e (now (pool .entry)) r (now (pool .exit)) ⌝ }
 {
     let condition = program_shape::classify(text, ctx.variables, ctx.left, c);

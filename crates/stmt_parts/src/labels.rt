@@ -11,8 +11,9 @@ ghost use Rattle.opcode.specs.Table.{sheetIn};
 ghost use Rattle.opcode.specs.View.{compareView};
 ghost use Rattle.program_line.specs.View.{armLine};
 ghost use Rattle.program.specs.Walk.{cursorOf, Near};
+ghost use Rattle.emit.specs.Book.{bookSize};
 ghost use Rattle.emit.specs.View.{world};
-ghost use Rattle.emit.specs.Steps.{run, Ready, Fine, Slots, Coded, Filled};
+ghost use Rattle.emit.specs.Steps.{run, Ready, Fine, Coded, Filled};
 ghost use Rattle.expr.specs.Went.{Went};
 ghost use Rattle.stmt_parts.specs.Parts.{Leads, armParts, labelHere, testJump, testAll, armTests, armEnd};
 use emit::Constant;
@@ -242,7 +243,7 @@ pub fn close_arm(
 ) -> Emitter
     requires { ⌜ Fine e ⌝ }
     requires { ⌜ length (now code) ≡ maxCode ⌝ }
-    requires { ⌜ Slots e (now book) ⌝ }
+    requires { ⌜ length (now book) ≡ bookSize ⌝ }
     ensures { λ r. ⌜ Coded (run (sheetIn (now (sheet .entry))) (armEnd (next .0) (end .0))) e (now (code .entry)) (now (book .entry)) r (now (code .exit)) (now (book .exit)) ⌝ }
 {
     let j = e.emit_jmp(sheet, code, book, end);

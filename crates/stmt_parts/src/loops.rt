@@ -8,7 +8,8 @@ ghost use Rattle.definition.specs.Program.{nextLine};
 ghost use Rattle.definition.specs.Stmt.{labels, exitOf};
 ghost use Rattle.opcode.specs.Table.{sheetIn};
 ghost use Rattle.program.specs.Walk.{cursorOf, Skipped};
-ghost use Rattle.emit.specs.Steps.{Fine, Slots};
+ghost use Rattle.emit.specs.Book.{bookSize};
+ghost use Rattle.emit.specs.Steps.{Fine};
 ghost use Rattle.stmt_parts.specs.Loops.{loopsSize, openAt, opensIn, loopsOf, Opened, Finds};
 ghost use Rattle.stmt_parts.specs.Parts.{jumpRow, Stepped, Continued, BindsNext};
 use definition::MAX_NESTING;
@@ -69,7 +70,7 @@ pub fn exit(
     requires { ⌜ Skipped (now text) (nextLine (now text) (cursorOf c)) on ⌝ }
     requires { ⌜ Fine e ⌝ }
     requires { ⌜ length (now code) ≡ maxCode ⌝ }
-    requires { ⌜ Slots e (now book) ⌝ }
+    requires { ⌜ length (now book) ≡ bookSize ⌝ }
     requires { ⌜ length (now loops) ≡ loopsSize ⌝ }
     requires { ⌜ inside ≤ maxNesting ⌝ }
     ensures { λ r. ⌜ Stepped (sheetIn (now (sheet .entry))) (jumpRow (c .row) (exitOf (labels i (loopsOf (opensIn (now (loops .entry)) inside))))) (now (text .entry)) (nextLine (now (text .entry)) (cursorOf c)) e (now (code .entry)) (now (book .entry)) r (now (code .exit)) (now (book .exit)) ⌝ }
@@ -108,7 +109,7 @@ pub fn continue_(
     requires { ⌜ Skipped (now text) (nextLine (now text) (cursorOf c)) on ⌝ }
     requires { ⌜ Fine e ⌝ }
     requires { ⌜ length (now code) ≡ maxCode ⌝ }
-    requires { ⌜ Slots e (now book) ⌝ }
+    requires { ⌜ length (now book) ≡ bookSize ⌝ }
     requires { ⌜ length (now loops) ≡ loopsSize ⌝ }
     requires { ⌜ inside ≤ maxNesting ⌝ }
     ensures { λ r. ⌜ Continued (sheetIn (now (sheet .entry))) inside i (now (text .entry)) (cursorOf c) e (now (code .entry)) (now (book .entry)) (now (loops .entry)) r (now (code .exit)) (now (book .exit)) (now (loops .exit)) ⌝ }
@@ -144,7 +145,7 @@ pub fn next_used(loops: &[u16], inside: usize) -> bool
 // The label of a loop's CONTINUEs is bound only if one leads there: binding ends the window in which a load folds.
 pub fn bind_next(e: Emitter, book: &mut [u16], next: Label, used: bool) -> Emitter
     requires { ⌜ Fine e ⌝ }
-    requires { ⌜ Slots e (now book) ⌝ }
+    requires { ⌜ length (now book) ≡ bookSize ⌝ }
     ensures { λ r. ⌜ BindsNext used (next .0) e (now (book .entry)) r (now (book .exit)) ⌝ }
 {
     if used {

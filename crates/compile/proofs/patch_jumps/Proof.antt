@@ -21,8 +21,8 @@ patch-jumps-spec =
     Inv-loop
     μ-loop
     (λ c. patch-begins _ _ _ _ _)  -- loop-holds
-    (λ c κs. (c .before .before .before .before .before .before .pre .1 .0 .fits, omega (arith, c .before .before .before .before .before .before .pre .1 .0 .patches, c .if1 .taken)))  -- patch-at-requires
-    (λ c κs. (c .before .before .before .before .before .before .before .before .pre .0, (c .before .before .before .before .before .before .before .before .pre .1 .0, (omega (arith, c .before .before .before .before .loop .inv .room, c .before .before .before .before .before .before .before .before .pre .1 .1 .0), (each-patch (c .before .before .before .before .before .before .before .before .args .book .now) _ _ (c .before .before .before .before .before .before .before .before .pre .1 .1 .1 .0) (c .before .before .if1 .taken) (c .before .patch-at .ensures), rw (c .before .before .before .before .loop .inv .room) (each-patch (c .before .before .before .before .before .before .before .before .args .book .now) _ _ (c .before .before .before .before .before .before .before .before .pre .1 .1 .1 .1) (c .before .before .if1 .taken) (c .before .patch-at .ensures)))))))  -- patch-jump-requires
+    (λ c κs. (c .before .before .before .before .before .before .pre .1 .0, omega (arith, c .before .before .before .before .before .before .pre .0 .patches, c .before .before .before .before .before .before .pre .0 .size, c .if1 .taken)))  -- patch-at-requires
+    (λ c κs. (c .before .before .before .before .before .before .before .before .pre .0, (c .before .before .before .before .before .before .before .before .pre .1 .0, (omega (arith, c .before .before .before .before .loop .inv .room, c .before .before .before .before .before .before .before .before .pre .1 .1 .0), (each-patch _ _ _ (c .before .before .before .before .before .before .before .before .pre .1 .1 .1 .0) (c .before .before .if1 .taken) (c .before .patch-at .ensures), rw (c .before .before .before .before .loop .inv .room) (each-patch _ _ _ (c .before .before .before .before .before .before .before .before .pre .1 .1 .1 .1) (c .before .before .if1 .taken) (c .before .patch-at .ensures)))))))  -- patch-jump-requires
     (λ c. search needs)  -- add-i
     (λ c. search needs)  -- loop-less
     (λ c. patch-goes-on _ _ _ _ _ (c .before .before .before .before .before .before .before .loop .inv) (c .before .before .before .before .before .if1 .taken) (c .before .before .before .before .patch-at .ensures) (c .before .before .patch-jump .ensures .0) (c .before .before .patch-jump .ensures .1))  -- loop-again

@@ -1,5 +1,4 @@
 -- Made by `answers` from crates/expr/answers/+emit_and_then+emit_expr+emit_or_else+emit_two.txt: edit that file, not this one.
-use mathlib.Core.List.{[]}
 use Prim.Native.Nat.{_+_, _*_, ℕ, _<_}
 use mathlib.Core.Path.{_∙_, ap, refl, sym}
 use native.Mathlib.Omega.{arith}
@@ -114,17 +113,17 @@ pub +emit-and-then+emit-expr+emit-or-else+emit-two-spec : {M : Type 1} → state
     (λ c. c .before .before .before .before .before .before .pre .1 .1 .1 .1 .1 .0)  -- emit-and-then-sub-rest
     (λ c κs. (c .before .before .before .before .before .before .before .pre .1 .1 .0 .fine, c .before .before .before .before .before .before .before .pre .1 .1 .0 .slots))  -- emit-and-then-create-label-requires
     (λ c κs. (c .before .before .before .before .create-label .ensures .fine, c .before .before .before .before .create-label .ensures .slots))  -- emit-and-then-create-label-requires-2
-    (λ c κs. (omega (arith, c .before .before .before .before .before .before .before .before .before .before .before .before .before .before .before .before .before .before .before .pre .0, passed-fewer _ _ (c .before .before .before .before .before .before .before .before .before .before .before .before .before .next-line .ensures) (c .before .before .before .before .before .before .before .before .before .before .before .before .before .before .before .before .before .before .before .pre .1 .1 .1 .1 .0)), (c .before .before .before .before .before .before .before .before .before .before .before .before .before .next-line .ensures .near, (record { fine = c .before .before .before .before .before .before .create-label2 .ensures .fine; room = c .before .before .before .before .before .before .before .before .before .before .before .before .before .before .before .before .before .before .before .pre .1 .1 .0 .room; slots = c .before .before .before .before .before .before .create-label2 .ensures .slots; held = c .before .before .before .before .before .before .create-label2 .ensures .kept [] _ .sized .held (c .before .before .before .before .before .before .before .before .before .before .before .create-label .ensures .kept [] _ .sized .held (c .before .before .before .before .before .before .before .before .before .before .before .before .before .before .before .before .before .before .before .pre .1 .1 .0 .held)) }, omega (arith, c .before .before .before .before .before .before .before .before .before .before .before .before .before .before .before .before .before .before .before .pre .1 .1 .1 .0)))))  -- emit-and-then-emit-expr-requires
+    (λ c κs. (omega (arith, c .before .before .before .before .before .before .before .before .before .before .before .before .before .before .before .before .before .before .before .pre .0, passed-fewer _ _ (c .before .before .before .before .before .before .before .before .before .before .before .before .before .next-line .ensures) (c .before .before .before .before .before .before .before .before .before .before .before .before .before .before .before .before .before .before .before .pre .1 .1 .1 .1 .0)), (c .before .before .before .before .before .before .before .before .before .before .before .before .before .next-line .ensures .near, (record { fine = c .before .before .before .before .before .before .create-label2 .ensures .fine; room = c .before .before .before .before .before .before .before .before .before .before .before .before .before .before .before .before .before .before .before .pre .1 .1 .0 .room; slots = c .before .before .before .before .before .before .create-label2 .ensures .slots; held = c .before .before .before .before .before .before .before .before .before .before .before .before .before .before .before .before .before .before .before .pre .1 .1 .0 .held }, omega (arith, c .before .before .before .before .before .before .before .before .before .before .before .before .before .before .before .before .before .before .before .pre .1 .1 .1 .0)))))  -- emit-and-then-emit-expr-requires
     (λ c κs. (c .before .before .before .before .before .before .before .before .before .before .emit-expr .ensures .ready .fine, (c .before .before .before .before .before .before .before .before .before .before .emit-expr .ensures .ready .room, c .before .before .before .before .before .before .before .before .before .before .emit-expr .ensures .ready .slots)))  -- emit-and-then-emit-jmp-if-not-requires
-    (λ c κs. (omega (arith, c .before .before .before .before .before .before .before .before .before .before .before .before .before .before .before .before .before .before .before .before .before .before .before .before .before .before .before .before .before .before .before .before .before .before .before .before .before .before .pre .0, passed-fewer _ _ (c .before .before .before .before .before .before .before .before .before .before .before .before .before .before .before .before .before .before .before .before .before .before .before .before .before .before .before .before .before .before .before .before .next-line .ensures) (c .before .before .before .before .before .before .before .before .before .before .before .before .before .before .before .before .before .before .before .before .before .before .before .before .before .before .before .before .before .before .before .before .before .before .before .before .before .before .pre .1 .1 .1 .1 .0), read-most _ _ _ _ (c .before .before .before .before .before .before .before .before .before .before .before .before .before .before .before .before .before .before .emit-expr .ensures .is)), (c .before .before .before .before .before .before .before .before .before .before .before .before .before .before .before .before .before .before .emit-expr .ensures .near, (record { fine = c .before .before .before .before .before .before .before .emit-jmp-if-not .ensures .fine; room = c .before .before .before .before .before .before .before .emit-jmp-if-not .ensures .room; slots = c .before .before .before .before .before .before .before .emit-jmp-if-not .ensures .slots; held = c .before .before .before .before .before .before .before .emit-jmp-if-not .ensures .kept _ .sized .held (c .before .before .before .before .before .before .before .before .before .before .before .before .before .before .before .before .before .before .emit-expr .ensures .ready .held) }, omega (arith, c .before .before .before .before .before .before .before .before .before .before .before .before .before .before .before .before .before .before .before .before .before .before .before .before .before .before .before .before .before .before .before .before .before .before .before .before .before .before .pre .1 .1 .1 .0)))))  -- emit-and-then-emit-expr-requires-2
+    (λ c κs. (omega (arith, c .before .before .before .before .before .before .before .before .before .before .before .before .before .before .before .before .before .before .before .before .before .before .before .before .before .before .before .before .before .before .before .before .before .before .before .before .before .before .pre .0, passed-fewer _ _ (c .before .before .before .before .before .before .before .before .before .before .before .before .before .before .before .before .before .before .before .before .before .before .before .before .before .before .before .before .before .before .before .before .next-line .ensures) (c .before .before .before .before .before .before .before .before .before .before .before .before .before .before .before .before .before .before .before .before .before .before .before .before .before .before .before .before .before .before .before .before .before .before .before .before .before .before .pre .1 .1 .1 .1 .0), read-most _ _ _ _ (c .before .before .before .before .before .before .before .before .before .before .before .before .before .before .before .before .before .before .emit-expr .ensures .is)), (c .before .before .before .before .before .before .before .before .before .before .before .before .before .before .before .before .before .before .emit-expr .ensures .near, (record { fine = c .before .before .before .before .before .before .before .emit-jmp-if-not .ensures .fine; room = c .before .before .before .before .before .before .before .emit-jmp-if-not .ensures .room; slots = c .before .before .before .before .before .before .before .emit-jmp-if-not .ensures .slots; held = c .before .before .before .before .before .before .before .before .before .before .before .before .before .before .before .before .before .before .emit-expr .ensures .ready .held }, omega (arith, c .before .before .before .before .before .before .before .before .before .before .before .before .before .before .before .before .before .before .before .before .before .before .before .before .before .before .before .before .before .before .before .before .before .before .before .before .before .before .pre .1 .1 .1 .0)))))  -- emit-and-then-emit-expr-requires-2
     (λ c κs. (c .before .before .before .before .before .before .before .before .before .before .emit-expr2 .ensures .ready .fine, (c .before .before .before .before .before .before .before .before .before .before .emit-expr2 .ensures .ready .room, c .before .before .before .before .before .before .before .before .before .before .emit-expr2 .ensures .ready .slots)))  -- emit-and-then-emit-jmp-requires
     (λ c κs. (c .before .before .before .before .before .emit-jmp .ensures .fine, c .before .before .before .before .before .emit-jmp .ensures .slots))  -- emit-and-then-bind-label-requires
     (λ c κs. c .before .before .bind-label .ensures .fine)  -- emit-and-then-reset-stack-depth-requires
-    (λ c κs. (c .before .before .reset-stack-depth .ensures .fine, (c .before .before .before .before .before .before .before .before .before .before .before .emit-jmp .ensures .room, c .before .before .reset-stack-depth .ensures .kept [] _ [] .sized .slots (c .before .before .before .before .before .bind-label .ensures .slots))))  -- emit-and-then-emit-opcode-requires
+    (λ c κs. (c .before .before .reset-stack-depth .ensures .fine, (c .before .before .before .before .before .before .before .before .before .before .before .emit-jmp .ensures .room, c .before .before .before .before .before .bind-label .ensures .slots)))  -- emit-and-then-emit-opcode-requires
     (λ c κs. (c .before .before .before .before .before .emit-opcode .ensures .fine, c .before .before .before .before .before .emit-opcode .ensures .slots))  -- emit-and-then-bind-label-requires-2
     (λ c. c .before .before .before .before .before .before .before .before .emit-opcode .ensures .room ∙ sym (c .before .before .before .before .before .before .before .before .before .before .before .before .before .before .before .before .before .before .before .before .before .before .before .before .before .before .before .before .before .before .before .before .before .before .before .before .before .before .before .before .before .before .before .before .before .before .before .before .before .before .before .before .before .before .before .before .before .before .before .before .before .before .before .before .before .before .before .before .before .before .pre .1 .1 .0 .room))  -- emit-and-then-same-length
-    (λ c. c .before .before .bind-label2 .kept .1 .0 ∙ (c .before .before .before .before .before .before .before .before .emit-opcode) .kept .1 .1 .1 .0 ∙ (c .before .before .before .before .before .before .before .before .before .before .before .before .before .before .bind-label) .kept .1 .0 ∙ (c .before .before .before .before .before .before .before .before .before .before .before .before .before .before .before .before .before .before .before .before .emit-jmp) .kept .1 .1 .1 .0 ∙ (c .before .before .before .before .before .before .before .before .before .before .before .before .before .before .before .before .before .before .before .before .before .before .before .before .before .before .before .before .before .before .before .emit-expr2) .kept .1 .1 .1 .0 ∙ (c .before .before .before .before .before .before .before .before .before .before .before .before .before .before .before .before .before .before .before .before .before .before .before .before .before .before .before .before .before .before .before .before .before .before .before .before .before .before .before .emit-jmp-if-not) .kept .1 .1 .1 .0 ∙ (c .before .before .before .before .before .before .before .before .before .before .before .before .before .before .before .before .before .before .before .before .before .before .before .before .before .before .before .before .before .before .before .before .before .before .before .before .before .before .before .before .before .before .before .before .before .before .before .before .before .before .emit-expr) .kept .1 .1 .1 .0 ∙ (c .before .before .before .before .before .before .before .before .before .before .before .before .before .before .before .before .before .before .before .before .before .before .before .before .before .before .before .before .before .before .before .before .before .before .before .before .before .before .before .before .before .before .before .before .before .before .before .before .before .before .before .before .before .before .before .before .before .create-label2) .kept .1 .0 ∙ (c .before .before .before .before .before .before .before .before .before .before .before .before .before .before .before .before .before .before .before .before .before .before .before .before .before .before .before .before .before .before .before .before .before .before .before .before .before .before .before .before .before .before .before .before .before .before .before .before .before .before .before .before .before .before .before .before .before .before .before .before .before .before .create-label) .kept .1 .0)  -- emit-and-then-same-length-2
-    (λ c. c .before .before .before .before .before .before .before .before .before .before .before .before .before .before .before .before .before .before .before .before .before .before .before .before .before .before .before .before .before .before .before .emit-expr2 .kept .1 .1 .1 .1 .0 ∙ (c .before .before .before .before .before .before .before .before .before .before .before .before .before .before .before .before .before .before .before .before .before .before .before .before .before .before .before .before .before .before .before .before .before .before .before .before .before .before .before .before .before .before .before .before .before .before .before .before .before .before .emit-expr) .kept .1 .1 .1 .1 .0)  -- emit-and-then-same-length-3
+    (λ c. c .before .before .bind-label2 .ensures .slots ∙ sym (c .before .before .before .before .before .before .before .before .before .before .before .before .before .before .before .before .before .before .before .before .before .before .before .before .before .before .before .before .before .before .before .before .before .before .before .before .before .before .before .before .before .before .before .before .before .before .before .before .before .before .before .before .before .before .before .before .before .before .before .before .before .before .before .before .before .before .before .before .before .before .pre .1 .1 .0 .slots))  -- emit-and-then-same-length-2
+    (λ c. c .before .before .before .before .before .before .before .before .before .before .before .before .before .before .before .before .before .before .before .before .before .before .before .before .before .before .before .before .before .before .before .emit-expr2 .ensures .ready .held .size ∙ sym (c .before .before .before .before .before .before .before .before .before .before .before .before .before .before .before .before .before .before .before .before .before .before .before .before .before .before .before .before .before .before .before .before .before .before .before .before .before .before .before .before .before .before .before .before .before .before .before .before .before .before .before .before .before .before .before .before .before .before .before .before .before .before .before .before .before .before .before .before .before .before .pre .1 .1 .0 .held .size))  -- emit-and-then-same-length-3
     (λ c. and-done _ _ _ _ _ _ (c .before .before .before .before .before .before .before .before .before .before .before .before .before .before .before .before .before .before .before .before .before .before .before .before .before .before .before .before .before .before .before .before .before .before .before .before .before .before .before .before .before .before .before .before .before .before .before .before .before .before .before .before .before .before .before .before .before .before .before .before .before .before .before .before .next-line .ensures) (c .before .before .before .before .before .before .before .before .before .before .before .before .before .before .before .before .before .before .before .before .before .before .before .before .before .before .before .before .before .before .before .before .before .before .before .before .before .before .before .before .before .before .before .before .before .before .before .before .before .before .before .before .before .before .before .before .before .before .before .before .before .before .before .before .before .before .before .before .before .before .pre .1 .1 .0) (c .before .before .before .before .before .before .before .before .before .before .before .before .before .before .before .before .before .before .before .before .before .before .before .before .before .before .before .before .before .before .before .before .before .before .before .before .before .before .before .before .before .before .before .before .before .before .before .before .before .before .before .before .before .before .before .before .before .before .before .before .before .before .create-label .ensures) (c .before .before .before .before .before .before .before .before .before .before .before .before .before .before .before .before .before .before .before .before .before .before .before .before .before .before .before .before .before .before .before .before .before .before .before .before .before .before .before .before .before .before .before .before .before .before .before .before .before .before .before .before .before .before .before .before .before .create-label2 .ensures) (c .before .before .before .before .before .before .before .before .before .before .before .before .before .before .before .before .before .before .before .before .before .before .before .before .before .before .before .before .before .before .before .before .before .before .before .before .before .before .before .before .before .before .before .before .before .before .before .before .before .before .emit-expr .ensures) (c .before .before .before .before .before .before .before .before .before .before .before .before .before .before .before .before .before .before .before .before .before .before .before .before .before .before .before .before .before .before .before .before .before .before .before .before .before .before .before .emit-jmp-if-not .ensures) (c .before .before .before .before .before .before .before .before .before .before .before .before .before .before .before .before .before .before .before .before .before .before .before .before .before .before .before .before .before .before .before .emit-expr2 .ensures) (c .before .before .before .before .before .before .before .before .before .before .before .before .before .before .before .before .before .before .before .before .emit-jmp .ensures) (c .before .before .before .before .before .before .before .before .before .before .before .before .before .before .bind-label .ensures) (c .before .before .before .before .before .before .before .before .before .before .before .reset-stack-depth .ensures) (c .before .before .before .before .before .before .before .before .emit-opcode .ensures) (c .before .before .bind-label2 .ensures)))  -- emit-and-then-returns
     (λ t. emit-expr-lts.spec (
       next-expr-reads.Asked,
@@ -193,34 +192,34 @@ pub +emit-and-then+emit-expr+emit-or-else+emit-two-spec : {M : Type 1} → state
     (λ c κs. (omega (arith, c .before .before .before .before .before .before .before .before .before .before .before .before .before .before .pre .0), (c .before .before .before .before .before .before .before .before .before .before .before .before .before .before .pre .1 .0, (c .before .before .before .before .before .before .before .before .before .before .before .before .before .before .pre .1 .1 .0, (c .before .before .before .before .before .before .before .before .before .before .before .before .before .before .pre .1 .1 .1, line-passed _ _ _ _ (c .before .before .before .before .before .before .before .before .next-expr .ensures) (c .before .before .before .before .before .before .line8 .given .1) refl)))))  -- emit-expr-emit-or-else-requires
     (λ c. went-bad _ _ _ _ _ _ _ (c .before .before .before .before .before .before .before .before .before .before .pre .1 .0) (c .before .before .before .before .before .before .before .before .before .before .pre .1 .1 .0) (line-is _ _ _ _ (c .before .before .before .before .next-expr .ensures .is) (c .before .before .line .given .1)) (c .refuse .ensures))  -- emit-expr-returns
     (λ c. c .before .before .before .before .before .before .before .load-constant .ensures .ready .room ∙ sym (c .before .before .before .before .before .before .before .before .before .before .before .before .before .before .before .before .before .before .before .before .pre .1 .1 .0 .room))  -- emit-expr-same-length
-    (λ c. search needs)  -- emit-expr-same-length-2
-    (λ c. search needs)  -- emit-expr-same-length-3
+    (λ c. c .before .before .before .before .before .before .before .load-constant .ensures .ready .slots ∙ sym (c .before .before .before .before .before .before .before .before .before .before .before .before .before .before .before .before .before .before .before .before .pre .1 .1 .0 .slots))  -- emit-expr-same-length-2
+    (λ c. c .before .before .before .before .before .before .before .load-constant .ensures .ready .held .size ∙ sym (c .before .before .before .before .before .before .before .before .before .before .before .before .before .before .before .before .before .before .before .before .pre .1 .1 .0 .held .size))  -- emit-expr-same-length-3
     (λ c. went-const _ _ _ _ _ _ (c .behind .ensures) _ (line-is _ _ _ _ (c .before .before .before .before .before .before .before .before .before .before .before .before .before .before .next-expr .ensures .is) (c .before .before .before .before .before .before .before .before .before .before .before .before .line2 .given .1)) (c .before .before .before .before .before .before .before .load-constant .ensures))  -- emit-expr-returns-2
     (λ c. c .before .before .before .before .before .emit-opcode .ensures .room ∙ sym (c .before .before .before .before .before .before .before .before .before .before .before .before .before .before .before .before .before .before .pre .1 .1 .0 .room))  -- emit-expr-same-length-4
-    (λ c. search needs)  -- emit-expr-same-length-5
+    (λ c. c .before .before .before .before .before .emit-opcode .ensures .slots ∙ sym (c .before .before .before .before .before .before .before .before .before .before .before .before .before .before .before .before .before .before .pre .1 .1 .0 .slots))  -- emit-expr-same-length-5
     (λ c. went-bool _ _ _ _ _ _ (c .behind2 .ensures) _ (line-is _ _ _ _ (c .before .before .before .before .before .before .before .before .before .before .before .before .next-expr .ensures .is) (c .before .before .before .before .before .before .before .before .before .before .line3 .given .1)) (c .before .before .before .before .before .before .bool-role .ensures) (coded-filled (c .before .before .before .before .before .before .before .before .before .before .before .before .before .before .before .before .before .before .pre .1 .1 .0) (c .before .before .before .before .before .emit-opcode .ensures)))  -- emit-expr-returns-3
     (λ c. c .before .before .before .before .before .emit-load-var .ensures .room ∙ sym (c .before .before .before .before .before .before .before .before .before .before .before .before .before .before .before .before .before .pre .1 .1 .0 .room))  -- emit-expr-same-length-6
-    (λ c. search needs)  -- emit-expr-same-length-7
+    (λ c. c .before .before .before .before .before .emit-load-var .ensures .slots ∙ sym (c .before .before .before .before .before .before .before .before .before .before .before .before .before .before .before .before .before .pre .1 .1 .0 .slots))  -- emit-expr-same-length-7
     (λ c. went-read _ _ _ _ _ _ (c .behind3 .ensures) _ (line-is _ _ _ _ (c .before .before .before .before .before .before .before .before .before .before .before .next-expr .ensures .is) (c .before .before .before .before .before .before .before .before .before .line4 .given .1)) (coded-filled (c .before .before .before .before .before .before .before .before .before .before .before .before .before .before .before .before .before .pre .1 .1 .0) (c .before .before .before .before .before .emit-load-var .ensures)))  -- emit-expr-returns-4
     (λ c. c .before .before .before .before .operate .ensures .coded .room ∙ sym (c .before .before .before .before .before .before .before .before .before .before .before .before .before .before .before .before .before .before .before .before .before .before .before .before .before .before .before .pre .1 .1 .0 .room))  -- emit-expr-same-length-8
-    (λ c. search needs)  -- emit-expr-same-length-9
-    (λ c. search needs)  -- emit-expr-same-length-10
+    (λ c. c .before .before .before .before .operate .ensures .coded .slots ∙ sym (c .before .before .before .before .before .before .before .before .before .before .before .before .before .before .before .before .before .before .before .before .before .before .before .before .before .before .before .pre .1 .1 .0 .slots))  -- emit-expr-same-length-9
+    (λ c. c .before .before .before .before .before .before .before .before .before .before .before .before .before .before .emit-two .ensures .ready .held .size ∙ sym (c .before .before .before .before .before .before .before .before .before .before .before .before .before .before .before .before .before .before .before .before .before .before .before .before .before .before .before .pre .1 .1 .0 .held .size))  -- emit-expr-same-length-10
     (λ c. went-binary _ _ _ _ _ _ _ (line-is _ _ _ _ (c .before .before .before .before .before .before .before .before .before .before .before .before .before .before .before .before .before .before .before .before .before .next-expr .ensures .is) (c .before .before .before .before .before .before .before .before .before .before .before .before .before .before .before .before .before .before .before .line5 .given .1)) (c .before .before .before .before .before .role .ensures) (c .before .before .before .before .before .before .before .before .before .before .before .before .before .before .emit-two .ensures) (c .before .before .before .before .operate .ensures))  -- emit-expr-returns-5
     (λ c. c .before .before .before .before .operate2 .ensures .coded .room ∙ sym (c .before .before .before .before .before .before .before .before .before .before .before .before .before .before .before .before .before .before .before .before .before .before .before .before .before .before .before .before .pre .1 .1 .0 .room))  -- emit-expr-same-length-11
-    (λ c. search needs)  -- emit-expr-same-length-12
-    (λ c. search needs)  -- emit-expr-same-length-13
+    (λ c. c .before .before .before .before .operate2 .ensures .coded .slots ∙ sym (c .before .before .before .before .before .before .before .before .before .before .before .before .before .before .before .before .before .before .before .before .before .before .before .before .before .before .before .before .pre .1 .1 .0 .slots))  -- emit-expr-same-length-12
+    (λ c. c .before .before .before .before .before .before .before .before .before .before .before .before .before .before .emit-expr .ensures .ready .held .size ∙ sym (c .before .before .before .before .before .before .before .before .before .before .before .before .before .before .before .before .before .before .before .before .before .before .before .before .before .before .before .before .pre .1 .1 .0 .held .size))  -- emit-expr-same-length-13
     (λ c. went-unary _ _ _ _ _ _ (c .before .before .before .before .before .before .before .before .before .before .before .before .before .before .before .before .before .before .next-line .ensures) _ (line-is _ _ _ _ (c .before .before .before .before .before .before .before .before .before .before .before .before .before .before .before .before .before .before .before .before .before .before .next-expr .ensures .is) (c .before .before .before .before .before .before .before .before .before .before .before .before .before .before .before .before .before .before .before .before .line6 .given .1)) (c .before .before .before .before .before .role2 .ensures) (c .before .before .before .before .before .before .before .before .before .before .before .before .before .before .emit-expr .ensures) (c .before .before .before .before .operate2 .ensures))  -- emit-expr-returns-6
     (λ c. c .before .before .before .before .operate3 .ensures .coded .room ∙ sym (c .before .before .before .before .before .before .before .before .before .before .before .before .before .before .before .before .before .before .before .before .before .before .before .before .before .before .pre .1 .1 .0 .room))  -- emit-expr-same-length-14
-    (λ c. search needs)  -- emit-expr-same-length-15
-    (λ c. search needs)  -- emit-expr-same-length-16
+    (λ c. c .before .before .before .before .operate3 .ensures .coded .slots ∙ sym (c .before .before .before .before .before .before .before .before .before .before .before .before .before .before .before .before .before .before .before .before .before .before .before .before .before .before .pre .1 .1 .0 .slots))  -- emit-expr-same-length-15
+    (λ c. c .before .before .before .before .before .before .before .before .before .before .before .before .before .emit-two2 .ensures .ready .held .size ∙ sym (c .before .before .before .before .before .before .before .before .before .before .before .before .before .before .before .before .before .before .before .before .before .before .before .before .before .before .pre .1 .1 .0 .held .size))  -- emit-expr-same-length-16
     (λ c. went-compare _ _ _ _ _ _ _ (line-is _ _ _ _ (c .before .before .before .before .before .before .before .before .before .before .before .before .before .before .before .before .before .before .before .before .next-expr .ensures .is) (c .before .before .before .before .before .before .before .before .before .before .before .before .before .before .before .before .before .before .line7 .given .1)) (c .before .before .before .before .before .before .before .before .before .before .before .before .before .emit-two2 .ensures) (c .before .before .before .before .operate3 .ensures))  -- emit-expr-returns-7
     (λ c. c .before .before .before .before .before .before .emit-and-then .ensures .ready .room ∙ sym (c .before .before .before .before .before .before .before .before .before .before .before .before .before .before .before .before .before .before .before .before .before .pre .1 .1 .0 .room))  -- emit-expr-same-length-17
-    (λ c. search needs)  -- emit-expr-same-length-18
-    (λ c. search needs)  -- emit-expr-same-length-19
+    (λ c. c .before .before .before .before .before .before .emit-and-then .ensures .ready .slots ∙ sym (c .before .before .before .before .before .before .before .before .before .before .before .before .before .before .before .before .before .before .before .before .before .pre .1 .1 .0 .slots))  -- emit-expr-same-length-18
+    (λ c. c .before .before .before .before .before .before .emit-and-then .ensures .ready .held .size ∙ sym (c .before .before .before .before .before .before .before .before .before .before .before .before .before .before .before .before .before .before .before .before .before .pre .1 .1 .0 .held .size))  -- emit-expr-same-length-19
     (λ c. went-short _ _ _ _ _ _ _ (line-is _ _ _ _ (c .before .before .before .before .before .before .before .before .before .before .before .before .before .before .before .next-expr .ensures .is) (c .before .before .before .before .before .before .before .before .before .before .before .before .before .line8 .given .1 ∙ ap ShortCircuit (c .before .before .before .before .before .before .before .before .before .before .enum-told .given .1))) (c .before .before .before .before .before .before .emit-and-then .ensures))  -- emit-expr-returns-8
     (λ c. c .before .before .before .before .before .before .emit-or-else .ensures .ready .room ∙ sym (c .before .before .before .before .before .before .before .before .before .before .before .before .before .before .before .before .before .before .before .before .before .pre .1 .1 .0 .room))  -- emit-expr-same-length-20
-    (λ c. search needs)  -- emit-expr-same-length-21
-    (λ c. search needs)  -- emit-expr-same-length-22
+    (λ c. c .before .before .before .before .before .before .emit-or-else .ensures .ready .slots ∙ sym (c .before .before .before .before .before .before .before .before .before .before .before .before .before .before .before .before .before .before .before .before .before .pre .1 .1 .0 .slots))  -- emit-expr-same-length-21
+    (λ c. c .before .before .before .before .before .before .emit-or-else .ensures .ready .held .size ∙ sym (c .before .before .before .before .before .before .before .before .before .before .before .before .before .before .before .before .before .before .before .before .before .pre .1 .1 .0 .held .size))  -- emit-expr-same-length-22
     (λ c. went-short _ _ _ _ _ _ _ (line-is _ _ _ _ (c .before .before .before .before .before .before .before .before .before .before .before .before .before .before .before .next-expr .ensures .is) (c .before .before .before .before .before .before .before .before .before .before .before .before .before .line8 .given .1 ∙ ap ShortCircuit (c .before .before .before .before .before .before .before .before .before .before .enum-told2 .given .1))) (c .before .before .before .before .before .before .emit-or-else .ensures)))  -- emit-expr-returns-9
     (λ t. emit-or-else-lts.spec (
       next-line-reads.Asked,
@@ -246,17 +245,17 @@ pub +emit-and-then+emit-expr+emit-or-else+emit-two-spec : {M : Type 1} → state
     (λ c. c .before .before .before .before .before .before .pre .1 .1 .1 .1 .1 .0)  -- emit-or-else-sub-rest
     (λ c κs. (c .before .before .before .before .before .before .before .pre .1 .1 .0 .fine, c .before .before .before .before .before .before .before .pre .1 .1 .0 .slots))  -- emit-or-else-create-label-requires
     (λ c κs. (c .before .before .before .before .create-label .ensures .fine, c .before .before .before .before .create-label .ensures .slots))  -- emit-or-else-create-label-requires-2
-    (λ c κs. (omega (arith, c .before .before .before .before .before .before .before .before .before .before .before .before .before .before .before .before .before .before .before .pre .0, passed-fewer _ _ (c .before .before .before .before .before .before .before .before .before .before .before .before .before .next-line .ensures) (c .before .before .before .before .before .before .before .before .before .before .before .before .before .before .before .before .before .before .before .pre .1 .1 .1 .1 .0)), (c .before .before .before .before .before .before .before .before .before .before .before .before .before .next-line .ensures .near, (record { fine = c .before .before .before .before .before .before .create-label2 .ensures .fine; room = c .before .before .before .before .before .before .before .before .before .before .before .before .before .before .before .before .before .before .before .pre .1 .1 .0 .room; slots = c .before .before .before .before .before .before .create-label2 .ensures .slots; held = c .before .before .before .before .before .before .create-label2 .ensures .kept [] _ .sized .held (c .before .before .before .before .before .before .before .before .before .before .before .create-label .ensures .kept [] _ .sized .held (c .before .before .before .before .before .before .before .before .before .before .before .before .before .before .before .before .before .before .before .pre .1 .1 .0 .held)) }, omega (arith, c .before .before .before .before .before .before .before .before .before .before .before .before .before .before .before .before .before .before .before .pre .1 .1 .1 .0)))))  -- emit-or-else-emit-expr-requires
+    (λ c κs. (omega (arith, c .before .before .before .before .before .before .before .before .before .before .before .before .before .before .before .before .before .before .before .pre .0, passed-fewer _ _ (c .before .before .before .before .before .before .before .before .before .before .before .before .before .next-line .ensures) (c .before .before .before .before .before .before .before .before .before .before .before .before .before .before .before .before .before .before .before .pre .1 .1 .1 .1 .0)), (c .before .before .before .before .before .before .before .before .before .before .before .before .before .next-line .ensures .near, (record { fine = c .before .before .before .before .before .before .create-label2 .ensures .fine; room = c .before .before .before .before .before .before .before .before .before .before .before .before .before .before .before .before .before .before .before .pre .1 .1 .0 .room; slots = c .before .before .before .before .before .before .create-label2 .ensures .slots; held = c .before .before .before .before .before .before .before .before .before .before .before .before .before .before .before .before .before .before .before .pre .1 .1 .0 .held }, omega (arith, c .before .before .before .before .before .before .before .before .before .before .before .before .before .before .before .before .before .before .before .pre .1 .1 .1 .0)))))  -- emit-or-else-emit-expr-requires
     (λ c κs. (c .before .before .before .before .before .before .before .before .before .before .emit-expr .ensures .ready .fine, (c .before .before .before .before .before .before .before .before .before .before .emit-expr .ensures .ready .room, c .before .before .before .before .before .before .before .before .before .before .emit-expr .ensures .ready .slots)))  -- emit-or-else-emit-jmp-if-not-requires
     (λ c κs. (c .before .before .before .before .before .before .emit-jmp-if-not .ensures .fine, (c .before .before .before .before .before .before .emit-jmp-if-not .ensures .room, c .before .before .before .before .before .before .emit-jmp-if-not .ensures .slots)))  -- emit-or-else-emit-opcode-requires
     (λ c κs. (c .before .before .before .before .before .before .emit-opcode .ensures .fine, (c .before .before .before .before .before .before .emit-opcode .ensures .room, c .before .before .before .before .before .before .emit-opcode .ensures .slots)))  -- emit-or-else-emit-jmp-requires
     (λ c κs. (c .before .before .before .before .before .emit-jmp .ensures .fine, c .before .before .before .before .before .emit-jmp .ensures .slots))  -- emit-or-else-bind-label-requires
     (λ c κs. c .before .before .bind-label .ensures .fine)  -- emit-or-else-reset-stack-depth-requires
-    (λ c κs. (omega (arith, c .before .before .before .before .before .before .before .before .before .before .before .before .before .before .before .before .before .before .before .before .before .before .before .before .before .before .before .before .before .before .before .before .before .before .before .before .before .before .before .before .before .before .before .before .before .before .before .before .before .before .before .before .before .before .before .before .before .pre .0, passed-fewer _ _ (c .before .before .before .before .before .before .before .before .before .before .before .before .before .before .before .before .before .before .before .before .before .before .before .before .before .before .before .before .before .before .before .before .before .before .before .before .before .before .before .before .before .before .before .before .before .before .before .before .before .before .before .next-line .ensures) (c .before .before .before .before .before .before .before .before .before .before .before .before .before .before .before .before .before .before .before .before .before .before .before .before .before .before .before .before .before .before .before .before .before .before .before .before .before .before .before .before .before .before .before .before .before .before .before .before .before .before .before .before .before .before .before .before .before .pre .1 .1 .1 .1 .0), read-most _ _ _ _ (c .before .before .before .before .before .before .before .before .before .before .before .before .before .before .before .before .before .before .before .before .before .before .before .before .before .before .before .before .before .before .before .before .before .before .before .before .before .emit-expr .ensures .is)), (c .before .before .before .before .before .before .before .before .before .before .before .before .before .before .before .before .before .before .before .before .before .before .before .before .before .before .before .before .before .before .before .before .before .before .before .before .before .emit-expr .ensures .near, (record { fine = c .before .before .before .reset-stack-depth .ensures .fine; room = c .before .before .before .before .before .before .before .before .before .before .before .before .emit-jmp .ensures .room; slots = c .before .before .before .reset-stack-depth .ensures .kept [] _ [] .sized .slots (c .before .before .before .before .before .before .bind-label .ensures .slots); held = c .before .before .before .reset-stack-depth .ensures .kept [] [] _ .sized .held (c .before .before .before .before .before .before .bind-label .ensures .kept [] _ .sized .held (c .before .before .before .before .before .before .before .before .before .before .before .before .emit-jmp .ensures .kept _ .sized .held (c .before .before .before .before .before .before .before .before .before .before .before .before .before .before .before .before .before .before .before .emit-opcode .ensures .kept _ .sized .held (c .before .before .before .before .before .before .before .before .before .before .before .before .before .before .before .before .before .before .before .before .before .before .before .before .before .before .emit-jmp-if-not .ensures .kept _ .sized .held (c .before .before .before .before .before .before .before .before .before .before .before .before .before .before .before .before .before .before .before .before .before .before .before .before .before .before .before .before .before .before .before .before .before .before .before .before .before .emit-expr .ensures .ready .held))))) }, omega (arith, c .before .before .before .before .before .before .before .before .before .before .before .before .before .before .before .before .before .before .before .before .before .before .before .before .before .before .before .before .before .before .before .before .before .before .before .before .before .before .before .before .before .before .before .before .before .before .before .before .before .before .before .before .before .before .before .before .before .pre .1 .1 .1 .0)))))  -- emit-or-else-emit-expr-requires-2
+    (λ c κs. (omega (arith, c .before .before .before .before .before .before .before .before .before .before .before .before .before .before .before .before .before .before .before .before .before .before .before .before .before .before .before .before .before .before .before .before .before .before .before .before .before .before .before .before .before .before .before .before .before .before .before .before .before .before .before .before .before .before .before .before .before .pre .0, passed-fewer _ _ (c .before .before .before .before .before .before .before .before .before .before .before .before .before .before .before .before .before .before .before .before .before .before .before .before .before .before .before .before .before .before .before .before .before .before .before .before .before .before .before .before .before .before .before .before .before .before .before .before .before .before .before .next-line .ensures) (c .before .before .before .before .before .before .before .before .before .before .before .before .before .before .before .before .before .before .before .before .before .before .before .before .before .before .before .before .before .before .before .before .before .before .before .before .before .before .before .before .before .before .before .before .before .before .before .before .before .before .before .before .before .before .before .before .before .pre .1 .1 .1 .1 .0), read-most _ _ _ _ (c .before .before .before .before .before .before .before .before .before .before .before .before .before .before .before .before .before .before .before .before .before .before .before .before .before .before .before .before .before .before .before .before .before .before .before .before .before .emit-expr .ensures .is)), (c .before .before .before .before .before .before .before .before .before .before .before .before .before .before .before .before .before .before .before .before .before .before .before .before .before .before .before .before .before .before .before .before .before .before .before .before .before .emit-expr .ensures .near, (record { fine = c .before .before .before .reset-stack-depth .ensures .fine; room = c .before .before .before .before .before .before .before .before .before .before .before .before .emit-jmp .ensures .room; slots = c .before .before .before .before .before .before .bind-label .ensures .slots; held = c .before .before .before .before .before .before .before .before .before .before .before .before .before .before .before .before .before .before .before .before .before .before .before .before .before .before .before .before .before .before .before .before .before .before .before .before .before .emit-expr .ensures .ready .held }, omega (arith, c .before .before .before .before .before .before .before .before .before .before .before .before .before .before .before .before .before .before .before .before .before .before .before .before .before .before .before .before .before .before .before .before .before .before .before .before .before .before .before .before .before .before .before .before .before .before .before .before .before .before .before .before .before .before .before .before .before .pre .1 .1 .1 .0)))))  -- emit-or-else-emit-expr-requires-2
     (λ c κs. (c .before .before .before .before .before .before .before .before .before .emit-expr2 .ensures .ready .fine, c .before .before .before .before .before .before .before .before .before .emit-expr2 .ensures .ready .slots))  -- emit-or-else-bind-label-requires-2
     (λ c. c .before .before .before .before .before .before .before .before .before .before .before .before .emit-expr2 .ensures .ready .room ∙ sym (c .before .before .before .before .before .before .before .before .before .before .before .before .before .before .before .before .before .before .before .before .before .before .before .before .before .before .before .before .before .before .before .before .before .before .before .before .before .before .before .before .before .before .before .before .before .before .before .before .before .before .before .before .before .before .before .before .before .before .before .before .before .before .before .before .before .before .before .before .before .before .pre .1 .1 .0 .room))  -- emit-or-else-same-length
-    (λ c. c .before .before .bind-label2 .kept .1 .0 ∙ (c .before .before .before .before .before .before .before .before .before .before .before .before .emit-expr2) .kept .1 .1 .1 .0 ∙ (c .before .before .before .before .before .before .before .before .before .before .before .before .before .before .before .before .before .before .before .bind-label) .kept .1 .0 ∙ (c .before .before .before .before .before .before .before .before .before .before .before .before .before .before .before .before .before .before .before .before .before .before .before .before .before .emit-jmp) .kept .1 .1 .1 .0 ∙ (c .before .before .before .before .before .before .before .before .before .before .before .before .before .before .before .before .before .before .before .before .before .before .before .before .before .before .before .before .before .before .before .before .emit-opcode) .kept .1 .1 .1 .0 ∙ (c .before .before .before .before .before .before .before .before .before .before .before .before .before .before .before .before .before .before .before .before .before .before .before .before .before .before .before .before .before .before .before .before .before .before .before .before .before .before .before .emit-jmp-if-not) .kept .1 .1 .1 .0 ∙ (c .before .before .before .before .before .before .before .before .before .before .before .before .before .before .before .before .before .before .before .before .before .before .before .before .before .before .before .before .before .before .before .before .before .before .before .before .before .before .before .before .before .before .before .before .before .before .before .before .before .before .emit-expr) .kept .1 .1 .1 .0 ∙ (c .before .before .before .before .before .before .before .before .before .before .before .before .before .before .before .before .before .before .before .before .before .before .before .before .before .before .before .before .before .before .before .before .before .before .before .before .before .before .before .before .before .before .before .before .before .before .before .before .before .before .before .before .before .before .before .before .before .create-label2) .kept .1 .0 ∙ (c .before .before .before .before .before .before .before .before .before .before .before .before .before .before .before .before .before .before .before .before .before .before .before .before .before .before .before .before .before .before .before .before .before .before .before .before .before .before .before .before .before .before .before .before .before .before .before .before .before .before .before .before .before .before .before .before .before .before .before .before .before .before .create-label) .kept .1 .0)  -- emit-or-else-same-length-2
-    (λ c. c .before .before .before .before .before .before .before .before .before .before .before .before .emit-expr2 .kept .1 .1 .1 .1 .0 ∙ (c .before .before .before .before .before .before .before .before .before .before .before .before .before .before .before .before .before .before .before .before .before .before .before .before .before .before .before .before .before .before .before .before .before .before .before .before .before .before .before .before .before .before .before .before .before .before .before .before .before .before .emit-expr) .kept .1 .1 .1 .1 .0)  -- emit-or-else-same-length-3
+    (λ c. c .before .before .bind-label2 .ensures .slots ∙ sym (c .before .before .before .before .before .before .before .before .before .before .before .before .before .before .before .before .before .before .before .before .before .before .before .before .before .before .before .before .before .before .before .before .before .before .before .before .before .before .before .before .before .before .before .before .before .before .before .before .before .before .before .before .before .before .before .before .before .before .before .before .before .before .before .before .before .before .before .before .before .before .pre .1 .1 .0 .slots))  -- emit-or-else-same-length-2
+    (λ c. c .before .before .before .before .before .before .before .before .before .before .before .before .emit-expr2 .ensures .ready .held .size ∙ sym (c .before .before .before .before .before .before .before .before .before .before .before .before .before .before .before .before .before .before .before .before .before .before .before .before .before .before .before .before .before .before .before .before .before .before .before .before .before .before .before .before .before .before .before .before .before .before .before .before .before .before .before .before .before .before .before .before .before .before .before .before .before .before .before .before .before .before .before .before .before .before .pre .1 .1 .0 .held .size))  -- emit-or-else-same-length-3
     (λ c. or-done _ _ _ _ _ _ (c .before .before .before .before .before .before .before .before .before .before .before .before .before .before .before .before .before .before .before .before .before .before .before .before .before .before .before .before .before .before .before .before .before .before .before .before .before .before .before .before .before .before .before .before .before .before .before .before .before .before .before .before .before .before .before .before .before .before .before .before .before .before .before .before .next-line .ensures) (c .before .before .before .before .before .before .before .before .before .before .before .before .before .before .before .before .before .before .before .before .before .before .before .before .before .before .before .before .before .before .before .before .before .before .before .before .before .before .before .before .before .before .before .before .before .before .before .before .before .before .before .before .before .before .before .before .before .before .before .before .before .before .before .before .before .before .before .before .before .before .pre .1 .1 .0) (c .before .before .before .before .before .before .before .before .before .before .before .before .before .before .before .before .before .before .before .before .before .before .before .before .before .before .before .before .before .before .before .before .before .before .before .before .before .before .before .before .before .before .before .before .before .before .before .before .before .before .before .before .before .before .before .before .before .before .before .before .before .before .create-label .ensures) (c .before .before .before .before .before .before .before .before .before .before .before .before .before .before .before .before .before .before .before .before .before .before .before .before .before .before .before .before .before .before .before .before .before .before .before .before .before .before .before .before .before .before .before .before .before .before .before .before .before .before .before .before .before .before .before .before .before .create-label2 .ensures) (c .before .before .before .before .before .before .before .before .before .before .before .before .before .before .before .before .before .before .before .before .before .before .before .before .before .before .before .before .before .before .before .before .before .before .before .before .before .before .before .before .before .before .before .before .before .before .before .before .before .before .emit-expr .ensures) (c .before .before .before .before .before .before .before .before .before .before .before .before .before .before .before .before .before .before .before .before .before .before .before .before .before .before .before .before .before .before .before .before .before .before .before .before .before .before .before .emit-jmp-if-not .ensures) (c .before .before .before .before .before .before .before .before .before .before .before .before .before .before .before .before .before .before .before .before .before .before .before .before .before .before .before .before .before .before .before .before .emit-opcode .ensures) (c .before .before .before .before .before .before .before .before .before .before .before .before .before .before .before .before .before .before .before .before .before .before .before .before .before .emit-jmp .ensures) (c .before .before .before .before .before .before .before .before .before .before .before .before .before .before .before .before .before .before .before .bind-label .ensures) (c .before .before .before .before .before .before .before .before .before .before .before .before .before .before .before .before .reset-stack-depth .ensures) (c .before .before .before .before .before .before .before .before .before .before .before .before .emit-expr2 .ensures) (c .before .before .bind-label2 .ensures)))  -- emit-or-else-returns
     λ t. emit-two-lts.spec
     (next-line-reads.Asked, next-line-reads.Learnt, emit-expr-below t, emit-expr.Post)
@@ -268,6 +267,6 @@ pub +emit-and-then+emit-expr+emit-or-else+emit-two-spec : {M : Type 1} → state
     (λ c κs. (omega (arith, c .before .before .before .before .before .before .before .before .before .pre .0, passed-fewer _ _ (c .before .before .before .next-line .ensures) (c .before .before .before .before .before .before .before .before .before .pre .1 .1 .1 .1 .0)), (c .before .before .before .next-line .ensures .near, (c .before .before .before .before .before .before .before .before .before .pre .1 .1 .0, omega (arith, c .before .before .before .before .before .before .before .before .before .pre .1 .1 .1 .0)))))  -- emit-two-emit-expr-requires
     (λ c κs. (omega (arith, c .before .before .before .before .before .before .before .before .before .before .before .before .before .before .before .before .before .before .before .before .before .pre .0, passed-fewer _ _ (c .before .before .before .before .before .before .before .before .before .before .before .before .before .before .before .next-line .ensures) (c .before .before .before .before .before .before .before .before .before .before .before .before .before .before .before .before .before .before .before .before .before .pre .1 .1 .1 .1 .0), read-most _ _ _ _ (c .before .before .before .before .before .before .before .before .before .before .before .emit-expr .ensures .is)), (c .before .before .before .before .before .before .before .before .before .before .before .emit-expr .ensures .near, (c .before .before .before .before .before .before .before .before .before .before .before .emit-expr .ensures .ready, omega (arith, c .before .before .before .before .before .before .before .before .before .before .before .before .before .before .before .before .before .before .before .before .before .pre .1 .1 .1 .0, c .before .before .before .before .before .before .before .before .before .before .before .before .before .before .before .before .before .before .before .before .before .pre .1 .1 .1 .1 .1 .0)))))  -- emit-two-emit-expr-requires-2
     (λ c. c .before .before .before .before .before .before .emit-expr2 .ensures .ready .room ∙ sym (c .before .before .before .before .before .before .before .before .before .before .before .before .before .before .before .before .before .before .before .before .before .before .before .before .before .before .before .before .pre .1 .1 .0 .room))  -- emit-two-same-length
-    (λ c. search needs)  -- emit-two-same-length-2
-    (λ c. search needs)  -- emit-two-same-length-3
+    (λ c. c .before .before .before .before .before .before .emit-expr2 .ensures .ready .slots ∙ sym (c .before .before .before .before .before .before .before .before .before .before .before .before .before .before .before .before .before .before .before .before .before .before .before .before .before .before .before .before .pre .1 .1 .0 .slots))  -- emit-two-same-length-2
+    (λ c. c .before .before .before .before .before .before .emit-expr2 .ensures .ready .held .size ∙ sym (c .before .before .before .before .before .before .before .before .before .before .before .before .before .before .before .before .before .before .before .before .before .before .before .before .before .before .before .before .pre .1 .1 .0 .held .size))  -- emit-two-same-length-3
     (λ c. two-done _ _ _ _ _ _ (c .before .before .before .before .before .before .before .before .before .before .before .before .before .before .before .before .before .before .before .before .before .before .next-line .ensures) (c .before .before .before .before .before .before .before .before .before .before .before .before .before .before .before .before .before .before .emit-expr .ensures) (c .before .before .before .before .before .before .emit-expr2 .ensures))  -- emit-two-returns

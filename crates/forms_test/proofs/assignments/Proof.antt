@@ -13,6 +13,6 @@ assignments-spec =
     (λ c κs. search needs)  -- load-var-requires
     (λ c κs. search needs)  -- store-var-requires-2
     (λ c. c .before .before .before .before .store-var2 .ensures .room ∙ sym (c .before .before .before .before .before .before .before .before .before .before .before .before .before .before .before .before .before .before .before .before .before .before .before .before .before .before .before .before .before .before .before .before .before .before .before .pre .room))  -- same-length
-    (λ c. c .before .before .before .before .store-var2 .kept .1 .1 .1 .0 ∙ (c .before .before .before .before .before .before .before .before .before .before .before .load-var) .kept .1 .1 .1 .0 ∙ (c .before .before .before .before .before .before .before .before .before .before .before .before .before .before .before .before .before .before .store-var) .kept .1 .1 .1 .0 ∙ (c .before .before .before .before .before .before .before .before .before .before .before .before .before .before .before .before .before .before .before .before .before .before .before .before .before .before .before .load-constant) .kept .1 .1 .1 .0)  -- same-length-2
-    (λ c. c .before .before .before .before .before .before .before .before .before .before .before .before .before .before .before .before .before .before .before .before .before .before .before .before .before .before .before .load-constant .kept .1 .1 .1 .1 .0)  -- same-length-3
-    (λ c. record { fine = c .before .before .before .before .store-var2 .ensures .fine; room = c .before .before .before .before .store-var2 .ensures .room; slots = c .before .before .before .before .store-var2 .ensures .slots; held = c .before .before .before .before .store-var2 .ensures .kept _ .sized .held (c .before .before .before .before .before .before .before .before .before .before .before .load-var .ensures .kept _ .sized .held (c .before .before .before .before .before .before .before .before .before .before .before .before .before .before .before .before .before .before .store-var .ensures .kept _ .sized .held (c .before .before .before .before .before .before .before .before .before .before .before .before .before .before .before .before .before .before .before .before .before .before .before .before .before .before .before .load-constant .ensures .ready .held))) }))  -- returns
+    (λ c. c .before .before .before .before .store-var2 .ensures .slots ∙ sym (c .before .before .before .before .before .before .before .before .before .before .before .before .before .before .before .before .before .before .before .before .before .before .before .before .before .before .before .before .before .before .before .before .before .before .before .pre .slots))  -- same-length-2
+    (λ c. c .before .before .before .before .before .before .before .before .before .before .before .before .before .before .before .before .before .before .before .before .before .before .before .before .before .before .before .load-constant .ensures .ready .held .size ∙ sym (c .before .before .before .before .before .before .before .before .before .before .before .before .before .before .before .before .before .before .before .before .before .before .before .before .before .before .before .before .before .before .before .before .before .before .before .pre .held .size))  -- same-length-3
+    (λ c. record { fine = c .before .before .before .before .store-var2 .ensures .fine; room = c .before .before .before .before .store-var2 .ensures .room; slots = c .before .before .before .before .store-var2 .ensures .slots; held = c .before .before .before .before .before .before .before .before .before .before .before .before .before .before .before .before .before .before .before .before .before .before .before .before .before .before .before .load-constant .ensures .ready .held }))  -- returns

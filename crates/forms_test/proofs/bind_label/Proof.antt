@@ -43,8 +43,9 @@ use Rattle.lent_emitter.proofs.Facts.{holds, beside, tells, needs2, needs3}
 use Rattle.lent_emitter.proofs.Lying.{lies-in, lies-out}
 use Rattle.lent_emitter.specs.declared.Lent.{Lent}
 use Rattle.emit.specs.declared.Label.{Label}
+use Rattle.emit.specs.Book.{bookSize}
 use Rattle.definition.specs.Emit.{bindLabel}
-use Rattle.emit.specs.Steps.{Fine as IsFine, Slots, Booked}
+use Rattle.emit.specs.Steps.{Fine as IsFine, Booked}
 use Rattle.lent_emitter.proofs.Lent as T
 use Rattle.lent_emitter.proofs.Lent.Laws as T′
 use Rattle.emit.proofs.Label as label
@@ -66,7 +67,7 @@ abbrev Fine₁ : Lent → List ℕ → Label → Type 0
 Fine₁ h book aim = IsFine (h .emitter)
 
 abbrev Fine₂ : Lent → List ℕ → Label → Type 0
-Fine₂ h book aim = Slots (h .emitter) book
+Fine₂ h book aim = length book ≡ bookSize
 
 abbrev Fine : Lent → List ℕ → Label → Type 0
 Fine h book aim = (Fine₁ h book aim) × (Fine₂ h book aim)

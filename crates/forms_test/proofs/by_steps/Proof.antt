@@ -1,11 +1,6 @@
 -- Made by `answers` from crates/forms_test/answers/by_steps.txt: edit that file, not this one.
 use mathlib.Core.Path.{sym}
-use Prim.Native.Nat.{ℕ}
-use lib.ListN.{replicate, length-replicate}
-use Rattle.emit.specs.Book.{bookSize}
-use Rattle.emit.proofs.Tables.{full-book}
 use Rattle.emit.proofs.Chains.{held-empty}
-use Rattle.emit.proofs.Steps.{begun-ready}
 use borrow.Author.Needs.{needs}
 use Rattle.forms_test.proofs.by_steps.Statement.{statement}
 use Rattle.forms_test.proofs.by_steps.Tie as tie
@@ -18,8 +13,8 @@ by-steps-spec =
     (λ c. search needs)  -- slice-aggregate-loop-statement
     (λ c. search needs)  -- slice-aggregate-loop-statement-2
     (λ c. search needs)  -- slice-aggregate-loop-statement-3
-    (λ c κs. begun-ready (c .before .before .before .start .ensures) (search needs) (full-book (replicate bookSize 0) (length-replicate {A = ℕ} bookSize 0)) held-empty)  -- loop-statement-requires
+    (λ c κs. record { fine = search needs; room = search needs; slots = search needs; held = held-empty })  -- loop-statement-requires
     (λ c. sym (c .before .before .before .before .loop-statement .ensures .room))  -- slice-aggregate-print-emitted
-    (λ c. search needs)  -- slice-aggregate-print-emitted-2
+    (λ c. sym (c .before .before .before .before .before .loop-statement .ensures .slots))  -- slice-aggregate-print-emitted-2
     (λ c κs. (c .before .before .before .before .before .loop-statement .ensures .fine, (c .before .before .before .before .before .loop-statement .ensures .room, c .before .before .before .before .before .loop-statement .ensures .slots)))  -- print-emitted-requires
     (λ c. search needs))  -- returns

@@ -44,7 +44,8 @@ use Rattle.lent_emitter.proofs.Lying.{lies-in, lies-out}
 use Rattle.lent_emitter.specs.declared.Lent.{Lent}
 use Rattle.forms_test.specs.declared.Labelled.{Labelled}
 use Rattle.emit.specs.declared.Label.{Label}
-use Rattle.emit.specs.Steps.{Fine as IsFine, Slots, Created}
+use Rattle.emit.specs.Book.{bookSize}
+use Rattle.emit.specs.Steps.{Fine as IsFine, Created}
 use Rattle.lent_emitter.proofs.Lent as T
 use Rattle.lent_emitter.proofs.Lent.Laws as T′
 use Rattle.forms_test.proofs.Labelled as S
@@ -68,7 +69,7 @@ abbrev Fine₁ : Lent → List ℕ → Type 0
 Fine₁ h book = IsFine (h .emitter)
 
 abbrev Fine₂ : Lent → List ℕ → Type 0
-Fine₂ h book = Slots (h .emitter) book
+Fine₂ h book = length book ≡ bookSize
 
 abbrev Fine : Lent → List ℕ → Type 0
 Fine h book = (Fine₁ h book) × (Fine₂ h book)

@@ -9,9 +9,10 @@ use denote.Triple.Table.{entered, cited}
 use Rattle.lent_emitter.specs.declared.Lent.{Lent}
 use Rattle.emit.specs.declared.Label.{Label}
 use Rattle.opcode.specs.Table.{sheetIn}
+use Rattle.emit.specs.Book.{bookSize}
 use Rattle.definition.specs.Limits.{maxCode}
 use Rattle.definition.specs.Emit.{act, emitJmp}
-use Rattle.emit.specs.Steps.{Fine as IsFine, Slots, Coded}
+use Rattle.emit.specs.Steps.{Fine as IsFine, Coded}
 use Rattle.lent_emitter.proofs.Value as value
 use Rattle.forms_test.proofs.Coded.{Callee, thin-meets}
 use Rattle.lent_emitter.proofs.Lent.emit_jmp.Symbol as core-def
@@ -29,7 +30,7 @@ abbrev P₂ : Lent → List ℕ → List ℕ → List ℕ → Label → Type 0
 P₂ h sheet code book aim = length code ≡ maxCode
 
 abbrev P₃ : Lent → List ℕ → List ℕ → List ℕ → Label → Type 0
-P₃ h sheet code book aim = Slots (h .emitter) book
+P₃ h sheet code book aim = length book ≡ bookSize
 
 abbrev Q : Lent → List ℕ → List ℕ → List ℕ → Label → Lent → List ℕ → List ℕ → Type 0
 Q h sheet code book aim r code′ book′ = Coded (act (sheetIn sheet) (emitJmp (aim .0))) (h .emitter) code book (r .emitter) code′ book′

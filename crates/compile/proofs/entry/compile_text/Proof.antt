@@ -16,7 +16,7 @@ compile-text-spec =
     (λ c κs. search needs)  -- check-program-requires
     (λ c. search needs)  -- enum-known-number
     (λ c. search needs)  -- enum-known-variables
-    (λ c κs. record { tables = c .before .before .before .before .before .before .before .before .before .before .before .before .before .pre .0; good = c .before .before .before .before .before .before .before .before .before .before .before .before .before .pre .1 .0; file = c .before .before .before .before .before .before .before .before .before .before .before .before .before .pre .1 .1 .0; checked = accepted (c .before .before .before .before .before .before .before .before .before .before .before .before .before .args .text .now) (sym (c .before .before .before .before .before .before .check-program .ensures) ∙ ap checkedView (c .before .before .before .before .variables .given .1)); roomy = c .before .before .before .before .before .before .before .before .before .before .before .before .before .pre .1 .1 .1 })  -- compile-accepted-requires
+    (λ c κs. (c .before .before .before .before .before .before .before .before .before .before .before .before .before .pre .0, (c .before .before .before .before .before .before .before .before .before .before .before .before .before .pre .1 .0, (c .before .before .before .before .before .before .before .before .before .before .before .before .before .pre .1 .1 .0, (accepted (c .before .before .before .before .before .before .before .before .before .before .before .before .before .args .text .now) (sym (c .before .before .before .before .before .before .check-program .ensures) ∙ ap checkedView (c .before .before .before .before .variables .given .1)), c .before .before .before .before .before .before .before .before .before .before .before .before .before .pre .1 .1 .1)))))  -- compile-accepted-requires
     (λ c. ends-1 (sheetIn (c .before .before .before .before .before .before .before .before .before .before .args .sheet .now)) (rulesIn (c .before .before .before .before .before .before .before .before .before .before .args .rules .now) (c .before .before .before .before .before .before .before .before .before .before .args .count)) (c .before .before .before .before .before .before .before .before .before .before .args .text .now) (c .before .before .before .check-program .result) (c .before .before .before .check-program .ensures) (c .before .number .given .1))  -- returns
     (λ c. search needs)  -- same-length
     (λ c. search needs)  -- same-length-2

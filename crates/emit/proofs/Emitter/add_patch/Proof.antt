@@ -1,5 +1,5 @@
 -- Made by `answers` from crates/emit/answers/Emitter/add_patch.txt: edit that file, not this one.
-use Rattle.emit.proofs.Branches.{patch-stays, patch-outgrown, patch-goes}
+use Rattle.emit.proofs.Branches.{patch-stays, patch-goes, patch-fits}
 use borrow.Author.Needs.{needs}
 use Rattle.emit.proofs.Emitter.add_patch.Statement.{statement}
 use Rattle.emit.proofs.Emitter.add_patch.Tie as tie
@@ -9,11 +9,7 @@ add-patch-spec =
     tie.close
     (tie.spec
     (λ c. patch-stays _ (search needs) (search needs) (c .if1 .taken))  -- returns
-    (λ c κs. search needs)  -- patch-rows-requires
-    (λ c κs. search needs)  -- outgrow-requires
-    (λ c. search needs)  -- same-length
-    (λ c. patch-outgrown _ (c .before .before .before .before .before .before .before .pre .0) (c .before .before .before .before .before .before .before .pre .1 .0) (c .before .before .before .before .if1 .left) (c .before .before .before .before .before .before .before .pre .1 .1) (rw (c .before .before .patch-rows .ensures) at (c .before .if2 .taken)) (c .outgrow .ensures))  -- returns-2
-    (λ c κs. (c .before .before .before .before .before .before .before .pre .1 .0 .fits, rw (c .before .before .patch-rows .ensures) at (c .before .if2 .left)))  -- put-patch-requires
+    (λ c κs. (c .before .before .before .before .pre .1 .0, patch-fits (c .before .before .before .before .pre .0) (c .before .before .before .before .pre .1 .1) (c .before .if1 .left)))  -- put-patch-requires
     (λ c. search needs)  -- add-e
-    (λ c. search needs)  -- same-length-2
-    (λ c. patch-goes _ (c .before .before .before .before .before .before .before .before .before .before .pre .0) (c .before .before .before .before .before .before .before .before .before .before .pre .1 .0) (c .before .before .before .before .before .before .before .if1 .left) (c .before .before .before .before .before .before .before .before .before .before .pre .1 .1) (rw (c .before .before .before .before .before .patch-rows .ensures) at (c .before .before .before .before .if2 .left)) (c .before .before .put-patch .ensures)))  -- returns-3
+    (λ c. search needs)  -- same-length
+    (λ c. patch-goes _ (c .before .before .before .before .before .before .before .pre .0) (c .before .before .before .before .before .before .before .pre .1 .0) (c .before .before .before .before .if1 .left) (c .before .before .before .before .before .before .before .pre .1 .1) (c .before .before .put-patch .ensures)))  -- returns-2

@@ -11,5 +11,5 @@ bound-label-spec =
     (tie.spec
     (λ c κs. search needs)  -- wide-requires
     (λ c. bound-none _ _ _ (c .before .before .wide .ensures) (c .if1 .taken))  -- returns
-    (λ c κs. (c .before .before .before .before .pre .1 .fits, omega (arith, c .before .before .before .before .pre .1 .labels)))  -- label-place-requires
+    (λ c κs. (c .before .before .before .before .pre .1, omega (arith, c .before .before .before .before .pre .0 .labels)))  -- label-place-requires
     (λ c. bound-at _ _ _ (c .before .before .before .wide .ensures) (c .before .if1 .left) (c .label-place .ensures)))  -- returns-2

@@ -2,7 +2,7 @@
 use mathlib.Core.Path.{refl}
 use mathlib.Core.List.{[], _∷_}
 use native.Mathlib.Omega.{arith}
-use Rattle.emit.proofs.Labels.{create-stays, create-full, create-outgrown, create-goes, free-label}
+use Rattle.emit.proofs.Labels.{create-stays, create-full, create-goes, free-label}
 use borrow.Author.Needs.{needs}
 use Rattle.emit.proofs.Emitter.create_label.Statement.{statement}
 use Rattle.emit.proofs.Emitter.create_label.Tie as tie
@@ -15,11 +15,7 @@ create-label-spec =
     (λ c. create-stays (search needs) (search needs) (c .before .before .narrow .ensures) (c .if1 .taken))  -- returns
     (λ c κs. search needs)  -- refuse-requires
     (λ c. create-full (c .before .before .before .before .before .before .pre .0) (c .before .before .before .before .before .before .pre .1) (c .before .before .before .before .narrow .ensures) (c .before .if2 .taken) (c .refuse .ensures))  -- returns-2
-    (λ c κs. search needs)  -- label-rows-requires
-    (λ c κs. search needs)  -- outgrow-requires
-    (λ c. search needs)  -- same-length
-    (λ c. create-outgrown (c .before .before .before .before .before .before .before .before .before .pre .0) (c .before .before .before .before .before .before .before .before .before .pre .1) (c .before .before .before .before .before .before .before .narrow .ensures) (c .before .before .before .before .before .if1 .left) (c .before .before .before .before .if2 .left) (rw (c .before .before .label-rows .ensures) at (c .before .if3 .taken)) (c .outgrow .ensures))  -- returns-3
-    (λ c κs. (c .before .before .before .before .before .before .before .before .before .pre .1 .fits, rw (c .before .before .label-rows .ensures) at (c .before .if3 .left)))  -- put-label-requires
+    (λ c κs. search needs)  -- put-label-requires
     (λ c. search needs)  -- add-e
-    (λ c. search needs)  -- same-length-2
-    (λ c. create-goes (c .before .before .before .before .before .before .before .before .before .before .before .before .pre .0) (c .before .before .before .before .before .before .before .before .before .before .before .before .pre .1) (0 ∷ 0 ∷ []) refl free-label (c .before .before .before .before .before .before .before .before .before .before .narrow .ensures) (c .before .before .before .before .before .before .before .before .if1 .left) (c .before .before .before .before .before .before .before .if2 .left) (rw (c .before .before .before .before .before .label-rows .ensures) at (c .before .before .before .before .if3 .left)) (c .before .before .put-label .ensures)))  -- returns-4
+    (λ c. search needs)  -- same-length
+    (λ c. create-goes (c .before .before .before .before .before .before .before .before .before .pre .0) (c .before .before .before .before .before .before .before .before .before .pre .1) (0 ∷ 0 ∷ []) refl free-label (c .before .before .before .before .before .before .before .narrow .ensures) (c .before .before .before .before .before .if1 .left) (c .before .before .before .before .if2 .left) (c .before .before .put-label .ensures)))  -- returns-3

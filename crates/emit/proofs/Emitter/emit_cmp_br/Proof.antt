@@ -14,7 +14,7 @@ emit-cmp-br-spec =
     (λ c κs. (c .before .before .before .before .before .pre .fine, c .before .before .before .before .before .pre .held))  -- intern-constant-requires
     (λ c κs. omega (arith, c .before .before .before .intern-constant .ensures .pooled .fine .size))  -- narrow-requires
     (λ c κs. search needs)  -- cmp-br-requires
-    (λ c κs. (c .before .before .before .before .before .before .before .intern-constant .ensures .pooled .fine, (c .before .before .before .before .before .before .before .before .before .before .before .before .before .pre .room, c .before .before .before .before .before .before .before .intern-constant .ensures .pooled .kept (c .before .before .before .before .before .before .before .before .before .before .before .before .before .args .code .now) (c .before .before .before .before .before .before .before .before .before .before .before .before .before .args .book .now) .sized .slots (c .before .before .before .before .before .before .before .before .before .before .before .before .before .pre .slots))))  -- add-cmp-br-requires
+    (λ c κs. (c .before .before .before .before .before .before .before .intern-constant .ensures .pooled .fine, (c .before .before .before .before .before .before .before .before .before .before .before .before .before .pre .room, c .before .before .before .before .before .before .before .before .before .before .before .before .before .pre .slots)))  -- add-cmp-br-requires
     (λ c κs. (c .before .before .before .before .before .add-cmp-br .ensures .coded .fine, (c .before .before .before .before .before .add-cmp-br .ensures .coded .slots, c .before .before .before .before .before .add-cmp-br .ensures .branched (seven-bytes _ _ _ _))))  -- add-patch-requires
     (λ c. search needs)  -- same-length
     (λ c. search needs)  -- same-length-2

@@ -9,7 +9,7 @@ load-constant-spec =
     tie.close
     (tie.spec
     (λ c κs. (c .before .before .before .before .before .pre .fine, c .before .before .before .before .before .pre .held))  -- intern-constant-requires
-    (λ c κs. (c .before .before .before .before .before .intern-constant .ensures .pooled .fine, (c .before .before .before .before .before .before .before .before .before .before .before .pre .room, c .before .before .before .before .before .intern-constant .ensures .pooled .kept (c .before .before .before .before .before .before .before .before .before .before .before .args .code .now) (c .before .before .before .before .before .before .before .before .before .before .before .args .book .now) .sized .slots (c .before .before .before .before .before .before .before .before .before .before .before .pre .slots))))  -- add-u16-requires
+    (λ c κs. (c .before .before .before .before .before .intern-constant .ensures .pooled .fine, (c .before .before .before .before .before .before .before .before .before .before .before .pre .room, c .before .before .before .before .before .before .before .before .before .before .before .pre .slots)))  -- add-u16-requires
     (λ c. search needs)  -- same-length
     (λ c. search needs)  -- same-length-2
     (λ c. search needs)  -- same-length-3

@@ -1,7 +1,7 @@
 -- Made by `answers` from crates/emit/answers/Emitter/prepare.txt: edit that file, not this one.
 use mathlib.Core.Path.{sym, _∙_}
 use native.Mathlib.Omega.{arith}
-use Rattle.emit.proofs.Instructions.{prepare-stays, prepare-full, prepare-here, prepare-lines, prepare-outgrown, prepare-noted}
+use Rattle.emit.proofs.Instructions.{prepare-stays, prepare-full, prepare-here, prepare-lines, prepare-noted}
 use borrow.Author.Needs.{needs}
 use Rattle.emit.proofs.Emitter.prepare.Statement.{statement}
 use Rattle.emit.proofs.Emitter.prepare.Tie as tie
@@ -20,12 +20,8 @@ prepare-spec =
     (λ c κs. search needs)  -- refuse-requires-2
     (λ c. search needs)  -- same-length-2
     (λ c. prepare-lines _ (c .before .before .before .before .before .before .before .before .before .before .pre .0) (c .before .before .before .before .before .before .before .before .before .before .pre .1 .0) (c .before .before .before .before .before .if2 .left) (sym (c .before .before .if3 .left) ∙ (c .before .before .before .stands-here) .ensures) (c .before .if4 .taken) (c .refuse2 .ensures))  -- returns-4
-    (λ c κs. search needs)  -- line-rows-requires
-    (λ c κs. search needs)  -- outgrow-requires
-    (λ c. search needs)  -- same-length-3
-    (λ c. prepare-outgrown _ (c .before .before .before .before .before .before .before .before .before .before .before .before .before .pre .0) (c .before .before .before .before .before .before .before .before .before .before .before .before .before .pre .1 .0) (c .before .before .before .before .before .before .before .before .if2 .left) (sym (c .before .before .before .before .before .if3 .left) ∙ (c .before .before .before .before .before .before .stands-here) .ensures) (c .before .before .before .before .before .before .before .before .before .before .if1 .left) (c .before .before .before .before .if4 .left) (rw (c .before .before .line-rows .ensures) at (c .before .if5 .taken)) (c .outgrow .ensures))  -- returns-5
-    (λ c κs. omega (arith, c .before .before .before .before .before .before .before .before .before .before .before .before .before .pre .0 .size))  -- narrow-requires
-    (λ c κs. (c .before .before .before .before .before .before .before .before .before .before .before .before .before .before .before .pre .1 .0 .fits, rw (c .before .before .before .before .line-rows .ensures) at (c .before .before .before .if5 .left)))  -- put-line-requires
+    (λ c κs. omega (arith, c .before .before .before .before .before .before .before .before .before .before .pre .0 .size))  -- narrow-requires
+    (λ c κs. (c .before .before .before .before .before .before .before .before .before .before .before .before .pre .1 .0, c .before .before .before .if4 .left))  -- put-line-requires
     (λ c. search needs)  -- add-e
-    (λ c. search needs)  -- same-length-4
-    (λ c. prepare-noted _ (c .before .before .before .before .before .before .before .before .before .before .before .before .before .before .before .before .before .before .pre .0) (c .before .before .before .before .before .before .before .before .before .before .before .before .before .before .before .before .before .before .pre .1 .0) (c .before .before .before .before .before .before .before .before .before .before .before .before .before .if2 .left) (sym (c .before .before .before .before .before .before .before .before .before .before .if3 .left) ∙ (c .before .before .before .before .before .before .before .before .before .before .before .stands-here) .ensures) (c .before .before .before .before .narrow .ensures) (c .before .before .before .before .before .before .before .before .before .before .before .before .before .before .before .if1 .left) (c .before .before .before .before .before .before .before .before .before .if4 .left) (rw (c .before .before .before .before .before .before .before .line-rows .ensures) at (c .before .before .before .before .before .before .if5 .left)) (c .before .before .put-line .ensures)))  -- returns-6
+    (λ c. search needs)  -- same-length-3
+    (λ c. prepare-noted _ (c .before .before .before .before .before .before .before .before .before .before .before .before .before .before .before .pre .0) (c .before .before .before .before .before .before .before .before .before .before .before .before .before .before .before .pre .1 .0) (c .before .before .before .before .before .before .before .before .before .before .if2 .left) (sym (c .before .before .before .before .before .before .before .if3 .left) ∙ (c .before .before .before .before .before .before .before .before .stands-here) .ensures) (c .before .before .before .before .narrow .ensures) (c .before .before .before .before .before .before .before .before .before .before .before .before .if1 .left) (c .before .before .before .before .before .before .if4 .left) (c .before .before .put-line .ensures)))  -- returns-5

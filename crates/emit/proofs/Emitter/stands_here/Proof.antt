@@ -11,6 +11,6 @@ stands-here-spec =
     (tie.spec
     (λ c. stands-nowhere (c .before .before .before .args .book .now) (c .before .before .before .args .self .lines) (c .before .before .before .args .self .position) (c .if1 .taken))  -- returns
     (λ c. search needs)  -- sub-line-at
-    (λ c κs. (c .before .before .before .before .pre .1 .fits, omega (arith, c .before .before .before .before .pre .1 .lines)))  -- line-at-requires
+    (λ c κs. (c .before .before .before .before .pre .1, omega (arith, c .before .before .before .before .pre .0 .lines)))  -- line-at-requires
     (λ c κs. search needs)  -- same-requires
     (λ c. stands-by (c .before .before .before .before .before .before .before .before .args .book .now) (c .before .before .before .before .before .before .before .before .args .self .lines) (c .before .before .before .before .before .before .before .before .args .self .position) (c .before .before .before .before .before .if1 .left) (c .before .before .before .line-at .ensures) (c .same .ensures)))  -- returns-2

@@ -8,11 +8,9 @@ pub emitted-lines-spec : {M : Type 1} → statement M
 emitted-lines-spec =
     tie.close
     (tie.spec
-    (λ c κs. search needs)  -- line-base-requires
     (λ c. search needs)  -- mul-end
     (λ c. search needs)  -- add-end
-    (λ c. search needs)  -- mul-result
     (λ c. search needs)  -- sub-result
     (λ c. search needs)  -- part-result-start
     (λ c. search needs)  -- part-result-end
-    (λ c. rw (c .before .line-base .ensures) (lines-there (c .before .before .before .args .book .now) (c .before .before .before .args .n) (c .before .before .before .pre .0) (c .before .before .before .pre .1), lines-long (c .before .before .before .args .book .now) (c .before .before .before .args .n) (c .before .before .before .pre .0) (c .before .before .before .pre .1))))  -- returns
+    (λ c. (lines-there (c .before .args .book .now) (c .before .args .n) (c .before .pre .0) (c .before .pre .1), lines-long (c .before .args .book .now) (c .before .args .n) (c .before .pre .0) (c .before .pre .1))))  -- returns

@@ -1,7 +1,4 @@
 -- Made by `answers` from crates/emit/answers/book/line_at.txt: edit that file, not this one.
-use native.Mathlib.Omega.{arith}
-use lib.ListN.{length}
-use Rattle.emit.specs.Book.{lineBase}
 use Rattle.emit.proofs.Tables.{line-read}
 use borrow.Author.Needs.{needs}
 use Rattle.emit.proofs.book.line_at.Statement.{statement}
@@ -11,8 +8,7 @@ pub line-at-spec : {M : Type 1} → statement M
 line-at-spec =
     tie.close
     (tie.spec
-    (λ c κs. search needs)  -- line-base-requires
     (λ c. search needs)  -- mul-entry-at
     (λ c. search needs)  -- add-entry-at
     (λ c κs. search needs)  -- entry-at-requires
-    (λ c. line-read _ _ (lineBase (length (c .before .before .before .args .book .now))) (rw (c .before .line-base .ensures) at (c .entry-at .ensures)) (omega arith)))  -- returns
+    (λ c. line-read _ _ (c .entry-at .ensures) (c .before .before .pre .0) (c .before .before .pre .1)))  -- returns

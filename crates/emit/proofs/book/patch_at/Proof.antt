@@ -1,6 +1,5 @@
 -- Made by `answers` from crates/emit/answers/book/patch_at.txt: edit that file, not this one.
-use lib.ListN.{length}
-use Rattle.emit.specs.Book.{patchBase}
+use mathlib.Core.Path.{refl}
 use Rattle.emit.proofs.Tables.{patch-read}
 use borrow.Author.Needs.{needs}
 use Rattle.emit.proofs.book.patch_at.Statement.{statement}
@@ -10,7 +9,6 @@ pub patch-at-spec : {M : Type 1} → statement M
 patch-at-spec =
     tie.close
     (tie.spec
-    (λ c κs. search needs)  -- patch-base-requires
     (λ c. search needs)  -- mul-at
     (λ c. search needs)  -- add-at
     (λ c. search needs)  -- mul-offset
@@ -21,4 +19,4 @@ patch-at-spec =
     (λ c. search needs)  -- add-label
     (λ c. search needs)  -- mul-label
     (λ c. search needs)  -- shared-slice-read-label
-    (λ c. patch-read (c .before .before .before .before .before .args .book .now) (c .before .before .before .before .before .args .n) (patchBase (length (c .before .before .before .before .before .args .book .now))) (rw (c .before .before .before .patch-base .ensures)) (rw (c .before .before .before .patch-base .ensures)) (rw (c .before .before .before .patch-base .ensures))))  -- returns
+    (λ c. patch-read (c .before .before .before .args .book .now) (c .before .before .before .args .n) refl refl refl))  -- returns

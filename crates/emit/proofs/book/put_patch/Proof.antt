@@ -9,22 +9,21 @@ use Rattle.emit.proofs.book.put_patch.Tie as tie
 
 returns : tie.Need-returns
 unfolding patchNumbers
-returns c = rw (← (c .before .patch-base) .ensures) (three-stores (c .before .before .before .before .args .book .now) _ (c .before .before .before .before .args .patch .«instruction_offset») (c .before .before .before .before .args .patch .«operand_delta») (c .before .before .before .before .args .patch .label .0))
+returns c = three-stores (c .before .args .book .now) _ (c .before .args .patch .«instruction_offset») (c .before .args .patch .«operand_delta») (c .before .args .patch .label .0)
 
 pub put-patch-spec : {M : Type 1} → statement M
 put-patch-spec =
     tie.close
     (tie.spec
-    (λ c κs. search needs)  -- patch-base-requires
     (λ c. search needs)  -- mul-at
     (λ c. search needs)  -- add-at
     (λ c. search needs)  -- mul-book
     (λ c. search needs)  -- slice-write-book
     (λ c. search needs)  -- add-book
     (λ c. search needs)  -- mul-book-2
-    (λ c. simp length-set (omega (arith, c .before .patch-base .ensures)))  -- slice-write-book-2
+    (λ c. simp length-set (omega arith))  -- slice-write-book-2
     (λ c. search needs)  -- add-book-2
     (λ c. search needs)  -- mul-book-3
-    (λ c. simp length-set (omega (arith, c .before .patch-base .ensures)))  -- slice-write-book-3
+    (λ c. simp length-set (omega arith))  -- slice-write-book-3
     (λ c. search needs)  -- same-length
     returns)

@@ -46,7 +46,8 @@ use Rattle.lent_emitter.specs.declared.Lent.{Lent}
 use Rattle.emit.specs.declared.Emitter.{Emitter}
 use Rattle.emit.specs.declared.Label.{Label}
 use Rattle.definition.specs.Emit.{bindLabel}
-use Rattle.emit.specs.Steps.{Fine as IsFine, Slots, Booked}
+use Rattle.emit.specs.Book.{bookSize}
+use Rattle.emit.specs.Steps.{Fine as IsFine, Booked}
 use Rattle.lent_emitter.proofs.Lent as T
 use Rattle.lent_emitter.proofs.Lent.Laws as T′
 use Rattle.emit.proofs.Emitter as E
@@ -70,7 +71,7 @@ abbrev Fine₁ : Lent → List ℕ → Label → Type 0
 Fine₁ h book l = IsFine (h .emitter)
 
 abbrev Fine₂ : Lent → List ℕ → Label → Type 0
-Fine₂ h book l = Slots (h .emitter) book
+Fine₂ h book l = length book ≡ bookSize
 
 abbrev Fine : Lent → List ℕ → Label → Type 0
 Fine h book l = (Fine₁ h book l) × (Fine₂ h book l)

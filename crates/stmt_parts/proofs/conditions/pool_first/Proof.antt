@@ -14,6 +14,6 @@ pool-first-spec =
     (λ c. search needs)  -- enum-known-condition
     (λ c κs. (c .before .before .before .before .before .before .before .pre .1 .0, c .before .before .before .before .before .before .before .pre .1 .1))  -- add-constant-requires
     (λ c. search needs)  -- enum-told
-    (λ c. search needs)  -- same-length
+    (λ c. c .before .before .add-constant .ensures .held .size ∙ sym (c .before .before .before .before .before .before .before .before .before .before .pre .1 .1 .size))  -- same-length
     (λ c. pools _ _ (sym (ap classified (c .before .before .before .before .before .condition .given .1)) ∙ (c .before .before .before .before .before .before .before .classify) .ensures) (c .before .before .add-constant .ensures))  -- returns
     (λ c. pools-none _ (sym (ap classified (c .enum-told .given .1)) ∙ (c .before .before .classify) .ensures) (c .before .before .before .before .before .pre .1 .0) (c .before .before .before .before .before .pre .1 .1)))  -- returns-2

@@ -16,9 +16,9 @@ while-end-spec =
     (λ c. search needs)  -- enum-told
     (λ c κs. (c .before .before .before .before .before .before .before .before .before .before .pre .1 .fine, (c .before .before .before .before .before .before .before .before .before .before .pre .1 .room, c .before .before .before .before .before .before .before .before .before .before .pre .1 .slots)))  -- emit-jmp-requires
     (λ c. c .before .before .before .before .before .before .emit-classified-cmp-br .ensures .ready .room ∙ sym (c .before .before .before .before .before .before .before .before .before .before .before .before .before .before .before .before .before .before .before .pre .1 .room))  -- same-length
-    (λ c. search needs)  -- same-length-2
-    (λ c. search needs)  -- same-length-3
+    (λ c. c .before .before .before .before .before .before .emit-classified-cmp-br .ensures .ready .slots ∙ sym (c .before .before .before .before .before .before .before .before .before .before .before .before .before .before .before .before .before .before .before .pre .1 .slots))  -- same-length-2
+    (λ c. c .before .before .before .before .before .before .emit-classified-cmp-br .ensures .ready .held .size ∙ sym (c .before .before .before .before .before .before .before .before .before .before .before .before .before .before .before .before .before .before .before .pre .1 .held .size))  -- same-length-3
     (λ c. back-fused _ _ _ _ (sym (ap classified (c .before .before .before .before .before .before .before .before .before .before .before .condition .given .1)) ∙ (c .before .before .before .before .before .before .before .before .before .before .before .before .before .classify) .ensures) (c .before .before .before .before .before .before .emit-classified-cmp-br .ensures))  -- returns
     (λ c. c .before .before .before .before .emit-jmp .ensures .room ∙ sym (c .before .before .before .before .before .before .before .before .before .before .before .before .before .before .before .pre .1 .room))  -- same-length-4
-    (λ c. search needs)  -- same-length-5
+    (λ c. c .before .before .before .before .emit-jmp .ensures .slots ∙ sym (c .before .before .before .before .before .before .before .before .before .before .before .before .before .before .before .pre .1 .slots))  -- same-length-5
     (λ c. back-jumps _ _ _ (sym (ap classified (c .before .before .before .before .before .before .before .enum-told .given .1)) ∙ (c .before .before .before .before .before .before .before .before .before .classify) .ensures) (c .before .before .before .before .before .before .before .before .before .before .before .before .before .before .before .pre .1) (c .before .before .before .before .emit-jmp .ensures)))  -- returns-2

@@ -14,5 +14,5 @@ close-arm-spec =
     (λ c κs. (c .before .before .before .before .before .emit-jmp .ensures .fine, c .before .before .before .before .before .emit-jmp .ensures .slots))  -- bind-label-requires
     (λ c κs. c .before .before .bind-label .ensures .fine)  -- reset-stack-depth-requires
     (λ c. c .before .before .before .before .before .before .before .before .before .emit-jmp .ensures .room ∙ sym (c .before .before .before .before .before .before .before .before .before .before .before .before .before .before .before .pre .1 .0))  -- same-length
-    (λ c. search needs)  -- same-length-2
+    (λ c. c .before .before .before .bind-label .ensures .slots ∙ sym (c .before .before .before .before .before .before .before .before .before .before .before .before .before .before .before .pre .1 .1))  -- same-length-2
     (λ c. arm-ends _ _ _ (c .before .before .before .before .before .before .before .before .before .emit-jmp .ensures) (c .before .before .before .bind-label .ensures) (c .reset-stack-depth .ensures)))  -- returns

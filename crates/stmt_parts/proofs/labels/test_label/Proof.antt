@@ -23,11 +23,11 @@ test-label-spec =
     (λ c. search needs)  -- enum-known-line-3
     (λ c κs. (c .before .before .before .before .before .before .before .before .before .pre .1 .fine, bad-line _ _ _ _ _ (sym (c .before .before .before .next-label .ensures .is) ∙ ap labelLine (c .before .line3 .given .1))))  -- refuse-requires
     (λ c. c .before .before .before .before .before .before .test-value .ensures .ready .room ∙ sym (c .before .before .before .before .before .before .before .before .before .before .before .before .before .before .before .before .before .before .before .before .pre .1 .room))  -- same-length
-    (λ c. search needs)  -- same-length-2
-    (λ c. search needs)  -- same-length-3
+    (λ c. c .before .before .before .before .before .before .test-value .ensures .ready .slots ∙ sym (c .before .before .before .before .before .before .before .before .before .before .before .before .before .before .before .before .before .before .before .before .pre .1 .slots))  -- same-length-2
+    (λ c. c .before .before .before .before .before .before .test-value .ensures .ready .held .size ∙ sym (c .before .before .before .before .before .before .before .before .before .before .before .before .before .before .before .before .before .before .before .before .pre .1 .held .size))  -- same-length-3
     (λ c. label-is _ _ _ _ _ _ (sym (c .before .before .before .before .before .before .before .before .before .before .before .before .before .before .next-label .ensures .is) ∙ ap labelLine (c .before .before .before .before .before .before .before .before .before .before .before .before .line .given .1)) (c .before .before .before .before .before .before .before .before .before .before .next-line .ensures) (c .before .before .before .before .before .before .test-value .ensures))  -- returns
     (λ c. c .before .before .before .before .before .before .test-range .ensures .ready .room ∙ sym (c .before .before .before .before .before .before .before .before .before .before .before .before .before .before .before .before .before .before .before .before .pre .1 .room))  -- same-length-4
-    (λ c. search needs)  -- same-length-5
-    (λ c. search needs)  -- same-length-6
+    (λ c. c .before .before .before .before .before .before .test-range .ensures .ready .slots ∙ sym (c .before .before .before .before .before .before .before .before .before .before .before .before .before .before .before .before .before .before .before .before .pre .1 .slots))  -- same-length-5
+    (λ c. c .before .before .before .before .before .before .test-range .ensures .ready .held .size ∙ sym (c .before .before .before .before .before .before .before .before .before .before .before .before .before .before .before .before .before .before .before .before .pre .1 .held .size))  -- same-length-6
     (λ c. label-is _ _ _ _ _ _ (sym (c .before .before .before .before .before .before .before .before .before .before .before .before .before .before .next-label .ensures .is) ∙ ap labelLine (c .before .before .before .before .before .before .before .before .before .before .before .before .line2 .given .1)) (c .before .before .before .before .before .before .before .before .before .before .next-line2 .ensures) (c .before .before .before .before .before .before .test-range .ensures))  -- returns-2
     (λ c. label-bad _ _ _ _ _ _ (c .before .before .before .before .before .before .before .before .before .before .pre .0) (c .before .before .before .before .before .before .before .before .before .before .pre .1) (sym (c .before .before .before .before .next-label .ensures .is) ∙ ap labelLine (c .before .before .line3 .given .1)) (c .refuse .ensures)))  -- returns-3

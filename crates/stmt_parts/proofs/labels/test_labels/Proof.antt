@@ -25,9 +25,9 @@ test-labels-spec =
     (λ c κs. (c .before .before .before .before .loop .inv .near, c .before .before .before .before .loop .inv .ready))  -- test-jump-requires
     (λ c. search needs)  -- sub-more
     (λ c. search needs)  -- loop-less
-    (λ c. tests-on (c .before .before .before .before .before .before .before .before .before .before .before .before .before .loop .inv) (c .before .before .before .before .before .before .before .before .test-jump .ensures) (c .before .before .before .before .before .before .before .before .before .before .before .before .loop-test .taken) (c .before .before .before .before .before .before .before .before .test-jump .kept .1 .1 .1 .0) (c .before .before .before .before .before .before .before .before .test-jump .kept .1 .1 .1 .1 .0))  -- loop-again
+    (λ c. tests-on (c .before .before .before .before .before .before .before .before .before .before .before .before .before .loop .inv) (c .before .before .before .before .before .before .before .before .test-jump .ensures) (c .before .before .before .before .before .before .before .before .before .before .before .before .loop-test .taken))  -- loop-again
     (λ c κs. (c .before .before .before .before .loop .inv .near, c .before .before .before .before .loop .inv .ready))  -- test-label-requires
     (λ c. c .before .before .before .before .before .before .test-label .ensures .ready .room ∙ sym (c .before .before .before .before .before .before .before .before .before .before .before .before .before .before .before .before .before .pre .1 .0 .room))  -- same-length
-    (λ c. c .before .before .before .before .before .before .test-label .kept .1 .1 .1 .0 ∙ (c .before .before .before .before .before .before .before .before .before .before .before .loop) .inv .book)  -- same-length-2
-    (λ c. c .before .before .before .before .before .before .test-label .kept .1 .1 .1 .1 .0 ∙ (c .before .before .before .before .before .before .before .before .before .before .before .loop) .inv .pool)  -- same-length-3
+    (λ c. c .before .before .before .before .before .before .test-label .ensures .ready .slots ∙ sym (c .before .before .before .before .before .before .before .before .before .before .before .before .before .before .before .before .before .pre .1 .0 .slots))  -- same-length-2
+    (λ c. c .before .before .before .before .before .before .test-label .ensures .ready .held .size ∙ sym (c .before .before .before .before .before .before .before .before .before .before .before .before .before .before .before .before .before .pre .1 .0 .held .size))  -- same-length-3
     (λ c. tests-end (c .before .before .before .before .before .before .before .before .before .before .before .loop .inv) (c .before .before .before .before .before .before .before .before .before .before .loop-test .left) (c .before .before .before .before .before .before .test-label .ensures)))  -- returns
