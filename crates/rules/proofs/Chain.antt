@@ -1,19 +1,20 @@
 -- The index of a pass: how it is made, and that along it the lookup finds what it finds row by row.
-use mathlib.Core.Path.{_≡_, refl, sym, _∙_}
+use mathlib.Core.Path.{_≡_, refl, ap, sym, _∙_}
 use mathlib.Core.Bool.{Bool, true, false}
 use mathlib.Core.List.{List}
 use Prim.Native.Nat.{ℕ, zero, suc, _+_, _-_, _*_, _≤_, _<_}
 use native.Mathlib.Numerals.{add-one}
 use native.Mathlib.Omega.{arith}
 use native.Mathlib.Decide.{ℕ-discrete, decLt}
-use borrow.Author.Tests.{lt-ltb, le-ltb}
+use borrow.Author.Tests.{lt-ltb, le-ltb, ltb-true, ltb-false}
+use lib.Dec.{ltb}
 use lib.ListN.{length, getD, set, replicate, length-set, length-replicate, getD-replicate}
-use lib.Seq.{getD-set-same, getD-set-other}
+use lib.Seq.{getD-set-same, getD-set-other, ext-getD}
 use Rattle.definition.specs.Limits.{maxRules}
 use Rattle.definition.specs.Opcode.{roles, roleCount}
 use Rattle.rules.specs.declared.Instruction.{Instruction}
 use Rattle.rules.specs.declared.Found.the-variants.{At, Nothing}
-use Rattle.rules.specs.View.{rowSize, passAt, firstAt, rowAt, rowStarts, rowFits, foundIn, IsRules, noRule, indexSize, startFrom, nextIn, Indexed, headIn}
+use Rattle.rules.specs.View.{rowSize, passAt, firstAt, rowAt, rowStarts, rowFits, foundIn, IsRules, noRule, indexSize, startFrom, nextIn, indexAt, listed, indexIn, Indexed, headIn}
 use Rattle.rules.proofs.Table.{row-at}
 use Rattle.rules.proofs.Lookup.{start-role, start-same, start-pass, start-other, next-row, foundAfter, found-past, found-here, found-next, found-all}
 
@@ -148,8 +149,45 @@ links-start table count pass = record {
   nexts = λ j h k. getD-replicate indexSize (roleCount + j) noRule 0 (omega arith) ∙ sym (next-past table count pass _ (omega arith));
 }
 
+-- an index whose elements are known is known whole
+length-listed : (f : ℕ → ℕ) (i n : ℕ) → length (listed f i n) ≡ n
+unfolding listed
+length-listed f i zero = refl
+length-listed f i (suc n) = ap suc (length-listed f (suc i) n)
+
+getD-listed : (f : ℕ → ℕ) (i n j : ℕ) → j < n → getD (listed f i n) j 0 ≡ f (i + j)
+unfolding listed
+getD-listed f i zero j h = absurd (omega arith)
+getD-listed f i (suc n) zero h = let z : i ≡ i + 0 = omega arith in ap f z
+getD-listed f i (suc n) (suc j) h = let z : suc i + j ≡ i + suc j = omega arith in getD-listed f (suc i) n j (omega arith) ∙ ap f z
+
+index-is : (table : List ℕ) (count pass : ℕ) (index : List ℕ) → length index ≡ indexSize → ((role : ℕ) → role < roleCount → getD index role 0 ≡ nextIn table count pass role 0)
+    → ((j : ℕ) → j < maxRules → getD index (roleCount + j) 0 ≡ nextIn table count pass (getD table (j * rowSize + firstAt) 0) (j + 1)) → index ≡ indexIn table count pass
+unfolding indexIn indexAt
+index-is table count pass index long heads nexts =
+    ext-getD 0 index (listed f 0 indexSize) (long ∙ sym (length-listed f 0 indexSize)) (λ i h. at i (rw long at h) ∙ ap f (zero-add i) ∙ sym (getD-listed f 0 indexSize i (rw long at h)))
+  where
+    f : ℕ → ℕ
+    f = indexAt table count pass
+
+    zero-add : (i : ℕ) → i ≡ 0 + i
+    zero-add i = omega arith
+
+    at : (i : ℕ) → i < indexSize → getD index i 0 ≡ indexAt table count pass i
+    at i h = go (ltb i roleCount) refl
+      where
+        go : (b : Bool) → ltb i roleCount ≡ b → getD index i 0 ≡ indexAt table count pass i
+        go true q = rw (indexAt, q) (heads i (ltb-true i roleCount q))
+        go false q =
+            let past = ltb-false i roleCount q in
+            let back : i ≡ roleCount + (i - roleCount) = omega arith in
+            rw (indexAt, q) (ap (λ (j : ℕ). getD index j 0) back ∙ nexts (i - roleCount) (omega arith))
+
 pub links-end : {table index : List ℕ} {count pass i : ℕ} → Linking table count pass index i → i ≡ 0 → Indexed table count pass index
-links-end l e = record { long = l .long; heads = λ role h. rw e at (l .heads role h); nexts = λ j h. l .nexts j (omega arith) h }
+links-end {table} {index} {count} {pass} l e =
+    let heads : (role : ℕ) → role < roleCount → getD index role 0 ≡ nextIn table count pass role 0 = λ role h. rw e at (l .heads role h) in
+    let nexts : (j : ℕ) → j < maxRules → getD index (roleCount + j) 0 ≡ nextIn table count pass (getD table (j * rowSize + firstAt) 0) (j + 1) = λ j h. l .nexts j (omega arith) h in
+    record { is = index-is table count pass index (l .long) heads nexts; long = l .long; heads = heads; nexts = nexts }
 
 module _ {table index : List ℕ} {count pass i : ℕ} (t : IsRules table count) (l : Linking table count pass index i) (k : ℕ) (e : i ≡ k + 1) where
   abbrev First : ℕ

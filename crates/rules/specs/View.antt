@@ -267,8 +267,21 @@ startFrom pass role i (suc n) table = elim (rowStarts pass role (take rowSize ta
 unfoldable pub nextIn : List ℕ → ℕ → ℕ → ℕ → ℕ → ℕ
 nextIn table count pass role i = startFrom pass role i (count - i) (drop (i * rowSize) table)
 
--- by role the first rule that starts with it, by rule the next that starts as it does
+-- an element of the index: by role the first rule that starts with it, behind those by rule the next that starts as it does
+unfoldable pub indexAt : List ℕ → ℕ → ℕ → ℕ → ℕ
+indexAt table count pass i = elim (ltb i roleCount) [ true ↦ nextIn table count pass i 0 | false ↦ nextIn table count pass (getD table ((i - roleCount) * rowSize + firstAt) 0) (i - roleCount + 1) ]
+
+-- n numbers from f i on
+unfoldable pub listed : (ℕ → ℕ) → ℕ → ℕ → List ℕ
+listed f i zero = []
+listed f i (suc n) = f i ∷ listed f (suc i) n
+
+unfoldable pub indexIn : List ℕ → ℕ → ℕ → List ℕ
+indexIn table count pass = listed (indexAt table count pass) 0 indexSize
+
+-- it is the index, and so it is read
 pub record Indexed (table : List ℕ) (count pass : ℕ) (index : List ℕ) : Type 0 where
+  pub is : index ≡ indexIn table count pass
   pub long : length index ≡ indexSize
   pub heads : (role : ℕ) → role < roleCount → getD index role 0 ≡ nextIn table count pass role 0
   pub nexts : (i : ℕ) → i < maxRules → getD index (roleCount + i) 0 ≡ nextIn table count pass (getD table (i * rowSize + firstAt) 0) (i + 1)
