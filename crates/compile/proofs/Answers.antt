@@ -24,6 +24,7 @@ use Rattle.emit.specs.declared.Emitter.{Emitter}
 use Rattle.opcode.specs.Table.{Good}
 use Rattle.emit.specs.View.{World, world, state, standing, view}
 use Rattle.emit.specs.Steps.{Fine, Begun, Did, run}
+use Rattle.emit.proofs.Calls.{begun-acts}
 use Rattle.opcode.proofs.Sheets.{role-of-opcode}
 use Rattle.runs.proofs.Passes.{Reads, rules-fine}
 use Rattle.runs.proofs.Finished.{each-so, program-near, program-inside}
@@ -101,8 +102,8 @@ patchable rules s rs g r p d q =
 
 -- the calls of a program's walk, run from an empty emitter, are its emission
 pub emitted : (s : Sheet) (p : Program) {e : Emitter} {v : World} (code book pool : List ℕ) → Begun (p .pos) e → Did (run s (emitStmts (p .body))) (world e code book pool) v → view v ≡ emitProgram s p
-unfolding _>>=_ run emitProgram emitterAt
-emitted s p code book pool b d = d .is ∙ rw (b .is code book pool)
+unfolding emitProgram
+emitted s p code book pool b d = begun-acts s (emitStmts (p .body)) b d
 
 -- ---- the answer
 

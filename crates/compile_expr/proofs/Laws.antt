@@ -3,11 +3,11 @@ use mathlib.Core.Path.{_≡_, refl}
 use mathlib.Core.Bool.{Bool, true, false}
 use Prim.Native.Nat.{ℕ}
 use Rattle.definition.specs.Opcode.{Sheet, CompareOp}
-use Rattle.definition.specs.Emit.{emitCmpBr, act}
+use Rattle.definition.specs.Emit.{emitCmpBr}
 use Rattle.definition.specs.Walk.{say}
 use Rattle.definition.specs.CompileExpr.{ClassifiedCmp, emitClassifiedCmpBr}
 use Rattle.emit.specs.View.{World}
-use Rattle.emit.specs.Steps.{run, Filled}
+use Rattle.emit.specs.Steps.{run, call, Filled}
 use Rattle.emit.proofs.Calls.{said-filled}
 use Rattle.compile_expr.specs.Branching.{branchingOn}
 
@@ -18,5 +18,5 @@ classified-is f true l = refl
 classified-is f false l = refl
 
 pub fuses : (s : Sheet) (f : ClassifiedCmp) (on : Bool) (l : ℕ) {o : CompareOp} {w v : World} → o ≡ branchingOn (f .op) on
-    → Filled (act s (emitCmpBr o (f .variable) (f .constant) l)) w v → Filled (run s (emitClassifiedCmpBr f on l)) w v
+    → Filled (call s (emitCmpBr o (f .variable) (f .constant) l)) w v → Filled (run s (emitClassifiedCmpBr f on l)) w v
 fuses s f on l e d = rw (classified-is f on l, ← e) (said-filled s _ d)

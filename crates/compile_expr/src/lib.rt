@@ -3,14 +3,14 @@
 ghost use mathlib.Core.Path.{_≡_};
 ghost use lib.ListN.{length};
 ghost use Rattle.definition.specs.Limits.{maxCode};
-ghost use Rattle.definition.specs.Emit.{act, emitOpcode, loadVariable, storeVariable};
+ghost use Rattle.definition.specs.Emit.{emitOpcode, loadVariable, storeVariable};
 ghost use Rattle.definition.specs.CompileExpr.{emitClassifiedCmpBr};
 ghost use Rattle.opcode.specs.View.{compareView, roleView};
 ghost use Rattle.opcode.specs.Table.{sheetIn};
 ghost use Rattle.program_shape.specs.Shape.{cmpView};
 ghost use Rattle.emit.specs.Book.{bookSize};
 ghost use Rattle.emit.specs.View.{world};
-ghost use Rattle.emit.specs.Steps.{run, Fine, Ready, Coded, Filled};
+ghost use Rattle.emit.specs.Steps.{run, call, Fine, Ready, Coded, Filled};
 ghost use Rattle.compile_expr.specs.Branching.{branchingOn};
 use emit::Constant;
 use emit::Emitter;
@@ -57,7 +57,7 @@ pub fn emit_load_var(
     requires { ⌜ Fine e ⌝ }
     requires { ⌜ length (now code) ≡ maxCode ⌝ }
     requires { ⌜ length (now book) ≡ bookSize ⌝ }
-    ensures { λ r. ⌜ Coded (act (sheetIn (now (sheet .entry))) (loadVariable variable)) e (now (code .entry)) (now (book .entry)) r (now (code .exit)) (now (book .exit)) ⌝ }
+    ensures { λ r. ⌜ Coded (call (sheetIn (now (sheet .entry))) (loadVariable variable)) e (now (code .entry)) (now (book .entry)) r (now (code .exit)) (now (book .exit)) ⌝ }
 {
     let loaded = e.load_variable(sheet, code, book, variable);
     loaded.emitter
@@ -74,7 +74,7 @@ pub fn emit_store_var(
     requires { ⌜ Fine e ⌝ }
     requires { ⌜ length (now code) ≡ maxCode ⌝ }
     requires { ⌜ length (now book) ≡ bookSize ⌝ }
-    ensures { λ r. ⌜ Coded (act (sheetIn (now (sheet .entry))) (storeVariable variable)) e (now (code .entry)) (now (book .entry)) r (now (code .exit)) (now (book .exit)) ⌝ }
+    ensures { λ r. ⌜ Coded (call (sheetIn (now (sheet .entry))) (storeVariable variable)) e (now (code .entry)) (now (book .entry)) r (now (code .exit)) (now (book .exit)) ⌝ }
 {
     e.store_variable(sheet, code, book, variable)
 }
@@ -90,7 +90,7 @@ pub fn emit_typed(
     requires { ⌜ Fine e ⌝ }
     requires { ⌜ length (now code) ≡ maxCode ⌝ }
     requires { ⌜ length (now book) ≡ bookSize ⌝ }
-    ensures { λ r. ⌜ Coded (act (sheetIn (now (sheet .entry))) (emitOpcode (roleView role))) e (now (code .entry)) (now (book .entry)) r (now (code .exit)) (now (book .exit)) ⌝ }
+    ensures { λ r. ⌜ Coded (call (sheetIn (now (sheet .entry))) (emitOpcode (roleView role))) e (now (code .entry)) (now (book .entry)) r (now (code .exit)) (now (book .exit)) ⌝ }
 {
     e.emit_opcode(sheet, code, book, role)
 }

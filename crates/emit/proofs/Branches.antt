@@ -9,20 +9,18 @@ use Rattle.definition.specs.Limits.{maxCode, maxLabels, maxBranches, maxLines, 
 use Rattle.definition.specs.Res.{Res, ok, refuse, _>>=_}
 use Rattle.definition.specs.Opcode.{Role, Sheet, CompareOp, comparisonByte, jmp, jmpIfNot, cmpBr}
 use Rattle.definition.specs.Emit as def
-use Rattle.definition.specs.Emit.{jmpOperandDelta, cmpBrOperandDelta, emitJmp, emitJmpIfNot, emitCmpBr, act, add, patched, branch, le16}
+use Rattle.definition.specs.Emit.{jmpOperandDelta, cmpBrOperandDelta, emitJmp, emitJmpIfNot, act, add, patched, branch, le16}
 use Rattle.definition.specs.Lent.{entryIn}
 use Rattle.emit.specs.declared.Emitter.{Emitter}
-use Rattle.emit.specs.declared.Interned.{Interned}
 use Rattle.emit.specs.declared.patch.PendingPatch.{PendingPatch}
 use Rattle.emit.specs.declared.Last.the-variants.{Other}
 use Rattle.emit.specs.Book.{labelSize, patchSize, labelBase, patchBase, lineBase, bookSize, labelIn, patchIn, patchNumbers}
 use Rattle.emit.specs.View.{world, state, patchView}
-use Rattle.emit.specs.Steps.{Step, Did, Fine, Coded, Filled}
-use Rattle.emit.specs.Parts.{counted, Noted, Branched, Added, cmpOperand, patching, Interns}
+use Rattle.emit.specs.Steps.{Did, once, Fine, Coded}
+use Rattle.emit.specs.Parts.{counted, Noted, Branched, Added, cmpOperand, patching}
 use Rattle.emit.proofs.Tables.{rows-more, rows-behind, rows-before, patch-back, patch-long}
-use Rattle.emit.proofs.Kept.{kept-self, kept-then, patch-tails}
-use Rattle.emit.proofs.Steps.{stays, goes, by-step, then, size-of}
-use Rattle.emit.proofs.Instructions.{coded-by}
+use Rattle.emit.proofs.Kept.{pool-self, kept-self, kept-then, patch-tails}
+use Rattle.emit.proofs.Steps.{stays, goes, by-step, then, once-then, size-of}
 
 -- ---- a patch more
 
@@ -31,10 +29,10 @@ pub patch-fits : {e : Emitter} → Fine e → Branched e → e .refused ≡ 0 �
 patch-fits h more on = let q = more on in omega (arith, h .size)
 
 module _ (p : def.PendingPatch) {e : Emitter} {book : List ℕ} (h : Fine e) (slots : length book ≡ bookSize) where
-  pub patch-stays : (e .refused ≡ 0 → ⊥) → Noted (patching p) e book e book
-  patch-stays off = record { fine = h; slots = slots; kept = λ code pool. kept-self (world e code book pool); did = λ code pool room. stays (patching p) off }
+  pub patch-stays : (e .refused ≡ 0 → ⊥) → Noted (once (patching p)) e book e book
+  patch-stays off = record { fine = h; slots = slots; kept = λ code pool. kept-self (world e code book pool); did = λ code pool room. stays (once (patching p)) off }
 
-  pub patch-goes : {book′ : List ℕ} → e .refused ≡ 0 → Branched e → book′ ≡ sets book (patchBase + patchSize * e .patches) (patchNumbers p) → Noted (patching p) e book (counted e (e .labels) (e .patches + 1) (e .lines) (e .constants)) book′
+  pub patch-goes : {book′ : List ℕ} → e .refused ≡ 0 → Branched e → book′ ≡ sets book (patchBase + patchSize * e .patches) (patchNumbers p) → Noted (once (patching p)) e book (counted e (e .labels) (e .patches + 1) (e .lines) (e .constants)) book′
   unfolding patched
   patch-goes on more put =
       let few = patch-fits h more on in
@@ -48,7 +46,7 @@ module _ (p : def.PendingPatch) {e : Emitter} {book : List ℕ} (h : Fine e) (sl
           grown = record { size = omega arith; labels = omega arith; patches = omega arith; lines = omega arith; constants = omega arith };
           code = refl;
           book = patch-tails (counted e (e .labels) (e .patches + 1) (e .lines) (e .constants)) ns book (e .patches) (patch-long p) few (omega arith);
-          pool = refl;
+          pool = λ few long. pool-self (e .constants) pool;
           sticky = λ z. absurd (z on);
         };
         did = λ code pool room. goes (patching p) (world e code book pool) (world (counted e (e .labels) (e .patches + 1) (e .lines) (e .constants)) code (sets book j ns) pool) on on
@@ -63,35 +61,33 @@ module _ (p : def.PendingPatch) {e : Emitter} {book : List ℕ} (h : Fine e) (sl
 -- ---- a branch: the instruction, and its patch
 
 branch-did : (s : Sheet) (r : Role) (operand : List ℕ) (p : def.PendingPatch) {e m u : Emitter} {code book pool code′ book′ book″ : List ℕ} → Fine e → length code ≡ maxCode → p .instructionOffset ≡ e .size
-    → Did (add s r (operand ++ le16 0) def.other) (world e code book pool) (world m code′ book′ pool) → Did (patching p) (world m code′ book′ pool) (world u code′ book″ pool)
-    → Did (branch s r operand (p .operandDelta) (p .label)) (world e code book pool) (world u code′ book″ pool)
-unfolding branch
-branch-did s r operand p {e} {code = code} h room is a b = by-step (λ on. rw (size-of code h room, ← is)) (then a b)
+    → Did (once (add s r (operand ++ le16 0) def.other)) (world e code book pool) (world m code′ book′ pool) → Did (once (patching p)) (world m code′ book′ pool) (world u code′ book″ pool)
+    → Did (once (branch s r operand (p .operandDelta) (p .label))) (world e code book pool) (world u code′ book″ pool)
+unfolding branch once
+branch-did s r operand p {e} {code = code} h room is a b = by-step (λ on. rw (size-of code h room, ← is) (once-then (add s r (operand ++ le16 0) def.other) (patched p) _)) (then a b)
 
-pub branch-done : (s : Sheet) (r : Role) (p : def.PendingPatch) {e m u : Emitter} {code book code′ book′ book″ : List ℕ} → Fine e → length code ≡ maxCode → p .instructionOffset ≡ e .size
-    → Added s r (le16 0) Other e code book m code′ book′ → Noted (patching p) m book′ u book″ → Coded (branch s r [] (p .operandDelta) (p .label)) e code book u code′ book″
-branch-done s r p {code′ = code′} h room is a n =
-    record { fine = n .fine; room = a .coded .room; slots = n .slots; kept = λ pool. kept-then (a .coded .kept pool) (n .kept code′ pool); did = λ pool. branch-did s r [] p h room is (a .coded .did pool) (n .did code′ pool (a .coded .room)) }
+pub branch-done : (s : Sheet) (r : Role) (operand : List ℕ) (p : def.PendingPatch) {e m u : Emitter} {code book code′ book′ book″ : List ℕ} → Fine e → length code ≡ maxCode → p .instructionOffset ≡ e .size
+    → Added s r (operand ++ le16 0) Other e code book m code′ book′ → Noted (once (patching p)) m book′ u book″ → Coded (once (branch s r operand (p .operandDelta) (p .label))) e code book u code′ book″
+branch-done s r operand p {code′ = code′} h room is a n =
+    record { fine = n .fine; room = a .coded .room; slots = n .slots; kept = λ pool. kept-then (a .coded .kept pool) (n .kept code′ pool); did = λ pool. branch-did s r operand p h room is (a .coded .did pool) (n .did code′ pool (a .coded .room)) }
 
-module _ (s : Sheet) (l : ℕ) {x : ℕ} {p : def.PendingPatch} {e u : Emitter} {code book code′ book′ : List ℕ} (is : p ≡ record { instructionOffset = x; operandDelta = jmpOperandDelta; label = l }) where
-  pub jmp-done : Coded (branch s jmp [] (p .operandDelta) (p .label)) e code book u code′ book′ → Coded (act s (emitJmp l)) e code book u code′ book′
-  unfolding act
-  jmp-done c = rw is at c
+-- the patch of a branch, as its kind makes it
+module _ (s : Sheet) (r : Role) (operand : List ℕ) (l x delta : ℕ) {p : def.PendingPatch} {e u : Emitter} {code book code′ book′ : List ℕ} (is : p ≡ record { instructionOffset = x; operandDelta = delta; label = l }) where
+  pub branch-of : Coded (once (branch s r operand (p .operandDelta) (p .label))) e code book u code′ book′ → Coded (once (branch s r operand delta l)) e code book u code′ book′
+  branch-of c = rw is at c
 
-  pub jmp-if-not-done : Coded (branch s jmpIfNot [] (p .operandDelta) (p .label)) e code book u code′ book′ → Coded (act s (emitJmpIfNot l)) e code book u code′ book′
-  unfolding act
-  jmp-if-not-done c = rw is at c
+pub jmp-is : (s : Sheet) (l : ℕ) (x : def.Emitter) → act s (emitJmp l) x ≡ branch s jmp [] jmpOperandDelta l x
+unfolding act
+jmp-is s l x = refl
 
--- a CMP_BR: its constant, the instruction, its patch
-pub cmp-br-done : (s : Sheet) (c : CompareOp) (v k l : ℕ) {x : ℕ} {p : def.PendingPatch} {e m u : Emitter} {i : Interned} {code book pool code′ book′ pool′ book″ : List ℕ} → length code ≡ maxCode
-    → Interns k e pool i pool′ → p ≡ record { instructionOffset = x; operandDelta = cmpBrOperandDelta; label = l } → x ≡ i .emitter .size
-    → Added s cmpBr (cmpOperand s c v (i .index)) Other (i .emitter) code book m code′ book′ → Noted (patching p) m book′ u book″
-    → Filled (act s (emitCmpBr c v k l)) (world e code book pool) (world u code′ book″ pool′)
-unfolding act cmpOperand
-cmp-br-done s c v k l {p = p} {i = i} {code = code} {book = book} {code′ = code′} {pool′ = pool′} room q is at a n =
-    let d = branch-did s cmpBr (comparisonByte s c ∷ le16 v ++ le16 (i .index)) p (q .pooled .fine) room (ap (λ (z : def.PendingPatch). z .instructionOffset) is ∙ at) (a .coded .did pool′) (n .did code′ pool′ (a .coded .room)) in
-    record {
-      ready = record { fine = n .fine; room = a .coded .room; slots = n .slots; held = q .pooled .held };
-      kept = kept-then (q .pooled .kept code book) (kept-then (a .coded .kept pool′) (n .kept code′ pool′));
-      did = then (q .pooled .did s code book) (by-step (λ on. rw (← (q .index on))) (rw is at d));
-    }
+pub jmp-if-not-is : (s : Sheet) (l : ℕ) (x : def.Emitter) → act s (emitJmpIfNot l) x ≡ branch s jmpIfNot [] jmpOperandDelta l x
+unfolding act
+jmp-if-not-is s l x = refl
+
+-- a CMP_BR
+pub fused-done : (s : Sheet) (c : CompareOp) (v i l : ℕ) {x : ℕ} {p : def.PendingPatch} {e m u : Emitter} {code book code′ book′ book″ : List ℕ} → Fine e → length code ≡ maxCode
+    → p ≡ record { instructionOffset = x; operandDelta = cmpBrOperandDelta; label = l } → x ≡ e .size → Added s cmpBr (cmpOperand s c v i) Other e code book m code′ book′ → Noted (once (patching p)) m book′ u book″
+    → Coded (once (branch s cmpBr (comparisonByte s c ∷ le16 v ++ le16 i) cmpBrOperandDelta l)) e code book u code′ book″
+unfolding cmpOperand
+fused-done s c v i l {p = p} h room is at a n =
+    branch-of s cmpBr _ l _ cmpBrOperandDelta is (branch-done s cmpBr (comparisonByte s c ∷ le16 v ++ le16 i) p h room (ap (λ (z : def.PendingPatch). z .instructionOffset) is ∙ at) a n)

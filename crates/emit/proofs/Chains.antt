@@ -12,7 +12,7 @@ use lib.Seq.{getD-set-same, getD-set-other, take-set-le, take-set-lt}
 use Rattle.definition.specs.Limits.{maxConstants}
 use Rattle.definition.specs.Emit.{indexOf}
 use Rattle.store.proofs.Fills.{replicate-none}
-use Rattle.emit.specs.Pool.{bucketCount, headBase, linkBase, countAt, staleAt, poolSize, bucketOf, lastIn, Chained, Held, covers, nearer, Appended}
+use Rattle.emit.specs.Pool.{bucketCount, headBase, linkBase, countAt, staleAt, poolSize, bucketOf, lastIn, Chained, Held, covers, nearer, chained, entered, Appended}
 use Rattle.emit.proofs.Constants.{first-found, first-none}
 
 pub bucket-few : (k : ℕ) → bucketOf k < bucketCount
@@ -188,8 +188,10 @@ behind : (l : List ℕ) (i v : ℕ) → maxConstants ≤ i → take maxConstants
 behind l i v far = take-set-le maxConstants l i v far
 
 module _ {pool : List ℕ} {n : ℕ} (k : ℕ) (h : Held pool) (few : n < maxConstants) where
-  pub append-stale : Appended n k pool (set (set pool n k) staleAt 1)
-  append-stale = record {
+  pub append-stale : covers pool n ≡ false → Appended n k pool (set (set pool n k) staleAt 1)
+  unfolding entered
+  append-stale off = record {
+    all = rw (entered, off);
     held = record {
       size = rw (length-set, length-set) (h .size);
       sound = λ z. absurd (let one = getD-set-same (set pool n k) staleAt 1 0 (rw (length-set pool n k, h .size) (omega arith)) in omega arith);
@@ -273,10 +275,12 @@ module _ {pool : List ℕ} {n : ℕ} (k : ℕ) (h : Held pool) (few : n < maxCon
             other (linkBase + i) (λ q. omega arith) (λ q. off (omega arith)) (λ q. omega arith) (λ q. omega arith) ∙ c .links i small
             ∙ sym (last (bucketOf (getD pool i 0)) i (omega arith)) ∙ ap (λ y. lastIn p₄ (bucketOf y) i) (sym (below i small))
 
-    pub append-known : Appended n k pool p₄
-    append-known =
+    pub append-known : covers pool n ≡ true → Appended n k pool p₄
+    unfolding entered chained
+    append-known known =
         let few-b = bucket-few k in
         record {
+          all = rw (entered, known);
           held = record {
             size = length-set p₃ _ _ ∙ long₃;
             sound = λ _. rw count (record { heads = heads; links = links; most = omega arith });

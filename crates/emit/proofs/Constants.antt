@@ -5,22 +5,21 @@ use mathlib.Core.List.{List, [], _∷_, _++_}
 use Prim.Native.Nat.{ℕ, zero, suc, _+_, _≤_, _<_}
 use native.Mathlib.Numerals.{add-one}
 use native.Mathlib.Omega.{arith}
-use borrow.Author.Tests.{le-ltb, lt-ltb, eq-eqb, ne-eqb, eqb-true, eqb-false}
-use lib.Dec.{eqb}
+use borrow.Author.Tests.{le-ltb, lt-ltb, ltb-false, eq-eqb, ne-eqb, eqb-true, eqb-false}
+use lib.Dec.{eqb, ltb, leb}
 use lib.ListN.{length, take, set, getD, length-set}
-use lib.Seq.{length-take-le, getD-take, take-take, take-suc-set, drop-set-lt}
-use Rattle.definition.specs.Limits.{maxCode, maxConstants, constantsFull}
+use lib.Seq.{length-take-le, getD-take, take-take, take-suc-set, drop-at}
+use Rattle.definition.specs.Limits.{maxCode, maxConstants, codeFull, constantsFull}
 use Rattle.definition.specs.Res.{Res, ok, refuse, _>>=_, _>>_, demand}
-use Rattle.definition.specs.Opcode.{Sheet, loadConst}
+use Rattle.definition.specs.Opcode.{Sheet, Role, CompareOp, comparisonByte, loadConst, cmpBr}
 use Rattle.definition.specs.Emit as def
-use Rattle.definition.specs.Emit.{loadConstant, addConstant, refused, act, add, pooled, pooledIf, withConstant, indexOf, le16}
+use Rattle.definition.specs.Emit.{Call, LineEntry, loadConstant, addConstant, emitCmpBr, cmpBrOperandDelta, refused, act, add, added, recorded, branch, patched, pooled, pooledIf, withConstant, indexOf, le16}
 use Rattle.emit.specs.declared.Emitter.{Emitter}
-use Rattle.emit.specs.declared.Interned.{Interned}
-use Rattle.emit.specs.declared.Last.the-variants.{Other}
-use Rattle.emit.specs.Pool.{Held, Appended}
-use Rattle.emit.specs.View.{world, state}
-use Rattle.emit.specs.Steps.{Did, Fine, Bare, Pooled, Coded, Filled}
-use Rattle.emit.specs.Parts.{counted, Added, Interns}
+use Rattle.emit.specs.declared.Found.{Found}
+use Rattle.emit.specs.Pool.{Held, enteredAll, Appended}
+use Rattle.emit.specs.View.{world, state, going, stageOf}
+use Rattle.emit.specs.Steps.{_>->_, Did, metAt, once, call, Fine, Bare, Pooled, Coded, Filled}
+use Rattle.emit.specs.Parts.{counted, sought, StandsAt, Seeks}
 use Rattle.emit.proofs.Kept.{tails-self, kept-self, kept-then}
 use Rattle.emit.proofs.Steps.{stays, goes, by-step, stops, then, is-refused, count-of}
 
@@ -48,6 +47,15 @@ index-new (x ∷ xs) k h = go (eqb x k) h (λ q. index-new xs k q)
         → elim b [ true ↦ 0 | false ↦ suc (indexOf k (xs ++ (k ∷ []))) ] ≡ suc (length xs)
     go true h f = absurd (omega arith)
     go false h f = ap suc (f (omega arith))
+
+index-most : (xs : List ℕ) (k : ℕ) → indexOf k xs ≤ length xs
+unfolding indexOf
+index-most [] k = omega arith
+index-most (x ∷ xs) k = go (eqb x k) (index-most xs k)
+  where
+    go : (b : Bool) → indexOf k xs ≤ length xs → elim b [ true ↦ 0 | false ↦ suc (indexOf k xs) ] ≤ suc (length xs)
+    go true h = omega arith
+    go false h = omega arith
 
 -- the first of the first n constants that is k
 pub first-found : (pool : List ℕ) (n k i : ℕ) → n ≤ length pool → i < n → ((j : ℕ) → j < i → getD pool j 0 ≡ k → ⊥) → getD pool i 0 ≡ k → i ≡ indexOf k (take n pool)
@@ -80,71 +88,223 @@ module _ (pool : List ℕ) (n k : ℕ) where
   pub index-none : {i : ℕ} → Before pool k i n → n ≤ i → n ≤ length pool → (n ≡ indexOf k (take n pool)) × (n ≤ n)
   index-none {i} b h long = (first-none pool n k long (λ j l q. b .none j (omega arith) q), omega arith)
 
+-- ---- the place of a constant
+
+module _ (k : ℕ) {e : Emitter} {pool : List ℕ} (h : Fine e) (long : Held pool) where
+  pub seek-stays : (e .refused ≡ 0 → ⊥) → Seeks k e pool (record { emitter = e; index = 0 })
+  seek-stays off = record { fine = h; kept = λ code book. kept-self (world e code book pool); did = λ code book. stays (once (sought k)) off; index = λ z. absurd (off z) }
+
+  module _ {i : ℕ} (is : i ≡ indexOf k (take (e .constants) pool)) (most : i ≤ e .constants) where
+    pub seek-full : {r : Emitter} → maxConstants ≤ i → Bare (refused (record { number = constantsFull; place = 0 })) e r → Seeks k e pool (record { emitter = r; index = 0 })
+    unfolding sought pooled pooledIf demand _>>_
+    seek-full full b =
+        let absent : e .constants ≤ i = omega (arith, h .constants) in
+        let none-left : maxConstants ≤ e .constants = omega arith in
+        record {
+          fine = b .fine;
+          kept = λ code book. b .kept code book pool;
+          did = λ code book. stops (sought k) constantsFull 0 code book pool b (rw (count-of pool h long, ← is, le-ltb _ _ absent, count-of pool h long, le-ltb _ _ none-left));
+          index = λ z. absurd (is-refused b z);
+        }
+
+    pub seek-goes : {x : ℕ} → x ≡ i → e .refused ≡ 0 → i < maxConstants → Seeks k e pool (record { emitter = e; index = x })
+    unfolding sought pooled pooledIf demand _>>_
+    seek-goes is-x on few = record {
+      fine = h;
+      kept = λ code book. kept-self (world e code book pool);
+      did = λ code book. goes (sought k) (world e code book pool) (world e code book pool) on on (rw (count-of pool h long, ← is) (go (state (world e code book pool)) (ltb i (e .constants)) refl (count-of pool h long)));
+      index = λ z. record { is = is-x ∙ is; few = omega arith };
+    }
+      where
+        go : (x : def.Emitter) (b : Bool) → ltb i (e .constants) ≡ b → length (x .constants) ≡ e .constants → pooledIf b k x >> ok x ≡ ok x
+        go x true q n = refl
+        go x false q n = let absent = ltb-false i (e .constants) q in rw (n, lt-ltb (e .constants) maxConstants (omega arith))
+
 -- ---- a constant in the pool
 
 module _ (k : ℕ) {e : Emitter} {pool : List ℕ} (h : Fine e) (long : Held pool) where
-  pub intern-stays : (e .refused ≡ 0 → ⊥) → Interns k e pool (record { emitter = e; index = 0 }) pool
-  intern-stays off = record { pooled = record { fine = h; held = long; kept = λ code book. kept-self (world e code book pool); did = λ s code book. stays (act s (addConstant k)) off }; index = λ z. absurd (off z) }
+  pub keep-stays : (e .refused ≡ 0 → ⊥) → Pooled (addConstant k) e pool e pool
+  keep-stays off = record { fine = h; held = long; kept = λ code book. kept-self (world e code book pool); did = λ s code book. stays (call s (addConstant k)) off }
 
-  module _ {i x : ℕ} (is : i ≡ indexOf k (take (e .constants) pool)) (is-x : x ≡ i) where
-    pub intern-has : e .refused ≡ 0 → i < e .constants → Interns k e pool (record { emitter = e; index = x }) pool
+  module _ {i x : ℕ} (on : e .refused ≡ 0) (at : e .refused ≡ 0 → StandsAt k e pool x) (is-i : i ≡ x) where
+    pub keep-has : i < e .constants → Pooled (addConstant k) e pool e pool
     unfolding act pooled pooledIf
-    intern-has on few = record {
-      pooled = record {
-        fine = h;
-        held = long;
-        kept = λ code book. kept-self (world e code book pool);
-        did = λ s code book. goes (act s (addConstant k)) (world e code book pool) (world e code book pool) on on (rw (count-of pool h long, ← is, lt-ltb _ _ few));
-      };
-      index = λ z. is-x ∙ is;
-    }
+    keep-has few =
+        let is = is-i ∙ at on .is in
+        record {
+          fine = h;
+          held = long;
+          kept = λ code book. kept-self (world e code book pool);
+          did = λ s code book. goes (act s (addConstant k)) (world e code book pool) (world e code book pool) on on (rw (count-of pool h long, ← is, lt-ltb _ _ few));
+        }
 
     module _ (absent : e .constants ≤ i) where
-      pub intern-full : {r : Emitter} → maxConstants ≤ e .constants → Bare (refused (record { number = constantsFull; place = 0 })) e r → Interns k e pool (record { emitter = r; index = 0 }) pool
-      unfolding act pooled pooledIf demand _>>_
-      intern-full full b = record {
-        pooled = record {
-          fine = b .fine;
-          held = long;
-          kept = λ code book. b .kept code book pool;
-          did = λ s code book. stops (act s (addConstant k)) constantsFull 0 code book pool b (rw (count-of pool h long, ← is, le-ltb _ _ absent, count-of pool h long, le-ltb _ _ full));
-        };
-        index = λ z. absurd (is-refused b z);
-      }
+      pub keep-room : e .constants < maxConstants
+      keep-room = omega (arith, at on .few)
 
-      pub intern-more : {pool′ : List ℕ} → e .refused ≡ 0 → e .constants < maxConstants → i ≤ e .constants → Appended (e .constants) k pool pool′
-          → Interns k e pool (record { emitter = counted e (e .labels) (e .patches) (e .lines) (e .constants + 1); index = x }) pool′
-      unfolding act pooled pooledIf demand _>>_ withConstant
-      intern-more {pool′} on few most a =
+      pub keep-more : {pool′ : List ℕ} → Appended (e .constants) k pool pool′ → Pooled (addConstant k) e pool (counted e (e .labels) (e .patches) (e .lines) (e .constants + 1)) pool′
+      unfolding act pooled pooledIf demand _>>_ withConstant enteredAll
+      keep-more {pool′} a =
+          let is = is-i ∙ at on .is in
+          let few = keep-room in
           let count = count-of pool h long in
           let here : e .constants < length (take maxConstants pool) = rw (length-take-le maxConstants pool (omega (arith, long .size))) few in
           let more : take (e .constants + 1) pool′ ≡ take (e .constants) pool ++ (k ∷ [])
           = sym (take-take (e .constants + 1) maxConstants pool′ (omega arith)) ∙ rw (a .is, add-one, take-suc-set (take maxConstants pool) (e .constants) k here, take-take (e .constants) maxConstants pool (omega arith)) in
-          let new : indexOf k (take (e .constants) pool ++ (k ∷ [])) ≡ length (take (e .constants) pool) = index-new (take (e .constants) pool) k (rw (count, ← is) absent) in
           record {
-            pooled = record {
-              fine = record { size = h .size; labels = h .labels; patches = h .patches; lines = h .lines; constants = omega arith; last = h .last; depth = h .depth; deepest = h .deepest; place = h .place };
-              held = a .held;
-              kept = λ code book. record {
-                grown = record { size = omega arith; labels = omega arith; patches = omega arith; lines = omega arith; constants = omega arith };
-                code = refl;
-                book = tails-self (counted e (e .labels) (e .patches) (e .lines) (e .constants + 1)) book;
-                pool = rw (a .is) (drop-set-lt (e .constants + 1) (take maxConstants pool) (e .constants) k (omega arith));
-                sticky = λ z. absurd (z on);
-              };
-              did = λ s code book. goes (act s (addConstant k)) (world e code book pool) (world (counted e (e .labels) (e .patches) (e .lines) (e .constants + 1)) code book pool′) on on
-                  (rw (count, ← is, le-ltb _ _ absent, count, lt-ltb _ _ few, more));
+            fine = record { size = h .size; labels = h .labels; patches = h .patches; lines = h .lines; constants = omega arith; last = h .last; depth = h .depth; deepest = h .deepest; place = h .place };
+            held = a .held;
+            kept = λ code book. record {
+              grown = record { size = omega arith; labels = omega arith; patches = omega arith; lines = omega arith; constants = omega arith };
+              code = refl;
+              book = tails-self (counted e (e .labels) (e .patches) (e .lines) (e .constants + 1)) book;
+              pool = λ fits size. rw (more, drop-at (take (e .constants) pool) (k ∷ []) (e .constants) count) (a .all);
+              sticky = λ z. absurd (z on);
             };
-            index = λ z. is-x ∙ rw (more, new, count) (omega arith);
+            did = λ s code book. goes (act s (addConstant k)) (world e code book pool) (world (counted e (e .labels) (e .patches) (e .lines) (e .constants + 1)) code book pool′) on on
+                (rw (count, ← is, le-ltb _ _ absent, count, lt-ltb _ _ few, more));
           }
 
--- ---- its load
+-- its place, and then the constant
+seek-first : (s : Sheet) (k : ℕ) (x : def.Emitter) → call s (addConstant k) x ≡ once (sought k) x >-> call s (addConstant k)
+unfolding once act sought metAt _>->_ _>>_
+seek-first s k x = go (pooled k x) refl
+  where
+    go : (m : Res def.Emitter) → pooled k x ≡ m → metAt x m ≡ metAt x (m >> ok x) >-> once (pooled k)
+    go (ok y) e = rw e
+    go (refuse n p) e = refl
 
-pub constant-loaded : (s : Sheet) (k : ℕ) {e r : Emitter} {i : Interned} {code book pool code′ book′ pool′ : List ℕ} → Interns k e pool i pool′ → Added s loadConst (le16 (i .index)) Other (i .emitter) code book r code′ book′
-    → Filled (act s (loadConstant k)) (world e code book pool) (world r code′ book′ pool′)
-unfolding act
-constant-loaded s k {i = i} {code = code} {book = book} {pool′ = pool′} p a = record {
-  ready = record { fine = a .coded .fine; room = a .coded .room; slots = a .coded .slots; held = p .pooled .held };
-  kept = kept-then (p .pooled .kept code book) (a .coded .kept pool′);
-  did = then (p .pooled .did s code book) (by-step (λ on. rw (p .index on)) (a .coded .did pool′));
+pub pool-done : {k : ℕ} {e r : Emitter} {i : Found} {pool pool′ : List ℕ} → Seeks k e pool i → Pooled (addConstant k) (i .emitter) pool r pool′ → Pooled (addConstant k) e pool r pool′
+pool-done {k} q p = record { fine = p .fine; held = p .held; kept = λ code book. kept-then (q .kept code book) (p .kept code book); did = λ s code book. by-step (λ on. seek-first s k _) (then (q .did code book) (p .did s code book)) }
+
+-- ---- an instruction that names a constant: the constant's place, the instruction, the constant
+
+-- f is an instruction, by the constant's index: one that leaves the constants alone, whatever they are
+pub record Apart (f : ℕ → def.Emitter → Res def.Emitter) : Type 0 where
+  pub same : (k i : ℕ) (x : def.Emitter) → f i (withConstant k x) ≡ f i x >>= λ y. ok (withConstant k y)
+  pub keeps : (i : ℕ) (x y : def.Emitter) → f i x ≡ ok y → y .constants ≡ x .constants
+
+module _ (k : ℕ) {f : ℕ → def.Emitter → Res def.Emitter} (alone : Apart f) where
+  -- the place that was found is still the constant's
+  pub still-stands : {i : ℕ} {e u : Emitter} {code book pool code′ book′ : List ℕ} → (e .refused ≡ 0 → StandsAt k e pool i) → Did (once (f i)) (world e code book pool) (world u code′ book′ pool) → u .refused ≡ 0 → StandsAt k u pool i
+  unfolding stageOf _>->_ once metAt
+  still-stands {i} {e} {u} {code} {book} {pool} {code′} {book′} at d on = go (e .refused) at (rw on at (d .is))
+    where
+      w : def.Emitter
+      w = state (world e code book pool)
+
+      v : def.Emitter
+      v = state (world u code′ book′ pool)
+
+      same : (m : Res def.Emitter) → f i w ≡ m → going v ≡ metAt w m → v .constants ≡ w .constants
+      same (ok y) e h = let q : v ≡ y = cc in ap (λ (z : def.Emitter). z .constants) q ∙ alone .keeps i w y e
+      same (refuse a b) e h = absurd (let z : _≡_ {A = ℕ} 0 1 = cc in omega arith)
+
+      go : (r : ℕ) → (r ≡ 0 → StandsAt k e pool i) → going v ≡ stageOf r (e .place) w >-> once (f i) → StandsAt k u pool i
+      go zero at h = record { is = at refl .is ∙ ap (indexOf k) (sym (same (f i w) refl h)); few = at refl .few }
+      go (suc r) at h = absurd (let z : _≡_ {A = ℕ} 0 1 = cc in omega arith)
+
+module _ (s : Sheet) (k : ℕ) {f : ℕ → def.Emitter → Res def.Emitter} (alone : Apart f) where
+  -- adding the constant behind the instruction is adding it before, but where the instruction is refused
+  behind : (x : def.Emitter) → metAt x (pooled k x >>= λ y. f (indexOf k (y .constants)) y) ≡ (once (sought k) x >-> λ y. once (f (indexOf k (y .constants))) y) >-> call s (addConstant k)
+  unfolding once metAt _>->_ _>>=_ _>>_ act sought pooled pooledIf demand withConstant
+  behind x = go (ltb (indexOf k (x .constants)) (length (x .constants))) refl
+    where
+      n : ℕ
+      n = length (x .constants)
+
+      has : ltb (indexOf k (x .constants)) n ≡ true → (m : Res def.Emitter) → f (indexOf k (x .constants)) x ≡ m → metAt x m ≡ metAt x m >-> call s (addConstant k)
+      has q (ok y) e = rw (pooled, alone .keeps _ x y e, q)
+      has q (refuse a b) e = refl
+
+      adds : ltb (indexOf k (x .constants)) n ≡ false → ltb n maxConstants ≡ true → (m : Res def.Emitter) → f (indexOf k (x .constants)) x ≡ m
+          → metAt x (m >>= λ y. ok (withConstant k y)) ≡ metAt x m >-> call s (addConstant k)
+      adds q t (ok y) e = rw (pooled, alone .keeps _ x y e, q, t)
+      adds q t (refuse a b) e = refl
+
+      room : (t : Bool) → ltb n maxConstants ≡ t → ltb (indexOf k (x .constants)) n ≡ false
+          → metAt x ((demand t constantsFull 0 >> ok (withConstant k x)) >>= λ y. f (indexOf k (y .constants)) y) ≡ (metAt x ((demand t constantsFull 0 >> ok (withConstant k x)) >> ok x) >-> λ y. once (f (indexOf k (y .constants))) y) >-> call s (addConstant k)
+      room true t q =
+          let far = ltb-false _ _ q in
+          let most = index-most (x .constants) k in
+          let here : indexOf k (x .constants ++ (k ∷ [])) ≡ indexOf k (x .constants) = index-new (x .constants) k far ∙ omega arith in
+          rw (here, alone .same k (indexOf k (x .constants)) x) (adds q t (f (indexOf k (x .constants)) x) refl)
+      room false t q = refl
+
+      go : (b : Bool) → ltb (indexOf k (x .constants)) n ≡ b
+          → metAt x (pooledIf b k x >>= λ y. f (indexOf k (y .constants)) y) ≡ (metAt x (pooledIf b k x >> ok x) >-> λ y. once (f (indexOf k (y .constants))) y) >-> call s (addConstant k)
+      go true q = has q (f (indexOf k (x .constants)) x) refl
+      go false q = room (ltb n maxConstants) refl q
+
+  pub constant-done : (c : Call) {e u r : Emitter} {i : Found} {code book pool code′ book′ pool′ : List ℕ} → ((x : def.Emitter) → act s c x ≡ pooled k x >>= λ y. f (indexOf k (y .constants)) y)
+      → Seeks k e pool i → Coded (once (f (i .index))) (i .emitter) code book u code′ book′ → Pooled (addConstant k) u pool r pool′ → Filled (call s c) (world e code book pool) (world r code′ book′ pool′)
+  unfolding once
+  constant-done c {i = i} {code = code} {book = book} {pool = pool} {code′ = code′} {book′ = book′} is q a p = record {
+    ready = record { fine = p .fine; room = a .room; slots = a .slots; held = p .held };
+    kept = kept-then (q .kept code book) (kept-then (a .kept pool) (p .kept code′ book′));
+    did = by-step (λ on. rw (is _) (behind _)) (then (then {g = λ y. once (f (indexOf k (y .constants))) y} (q .did code book) (by-step (λ on. rw (← (q .index on .is))) (a .did pool))) (p .did s code′ book′));
+  }
+
+-- ---- instructions that do
+
+apart-add : (s : Sheet) (r : Role) (operand : ℕ → List ℕ) (l : def.Last) → Apart (λ i. add s r (operand i) l)
+unfolding add recorded withConstant _>>_ _>>=_ added
+apart-add s r operand l = record { same = λ k i x. same k (operand i) x; keeps = λ i x y e. keeps (operand i) x y e }
+  where
+    same : (k : ℕ) (ns : List ℕ) (x : def.Emitter) → add s r ns l (withConstant k x) ≡ add s r ns l x >>= λ y. ok (withConstant k y)
+    same k ns x = go (demand (leb (length (x .bytecode) + suc (length ns)) maxCode) codeFull 0) (recorded x)
+      where
+        go : (m : Res (Unit {0})) (q : Res (List LineEntry)) → m >> (q >>= λ entries. ok (added s r ns l entries (withConstant k x))) ≡ (m >> (q >>= λ entries. ok (added s r ns l entries x))) >>= λ y. ok (withConstant k y)
+        go (ok a) (ok b) = refl
+        go (ok a) (refuse n p) = refl
+        go (refuse n p) q = refl
+
+    keeps : (ns : List ℕ) (x y : def.Emitter) → add s r ns l x ≡ ok y → y .constants ≡ x .constants
+    keeps ns x y e = go (demand (leb (length (x .bytecode) + suc (length ns)) maxCode) codeFull 0) (recorded x) e
+      where
+        go : (m : Res (Unit {0})) (q : Res (List LineEntry)) → m >> (q >>= λ entries. ok (added s r ns l entries x)) ≡ ok y → y .constants ≡ x .constants
+        go (ok a) (ok b) e = let q : y ≡ added s r ns l b x = cc in rw (q, added)
+        go (ok a) (refuse n p) e = absurd (let z : _≡_ {A = ℕ} 0 1 = cc in omega arith)
+        go (refuse n p) q e = absurd (let z : _≡_ {A = ℕ} 0 1 = cc in omega arith)
+
+apart-branch : (s : Sheet) (r : Role) (operand : ℕ → List ℕ) (delta l : ℕ) → Apart (λ i. branch s r (operand i) delta l)
+unfolding branch _>>=_ patched withConstant
+apart-branch s r operand delta l = record {
+  same = λ k i x. branch-same k i x;
+  keeps = λ i x y e. branch-keeps i x y e;
 }
+  where
+    alone : Apart (λ i. add s r (operand i ++ le16 0) def.other)
+    alone = apart-add s r (λ i. operand i ++ le16 0) def.other
+
+    branch-same : (k i : ℕ) (x : def.Emitter) → branch s r (operand i) delta l (withConstant k x) ≡ branch s r (operand i) delta l x >>= λ y. ok (withConstant k y)
+    branch-same k i x = ap (λ (m : Res def.Emitter). m >>= λ y. ok (patched (patch (withConstant k x)) y)) (alone .same k i x) ∙ go (add s r (operand i ++ le16 0) def.other x)
+      where
+        patch : def.Emitter → def.PendingPatch
+        patch z = record { instructionOffset = length (z .bytecode); operandDelta = delta; label = l }
+
+        go : (m : Res def.Emitter) → (m >>= λ y. ok (withConstant k y)) >>= (λ y. ok (patched (patch (withConstant k x)) y)) ≡ (m >>= λ y. ok (patched (patch x) y)) >>= λ y. ok (withConstant k y)
+        go (ok y) = refl
+        go (refuse n p) = refl
+
+    branch-keeps : (i : ℕ) (x y : def.Emitter) → branch s r (operand i) delta l x ≡ ok y → y .constants ≡ x .constants
+    branch-keeps i x y e = go (add s r (operand i ++ le16 0) def.other x) refl e
+      where
+        go : (m : Res def.Emitter) → add s r (operand i ++ le16 0) def.other x ≡ m → m >>= (λ z. ok (patched (record { instructionOffset = length (x .bytecode); operandDelta = delta; label = l }) z)) ≡ ok y → y .constants ≡ x .constants
+        go (ok z) q e = let is : y ≡ patched (record { instructionOffset = length (x .bytecode); operandDelta = delta; label = l }) z = cc in rw (is, patched) (alone .keeps i x z q)
+        go (refuse n p) q e = absurd (let z : _≡_ {A = ℕ} 0 1 = cc in omega arith)
+
+pub fused : (s : Sheet) (c : CompareOp) (v l : ℕ) → Apart (λ i. branch s cmpBr (comparisonByte s c ∷ le16 v ++ le16 i) cmpBrOperandDelta l)
+fused s c v l = apart-branch s cmpBr (λ i. comparisonByte s c ∷ le16 v ++ le16 i) cmpBrOperandDelta l
+
+pub loads : (s : Sheet) → Apart (λ i. add s loadConst (le16 i) def.other)
+loads s = apart-add s loadConst le16 def.other
+
+-- what each call is
+pub load-constant-is : (s : Sheet) (k : ℕ) (x : def.Emitter) → act s (loadConstant k) x ≡ pooled k x >>= λ y. add s loadConst (le16 (indexOf k (y .constants))) def.other y
+unfolding act
+load-constant-is s k x = refl
+
+pub cmp-br-is : (s : Sheet) (c : CompareOp) (v k l : ℕ) (x : def.Emitter) → act s (emitCmpBr c v k l) x ≡ pooled k x >>= λ y. branch s cmpBr (comparisonByte s c ∷ le16 v ++ le16 (indexOf k (y .constants))) cmpBrOperandDelta l y
+unfolding act
+cmp-br-is s c v k l x = refl

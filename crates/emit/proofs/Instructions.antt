@@ -27,11 +27,11 @@ use Rattle.emit.specs.declared.Last.{Last}
 use Rattle.emit.specs.declared.Last.the-variants.{Other, Loaded, Stored}
 use Rattle.emit.specs.Book.{labelSize, patchSize, labelBase, patchBase, lineBase, bookSize, labelIn, patchIn, row, rows, linesIn}
 use Rattle.emit.specs.View.{world, lastView, state}
-use Rattle.emit.specs.Steps.{Step, LastAt, Fine, Bare, Coded}
+use Rattle.emit.specs.Steps.{_>->_, metAt, once, LastAt, Fine, Bare, Coded}
 use Rattle.emit.specs.Parts.{altered, counted, lined, prepared, Noted, Prepared, Branched, Added, cmpOperand}
 use Rattle.emit.proofs.Tables.{pushed-sets, length-rows, rows-more, rows-behind, last-none, last-row, entry-back}
-use Rattle.emit.proofs.Kept.{tails-self, kept-self, kept-then, sets-tail, line-tails}
-use Rattle.emit.proofs.Steps.{stays, goes, by-step, stops, then, is-refused, size-of}
+use Rattle.emit.proofs.Kept.{pool-self, tails-self, kept-self, kept-then, sets-tail, line-tails}
+use Rattle.emit.proofs.Steps.{stays, goes, by-step, stops, then, once-then, is-refused, size-of}
 use Rattle.emit.proofs.State.{fine-altered, shift-most}
 
 -- ---- the last entry's position
@@ -49,7 +49,7 @@ module _ (book : List ℕ) (n : ℕ) (p : Pos) where
 
 module _ (n : ℕ) {e : Emitter} {book : List ℕ} (h : Fine e) (slots : length book ≡ bookSize) where
   pub prepare-stays : (e .refused ≡ 0 → ⊥) → Prepared n e book e book
-  prepare-stays off = record { noted = record { fine = h; slots = slots; kept = λ code pool. kept-self (world e code book pool); did = λ code pool room. stays (prepared n) off }; fits = λ z. absurd (off z) }
+  prepare-stays off = record { noted = record { fine = h; slots = slots; kept = λ code pool. kept-self (world e code book pool); did = λ code pool room. stays (once (prepared n)) off }; fits = λ z. absurd (off z) }
 
   pub prepare-full : {r : Emitter} → maxCode < e .size + n → Bare (refused (record { number = codeFull; place = 0 })) e r → Prepared n e book r book
   unfolding prepared demand _>>_
@@ -96,7 +96,7 @@ module _ (n : ℕ) {e : Emitter} {book : List ℕ} (h : Fine e) (slots : length 
                 grown = record { size = omega arith; labels = omega arith; patches = omega arith; lines = omega arith; constants = omega arith };
                 code = refl;
                 book = line-tails (counted e (e .labels) (e .patches) (e .lines + 1) (e .constants)) ns book (e .lines) (length-one x) few (omega arith);
-                pool = refl;
+                pool = λ few long. pool-self (e .constants) pool;
                 sticky = λ z. absurd (z on);
               };
               did = λ code pool room. goes (prepared n) (world e code book pool) (world (counted e (e .labels) (e .patches) (e .lines + 1) (e .constants)) code (sets book j ns) pool) on on
@@ -127,9 +127,9 @@ grows {e} n last x h more fits at is-y is-d′ is-m is =
     rw (is, is-m, is-d) (fine-altered (e .size + n) last (shift x (e .depth)) (max (e .deepest) (shift x (e .depth))) h (omega arith) fits at (omega (arith, h .depth)) (omega (arith, h .depth, h .deepest)), refl)
 
 -- an instruction is its preparation and its bytes
-add-is : (s : Sheet) (r : Role) (operand : List ℕ) (l : def.Last) (x : def.Emitter) → add s r operand l x ≡ prepared (suc (length operand)) x >>= (λ y. ok (added s r operand l (y .lineMap) y))
-unfolding add prepared _>>_ _>>=_
-add-is s r operand l x = go (demand (leb (length (x .bytecode) + suc (length operand)) maxCode) codeFull 0) (recorded x)
+add-is : (s : Sheet) (r : Role) (operand : List ℕ) (l : def.Last) (x : def.Emitter) → once (add s r operand l) x ≡ once (prepared (suc (length operand))) x >-> once (λ y. ok (added s r operand l (y .lineMap) y))
+unfolding add prepared _>>_ _>>=_ once
+add-is s r operand l x = ap (metAt x) (go (demand (leb (length (x .bytecode) + suc (length operand)) maxCode) codeFull 0) (recorded x)) ∙ once-then (prepared (suc (length operand))) (λ y. added s r operand l (y .lineMap) y) x
   where
     go : (m : Res (Unit {0})) (q : Res (List LineEntry)) → m >> (q >>= λ entries. ok (added s r operand l entries x)) ≡ (m >> (q >>= λ entries. ok (lined entries x))) >>= (λ y. ok (added s r operand l (y .lineMap) y))
     go (ok a) (ok b) = unfold lined in unfold added in refl
@@ -180,7 +180,7 @@ module _ (s : Sheet) (r : Role) (operand : List ℕ) (l : Last) (n : ℕ) {e p :
             grown = record { size = omega arith; labels = omega arith; patches = omega arith; lines = omega arith; constants = omega arith };
             code = tail;
             book = tails-self v book′;
-            pool = refl;
+            pool = λ few long. pool-self (p .constants) pool;
             sticky = λ z. absurd (z on);
           }));
           did = λ pool. by-step (λ on. add-is s r operand (lastView l) _) (then (prep′ .noted .did code pool room)
@@ -238,5 +238,7 @@ last-at (Stored v) n = omega arith
 
 -- ---- a step under another name
 
-pub coded-by : {f g : Step} {e r : Emitter} {code book code′ book′ : List ℕ} → ((pool : List ℕ) → f (state (world e code book pool)) ≡ g (state (world e code book pool))) → Coded g e code book r code′ book′ → Coded f e code book r code′ book′
-coded-by is d = record { fine = d .fine; room = d .room; slots = d .slots; kept = d .kept; did = λ pool. by-step (λ on. is pool) (d .did pool) }
+pub coded-by : (f g : def.Emitter → Res def.Emitter) {e r : Emitter} {code book code′ book′ : List ℕ} → ((pool : List ℕ) → f (state (world e code book pool)) ≡ g (state (world e code book pool))) → Coded (once g) e code book r code′ book′
+    → Coded (once f) e code book r code′ book′
+unfolding once
+coded-by f g is d = record { fine = d .fine; room = d .room; slots = d .slots; kept = d .kept; did = λ pool. by-step (λ on. rw (is pool)) (d .did pool) }

@@ -15,10 +15,10 @@ use Rattle.emit.specs.declared.Emitter.{Emitter}
 use Rattle.emit.specs.declared.Last.the-variants.{Other}
 use Rattle.emit.specs.Book.{labelSize, patchSize, labelBase, patchBase, lineBase, bookSize, labelIn, patchIn, rows, labelsIn, patchesIn, linesIn}
 use Rattle.emit.specs.View.{world, state}
-use Rattle.emit.specs.Steps.{Fine, Bare, Booked, Created}
+use Rattle.emit.specs.Steps.{call, Fine, Bare, Booked, Created}
 use Rattle.emit.specs.Parts.{altered, counted}
 use Rattle.emit.proofs.Tables.{length-rows, rows-more, rows-set, rows-before}
-use Rattle.emit.proofs.Kept.{grown-self, kept-self, kept-bare, label-tails}
+use Rattle.emit.proofs.Kept.{pool-self, grown-self, kept-self, kept-bare, label-tails}
 use Rattle.emit.proofs.Steps.{stays, goes, stops, size-of}
 use Rattle.emit.proofs.State.{fine-altered}
 
@@ -35,7 +35,7 @@ fine-bound {e} h = fine-altered (e .size) Other (e .depth) (e .deepest) h (omega
 
 module _ {e : Emitter} {book : List ℕ} {l : ℕ} (h : Fine e) (slots : length book ≡ bookSize) where
   pub create-stays : l ≡ e .labels → (e .refused ≡ 0 → ⊥) → Created e book e book l
-  create-stays is off = record { fine = h; slots = slots; label = is; kept = λ code pool. kept-self (world e code book pool); did = λ s x code pool. stays (act s (createLabel x)) off }
+  create-stays is off = record { fine = h; slots = slots; label = is; kept = λ code pool. kept-self (world e code book pool); did = λ s x code pool. stays (call s (createLabel x)) off }
 
   pub create-full : {r : Emitter} → l ≡ e .labels → maxLabels ≤ e .labels → Bare (refused (record { number = labelsFull; place = 0 })) e r → Created e book r book l
   unfolding act demand _>>_
@@ -58,7 +58,7 @@ module _ {e : Emitter} {book : List ℕ} {l : ℕ} (h : Fine e) (slots : length 
       grown = record { size = omega arith; labels = omega arith; patches = omega arith; lines = omega arith; constants = omega arith };
       code = refl;
       book = label-tails (counted e (e .labels + 1) (e .patches) (e .lines) (e .constants)) ns book (e .labels) long few (omega arith);
-      pool = refl;
+      pool = λ few long. pool-self (e .constants) pool;
       sticky = λ off. absurd (off on);
     };
     did = λ s x code pool.
@@ -74,14 +74,14 @@ module _ {e : Emitter} {book : List ℕ} {l : ℕ} (h : Fine e) (slots : length 
   })
 
   pub bind-stays : (e .refused ≡ 0 → ⊥) → Booked (bindLabel l) e book e book
-  bind-stays off = record { fine = h; slots = slots; kept = λ code pool. kept-self (world e code book pool); did = λ s code pool room. stays (act s (bindLabel l)) off }
+  bind-stays off = record { fine = h; slots = slots; kept = λ code pool. kept-self (world e code book pool); did = λ s code pool room. stays (call s (bindLabel l)) off }
 
   pub bind-nowhere : {r : Emitter} {m : ℕ} → m ≡ l → r ≡ altered e (e .size) Other (e .depth) (e .deepest) → e .refused ≡ 0 → e .labels ≤ m → Booked (bindLabel l) e book r book
   unfolding act labelled
   bind-nowhere same is on few = let many : e .labels ≤ l = omega arith in rw is (record {
     fine = fine-bound h;
     slots = slots;
-    kept = λ code pool. kept-bare (grown-self e) on code book pool;
+    kept = λ code pool. kept-bare (grown-self e) refl on code book pool;
     did = λ s code pool room. goes (act s (bindLabel l)) (world e code book pool) (world (altered e (e .size) Other (e .depth) (e .deepest)) code book pool) on on
         (rw (set-out (labelsIn book (e .labels)) l (some (length (take (e .size) code))) (rw (length-rows labelIn labelBase labelSize book (e .labels)) many)));
   })
@@ -100,7 +100,7 @@ module _ {e : Emitter} {book : List ℕ} {l : ℕ} (h : Fine e) (slots : length 
           grown = grown-self e;
           code = refl;
           book = label-tails (altered e (e .size) Other (e .depth) (e .deepest)) ns book l long small few;
-          pool = refl;
+          pool = λ few long. pool-self (e .constants) pool;
           sticky = λ off. absurd (off on);
         };
         did = λ s code pool room. goes (act s (bindLabel l)) (world e code book pool) (world (altered e (e .size) Other (e .depth) (e .deepest)) code (sets book (labelBase + labelSize * l) ns) pool) on on

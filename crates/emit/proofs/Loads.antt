@@ -21,12 +21,12 @@ use Rattle.emit.specs.declared.Last.the-variants.{Other, Loaded, Stored}
 use Rattle.emit.specs.declared.load.LoadForm.{LoadForm}
 use Rattle.emit.specs.declared.load.LoadForm.the-variants.{Load, Dup, Fold}
 use Rattle.emit.specs.Book.{bookSize}
-use Rattle.emit.specs.View.{World, world, lastView, state, standing, view}
-use Rattle.emit.specs.Steps.{Step, Did, LastAt, Fine, Bare, Coded}
+use Rattle.emit.specs.View.{World, world, lastView, state, standing, view, stageOf}
+use Rattle.emit.specs.Steps.{Step, _>->_, Did, metAt, once, call, LastAt, Fine, Bare, Coded}
 use Rattle.emit.specs.Load.{loadForm, loadBy, Reading, noReading, readBy, readOr, reading, readingOf, Loads}
 use Rattle.emit.specs.Parts.{altered, Written, Added}
 use Rattle.emit.proofs.Tables.{sets-front}
-use Rattle.emit.proofs.Kept.{tails-self, kept-self, sets-tail}
+use Rattle.emit.proofs.Kept.{pool-self, tails-self, kept-self, sets-tail}
 use Rattle.emit.proofs.Steps.{stays, goes, stops, size-of}
 use Rattle.emit.proofs.State.{fine-altered}
 use Rattle.emit.proofs.Instructions.{coded-by}
@@ -38,7 +38,7 @@ drop-take zero k l = let e : 0 + k ≡ k = omega arith in rw e
 drop-take (suc i) k [] = let e : suc i + k ≡ suc (i + k) = omega arith in rw (e, take-nil k)
 drop-take (suc i) k (x ∷ l) = let e : suc i + k ≡ suc (i + k) = omega arith in rw e (drop-take i k l)
 
-four-stores : (l : List ℕ) (i a b c d : ℕ) → set (set (set (set l i a) (i + 1) b) (i + 2) c) (i + 3) d ≡ sets l i (a ∷ b ∷ c ∷ d ∷ [])
+pub four-stores : (l : List ℕ) (i a b c d : ℕ) → set (set (set (set l i a) (i + 1) b) (i + 2) c) (i + 3) d ≡ sets l i (a ∷ b ∷ c ∷ d ∷ [])
 four-stores l i a b c d =
     let two : i + 2 ≡ suc (suc i) = omega arith in
     let three : i + 3 ≡ suc (suc (suc i)) = omega arith in
@@ -55,15 +55,15 @@ inserts l i x h = rw (three-there l i (omega arith)) (four-stores l i x (getD l 
 -- ---- the store folding
 
 module _ (s : Sheet) {e : Emitter} {code : List ℕ} (h : Fine e) (room : length code ≡ maxCode) where
-  pub fold-stays : (e .refused ≡ 0 → ⊥) → Written (foldStore s) e code e code
-  fold-stays off = record { fine = h; room = room; kept = λ book pool. kept-self (world e code book pool); did = λ book pool. stays (foldStore s) off }
+  pub fold-stays : (e .refused ≡ 0 → ⊥) → Written (once (foldStore s)) e code e code
+  fold-stays off = record { fine = h; room = room; kept = λ book pool. kept-self (world e code book pool); did = λ book pool. stays (once (foldStore s)) off }
 
-  pub fold-full : {r : Emitter} → maxCode ≤ e .size → Bare (refused (record { number = codeFull; place = 0 })) e r → Written (foldStore s) e code r code
+  pub fold-full : {r : Emitter} → maxCode ≤ e .size → Bare (refused (record { number = codeFull; place = 0 })) e r → Written (once (foldStore s)) e code r code
   unfolding foldStore demand _>>_
   fold-full full b = record { fine = b .fine; room = room; kept = λ book pool. b .kept code book pool; did = λ book pool. stops (foldStore s) codeFull 0 code book pool b (rw (size-of code h room, le-ltb _ _ full)) }
 
   pub fold-goes : {r : Emitter} {code′ : List ℕ} {b m : ℕ} → b ≡ opcode s dup → m ≡ max (e .deepest) (e .depth + 2) → e .refused ≡ 0 → e .size < maxCode → 3 ≤ e .size
-      → code′ ≡ sets code (e .size - 3) (b ∷ take 3 (drop (e .size - 3) code)) → r ≡ altered e (e .size + 1) Other (e .depth + 1) m → Written (foldStore s) e code r code′
+      → code′ ≡ sets code (e .size - 3) (b ∷ take 3 (drop (e .size - 3) code)) → r ≡ altered e (e .size + 1) Other (e .depth + 1) m → Written (once (foldStore s)) e code r code′
   unfolding foldStore demand _>>_ folded
   fold-goes {b = b} {m = m} is-b is-m on fits more put is =
       let i = e .size - 3 in
@@ -83,7 +83,7 @@ module _ (s : Sheet) {e : Emitter} {code : List ℕ} (h : Fine e) (room : length
           grown = record { size = omega arith; labels = omega arith; patches = omega arith; lines = omega arith; constants = omega arith };
           code = rw four (sets-tail ns code i (rw long (omega arith)));
           book = tails-self (altered e (e .size + 1) Other (e .depth + 1) m) book;
-          pool = refl;
+          pool = λ few long. pool-self (e .constants) pool;
           sticky = λ z. absurd (z on);
         };
         did = λ book pool. goes (foldStore s) (world e code book pool) (world (altered e (e .size + 1) Other (e .depth + 1) m) (sets code i ns) book pool) on on
@@ -142,24 +142,29 @@ folds-three {e} v h is = go (e .last) (h .last) is
     go (Stored w) k q = k
 
 -- what was read, from what was done
-read-is : (s : Sheet) (v : ℕ) {w u : World} {q x : Reading} → Did (act s (loadVariable v)) w u → x ≡ readBy (loadForm (lastView (w .e .last)) v) (length (take (w .e .size) (w .code)))
+read-is : (s : Sheet) (v : ℕ) {w u : World} {q x : Reading} → Did (call s (loadVariable v)) w u → x ≡ readBy (loadForm (lastView (w .e .last)) v) (length (take (w .e .size) (w .code)))
     → (u .e .refused ≡ 0 → q ≡ x) → ((u .e .refused ≡ 0 → ⊥) → q ≡ noReading) → q ≡ readOr (view w >>= reading s v)
-unfolding standing _>>=_ _>>_ reading readOr
+unfolding standing stageOf _>->_ once _>>=_ reading readOr metAt _>>_
 read-is s v {w} {u} {q} {x} d is a b = go (w .e .refused) (u .e .refused) (d .is) a b
   where
-    go : (k m : ℕ) → standing m (u .e .place) (state u) ≡ standing k (w .e .place) (state w) >>= act s (loadVariable v) → (m ≡ 0 → q ≡ x) → ((m ≡ 0 → ⊥) → q ≡ noReading)
+    answers : (m : ℕ) (r : Res def.Emitter) → stageOf m (u .e .place) (state u) ≡ metAt (state w) r → (m ≡ 0 → q ≡ x) → ((m ≡ 0 → ⊥) → q ≡ noReading) → q ≡ readOr (r >> ok x)
+    answers zero (ok y) h a b = a refl
+    answers zero (refuse n p) h a b = absurd (let z : _≡_ {A = ℕ} 0 1 = cc in omega arith)
+    answers (suc m) (ok y) h a b = absurd (let z : _≡_ {A = ℕ} 0 1 = cc in omega arith)
+    answers (suc m) (refuse n p) h a b = b (λ z. omega arith)
+
+    go : (k m : ℕ) → stageOf m (u .e .place) (state u) ≡ stageOf k (w .e .place) (state w) >-> call s (loadVariable v) → (m ≡ 0 → q ≡ x) → ((m ≡ 0 → ⊥) → q ≡ noReading)
         → q ≡ readOr (standing k (w .e .place) (state w) >>= reading s v)
-    go zero zero h a b = rw (reading, ← h) (a refl ∙ is)
-    go zero (suc m) h a b = rw (reading, ← h) (b (λ z. omega arith))
+    go zero m h a b = rw (reading, ← is) (answers m (act s (loadVariable v) (state w)) h a b)
     go (suc k) zero h a b = absurd (let z : _≡_ {A = ℕ} 0 1 = cc in omega arith)
     go (suc k) (suc m) h a b = b (λ z. omega arith)
 
 -- what a load answers, by its form
 module _ (s : Sheet) (v : ℕ) (form : LoadForm) {e u : Emitter} {code book code′ book′ : List ℕ} {r : answer.Loaded} (h : Fine e) (room : length code ≡ maxCode) (is : form ≡ loadForm (lastView (e .last)) v)
     (same : r .emitter ≡ u) (good : u .refused ≡ 0 → readingOf r ≡ readBy form (e .size)) (bad : (u .refused ≡ 0 → ⊥) → readingOf r ≡ noReading) where
-  pub load-answers : Coded (loadBy form s v) e code book u code′ book′ → Loads s v e code book r code′ book′
+  pub load-answers : Coded (once (loadBy form s v)) e code book u code′ book′ → Loads s v e code book r code′ book′
   load-answers c =
-      let d : Coded (act s (loadVariable v)) e code book u code′ book′ = coded-by (λ pool. load-by s v (state (world e code book pool)) ∙ rw (← is)) c in
+      let d : Coded (call s (loadVariable v)) e code book u code′ book′ = coded-by _ _ (λ pool. load-by s v (state (world e code book pool)) ∙ rw (← is)) c in
       record {
         coded = rw same d;
         read = λ pool. read-is s v (d .did pool) (rw (size-of code h room, is)) good bad;

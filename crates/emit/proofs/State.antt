@@ -4,7 +4,7 @@ use mathlib.Core.List.{List}
 use Prim.Native.Nat.{ℕ, zero, suc, _+_, _*_, _≤_, _<_, max}
 use native.Mathlib.Omega.{arith}
 use Rattle.definition.specs.Limits.{maxCode}
-use Rattle.definition.specs.Res.{ok, refuse, _>>=_}
+use Rattle.definition.specs.Res.{ok, refuse}
 use Rattle.definition.specs.Opcode.{Effect, up, down, same, shift}
 use Rattle.definition.specs.Emit as def
 use Rattle.definition.specs.Emit.{Call, resetStackDepth, setPosition, refused, act, settled, emitterAt}
@@ -14,8 +14,8 @@ use Rattle.emit.specs.declared.Emitter.{Emitter}
 use Rattle.emit.specs.declared.Last.{Last}
 use Rattle.emit.specs.declared.Last.the-variants.{Other}
 use Rattle.emit.specs.Book.{rows}
-use Rattle.emit.specs.View.{World, world, state, standing, view}
-use Rattle.emit.specs.Steps.{Step, Did, LastAt, maxHeight, Fine, Bare, Begun}
+use Rattle.emit.specs.View.{World, world, state, standing, view, halted, stageOf}
+use Rattle.emit.specs.Steps.{_>->_, metAt, once, call, LastAt, maxHeight, Fine, Bare, Begun}
 use Rattle.emit.specs.Parts.{altered, stopped, placed, counted}
 use Rattle.emit.proofs.Kept.{grown-self, kept-self, kept-bare}
 use Rattle.emit.proofs.Steps.{stays, goes}
@@ -43,17 +43,17 @@ begins p = record {
 }
 
 pub bare-stays : {e : Emitter} (c : Call) → Fine e → (e .refused ≡ 0 → ⊥) → Bare c e e
-bare-stays {e} c h off = record { fine = h; kept = λ code book pool. kept-self (world e code book pool); did = λ s code book pool. stays (act s c) off }
+bare-stays {e} c h off = record { fine = h; kept = λ code book pool. kept-self (world e code book pool); did = λ s code book pool. stays (call s c) off }
 
 pub refuses : {e : Emitter} (n p : ℕ) → Fine e → e .refused ≡ 0 → 0 < n → Bare (refused (record { number = n; place = p })) e (stopped e n p)
-unfolding act standing _>>=_
+unfolding act once metAt stageOf _>->_
 refuses {e} n p h on more = record {
   fine = record { size = h .size; labels = h .labels; patches = h .patches; lines = h .lines; constants = h .constants; last = h .last; depth = h .depth; deepest = h .deepest; place = λ z. absurd (omega arith) };
-  kept = kept-bare (grown-self e) on;
-  did = λ s code book pool. record { is = rw on (go n (state (world (stopped e n p) code book pool)) more) };
+  kept = kept-bare (grown-self e) refl on;
+  did = λ s code book pool. record { is = rw on (go n (state (world e code book pool)) more) };
 }
   where
-    go : (n : ℕ) (x : def.Emitter) → 0 < n → standing n p x ≡ refuse n p
+    go : (n : ℕ) (x : def.Emitter) → 0 < n → stageOf n p x ≡ halted n p x
     go zero x k = absurd (omega arith)
     go (suc n) x k = refl
 
@@ -61,7 +61,7 @@ pub resets : {e : Emitter} (d : ℕ) {d′ : ℕ} → Fine e → e .refused ≡ 
 unfolding act settled
 resets {e} d h on is small = rw is (record {
   fine = fine-altered (e .size) (e .last) d (e .deepest) h (omega arith) (h .size) (h .last) (omega arith) (h .deepest);
-  kept = kept-bare (grown-self e) on;
+  kept = kept-bare (grown-self e) refl on;
   did = λ s code book pool. goes (act s (resetStackDepth d)) (world e code book pool) (world (altered e (e .size) (e .last) d (e .deepest)) code book pool) on on refl;
 })
 
@@ -69,6 +69,6 @@ pub places : {e : Emitter} (p : Pos) → Fine e → e .refused ≡ 0 → Bare (s
 unfolding act settled
 places {e} p h on = record {
   fine = record { size = h .size; labels = h .labels; patches = h .patches; lines = h .lines; constants = h .constants; last = h .last; depth = h .depth; deepest = h .deepest; place = h .place };
-  kept = kept-bare (grown-self e) on;
+  kept = kept-bare (grown-self e) refl on;
   did = λ s code book pool. goes (act s (setPosition (posView p))) (world e code book pool) (world (placed e p) code book pool) on on refl;
 }

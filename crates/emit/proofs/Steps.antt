@@ -14,37 +14,36 @@ use Rattle.definition.specs.Emit.{Call, createLabel, refused, act, emitterAt}
 use Rattle.emit.specs.declared.Emitter.{Emitter}
 use Rattle.emit.specs.Book.{bookSize}
 use Rattle.emit.specs.Pool.{Held}
-use Rattle.emit.specs.View.{World, world, state, standing, view}
-use Rattle.emit.specs.Steps.{Step, Did, Fine, Ready, Bare, Booked, Created, Pooled, Coded, Filled, Begun}
-use Rattle.emit.proofs.Kept.{kept-then}
+use Rattle.emit.specs.View.{World, world, state, Stage, going, halted, stageOf, stage}
+use Rattle.emit.specs.Steps.{Step, _>->_, Did, metAt, once, call, Fine, Ready, Bare, Booked, Created, Pooled, Coded, Filled, Begun}
 
-bind-assoc : (m : Res def.Emitter) (f g : Step) → (m >>= f) >>= g ≡ m >>= (λ e. f e >>= g)
-unfolding _>>=_
-bind-assoc (ok e) f g = refl
-bind-assoc (refuse n p) f g = refl
+bind-assoc : (m : Stage) (f g : Step) → (m >-> f) >-> g ≡ m >-> (λ x. f x >-> g)
+unfolding _>->_
+bind-assoc (going x) f g = refl
+bind-assoc (halted n p x) f g = refl
 
 -- ---- one step
 
 -- refused before: nothing changes
 pub stays : (f : Step) {w : World} → (w .e .refused ≡ 0 → ⊥) → Did f w w
-unfolding standing _>>=_
+unfolding stageOf _>->_
 stays f {w} h = record { is = go (w .e .refused) h }
   where
-    go : (n : ℕ) → (n ≡ 0 → ⊥) → standing n (w .e .place) (state w) ≡ standing n (w .e .place) (state w) >>= f
+    go : (n : ℕ) → (n ≡ 0 → ⊥) → stageOf n (w .e .place) (state w) ≡ stageOf n (w .e .place) (state w) >-> f
     go zero h = absurd (h refl)
     go (suc n) h = refl
 
 -- its tests hold: what is left is the state
-pub goes : (f : Step) (w v : World) → w .e .refused ≡ 0 → v .e .refused ≡ 0 → f (state w) ≡ ok (state v) → Did f w v
-unfolding standing _>>=_
-goes f w v on on′ e = record { is = rw (on, on′) (sym e) }
+pub goes : (f : def.Emitter → Res def.Emitter) (w v : World) → w .e .refused ≡ 0 → v .e .refused ≡ 0 → f (state w) ≡ ok (state v) → Did (once f) w v
+unfolding stageOf _>->_ once metAt
+goes f w v on on′ e = record { is = rw (on, on′, e) }
 
 -- it is another step at this state
 pub by-step : {f g : Step} {w v : World} → (w .e .refused ≡ 0 → f (state w) ≡ g (state w)) → Did g w v → Did f w v
-unfolding standing _>>=_
+unfolding stageOf _>->_
 by-step {f} {g} {w} e d = record { is = d .is ∙ go (w .e .refused) e }
   where
-    go : (n : ℕ) → (n ≡ 0 → f (state w) ≡ g (state w)) → standing n (w .e .place) (state w) >>= g ≡ standing n (w .e .place) (state w) >>= f
+    go : (n : ℕ) → (n ≡ 0 → f (state w) ≡ g (state w)) → stageOf n (w .e .place) (state w) >-> g ≡ stageOf n (w .e .place) (state w) >-> f
     go zero e = sym (e refl)
     go (suc n) e = refl
 
@@ -52,29 +51,35 @@ by-step {f} {g} {w} e d = record { is = d .is ∙ go (w .e .refused) e }
 noSheet : Sheet
 noSheet = record { opcodes = []; comparisons = [] }
 
-pub stops : (f : Step) (n p : ℕ) {e r : Emitter} (code book pool : List ℕ) → Bare (refused (record { number = n; place = p })) e r → f (state (world e code book pool)) ≡ refuse n p → Did f (world e code book pool) (world r code book pool)
-unfolding act
-stops f n p code book pool b h = by-step (λ on. h) (b .did noSheet code book pool)
+pub stops : (f : def.Emitter → Res def.Emitter) (n p : ℕ) {e r : Emitter} (code book pool : List ℕ) → Bare (refused (record { number = n; place = p })) e r → f (state (world e code book pool)) ≡ refuse n p → Did (once f) (world e code book pool) (world r code book pool)
+unfolding act once
+stops f n p code book pool b h = by-step (λ on. rw h) (b .did noSheet code book pool)
 
 -- and then it is refused
 pub is-refused : {n p : ℕ} {e r : Emitter} → Bare (refused (record { number = n; place = p })) e r → r .refused ≡ 0 → ⊥
-unfolding act standing _>>=_
+unfolding act stageOf _>->_ once metAt
 is-refused {n} {p} {e} {r} b z = go (e .refused) (rw z at (b .did noSheet [] [] [] .is))
   where
     w : World
     w = world e [] [] []
 
-    go : (k : ℕ) → ok (state (world r [] [] [])) ≡ standing k (e .place) (state w) >>= act noSheet (refused (record { number = n; place = p })) → ⊥
+    go : (k : ℕ) → going (state (world r [] [] [])) ≡ stageOf k (e .place) (state w) >-> call noSheet (refused (record { number = n; place = p })) → ⊥
     go zero h = let q : _≡_ {A = ℕ} 0 1 = cc in omega arith
     go (suc k) h = let q : _≡_ {A = ℕ} 0 1 = cc in omega arith
 
 -- ---- steps in turn
 
-pub then : {f g : Step} {w v u : World} → Did f w v → Did g v u → Did (λ e. f e >>= g) w u
-then {f} {g} {w} p q = record { is = q .is ∙ ap (λ (m : Res def.Emitter). m >>= g) (p .is) ∙ bind-assoc (view w) f g }
+pub then : {f g : Step} {w v u : World} → Did f w v → Did g v u → Did (λ x. f x >-> g) w u
+then {f} {g} {w} p q = record { is = q .is ∙ ap (λ (m : Stage). m >-> g) (p .is) ∙ bind-assoc (stage w) f g }
 
-pub filled-then : {f g : Step} {w v u : World} → Filled f w v → Filled g v u → Filled (λ e. f e >>= g) w u
-filled-then a b = record { ready = b .ready; kept = kept-then (a .kept) (b .kept); did = then (a .did) (b .did) }
+-- what no longer refuses may follow as a part of the same step
+pub once-then : (f : def.Emitter → Res def.Emitter) (g : def.Emitter → def.Emitter) (x : def.Emitter) → once (λ y. f y >>= λ z. ok (g z)) x ≡ once f x >-> once (λ z. ok (g z))
+unfolding once metAt _>->_ _>>=_
+once-then f g x = go (f x)
+  where
+    go : (m : Res def.Emitter) → metAt x (m >>= λ z. ok (g z)) ≡ metAt x m >-> once (λ z. ok (g z))
+    go (ok z) = refl
+    go (refuse n p) = refl
 
 pub filled-by : {f g : Step} {w v : World} → (w .e .refused ≡ 0 → f (state w) ≡ g (state w)) → Filled g w v → Filled f w v
 filled-by e a = record { ready = a .ready; kept = a .kept; did = by-step e (a .did) }
@@ -82,16 +87,16 @@ filled-by e a = record { ready = a .ready; kept = a .kept; did = by-step e (a .d
 -- ---- what a method did, with all that is lent
 
 module _ {e r : Emitter} {code book pool : List ℕ} (w : Ready (world e code book pool)) where
-  pub bare-filled : (s : Sheet) {c : Call} → Bare c e r → Filled (act s c) (world e code book pool) (world r code book pool)
+  pub bare-filled : (s : Sheet) {c : Call} → Bare c e r → Filled (call s c) (world e code book pool) (world r code book pool)
   bare-filled s b = record { ready = record { fine = b .fine; room = w .room; slots = w .slots; held = w .held }; kept = b .kept code book pool; did = b .did s code book pool }
 
-  pub booked-filled : (s : Sheet) {c : Call} {book′ : List ℕ} → Booked c e book r book′ → Filled (act s c) (world e code book pool) (world r code book′ pool)
+  pub booked-filled : (s : Sheet) {c : Call} {book′ : List ℕ} → Booked c e book r book′ → Filled (call s c) (world e code book pool) (world r code book′ pool)
   booked-filled s b = record { ready = record { fine = b .fine; room = w .room; slots = b .slots; held = w .held }; kept = b .kept code pool; did = b .did s code pool (w .room) }
 
-  pub created-filled : (s : Sheet) (h : ℕ) {book′ : List ℕ} {l : ℕ} → Created e book r book′ l → Filled (act s (createLabel h)) (world e code book pool) (world r code book′ pool)
+  pub created-filled : (s : Sheet) (h : ℕ) {book′ : List ℕ} {l : ℕ} → Created e book r book′ l → Filled (call s (createLabel h)) (world e code book pool) (world r code book′ pool)
   created-filled s h b = record { ready = record { fine = b .fine; room = w .room; slots = b .slots; held = w .held }; kept = b .kept code pool; did = b .did s h code pool }
 
-  pub pooled-filled : (s : Sheet) {c : Call} {pool′ : List ℕ} → Pooled c e pool r pool′ → Filled (act s c) (world e code book pool) (world r code book pool′)
+  pub pooled-filled : (s : Sheet) {c : Call} {pool′ : List ℕ} → Pooled c e pool r pool′ → Filled (call s c) (world e code book pool) (world r code book pool′)
   pooled-filled s b = record { ready = record { fine = b .fine; room = w .room; slots = w .slots; held = b .held }; kept = b .kept code book; did = b .did s code book }
 
   pub coded-filled : {f : Step} {code′ book′ : List ℕ} → Coded f e code book r code′ book′ → Filled f (world e code book pool) (world r code′ book′ pool)
@@ -100,20 +105,6 @@ module _ {e r : Emitter} {code book pool : List ℕ} (w : Ready (world e code bo
 -- the first state of a call
 pub begun-ready : {p : Pos} {r : Emitter} {code book pool : List ℕ} → Begun p r → length code ≡ maxCode → length book ≡ bookSize → Held pool → Ready (world r code book pool)
 begun-ready b room slots held = record { fine = b .fine; room = room; slots = slots; held = held }
-
--- ---- what the view is
-
-pub stands : (w : World) → w .e .refused ≡ 0 → view w ≡ ok (state w)
-unfolding standing
-stands w on = rw on
-
-pub stopped-at : (w : World) → (w .e .refused ≡ 0 → ⊥) → view w ≡ refuse (w .e .refused) (w .e .place)
-unfolding standing
-stopped-at w off = go (w .e .refused) off
-  where
-    go : (n : ℕ) → (n ≡ 0 → ⊥) → standing n (w .e .place) (state w) ≡ refuse n (w .e .place)
-    go zero h = absurd (h refl)
-    go (suc n) h = refl
 
 -- ---- what is fine fits
 

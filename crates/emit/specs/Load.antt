@@ -14,7 +14,7 @@ use Rattle.emit.specs.declared.load.Loaded.{Loaded}
 use Rattle.emit.specs.declared.load.LoadForm.{LoadForm}
 use Rattle.emit.specs.declared.load.LoadForm.the-variants.{Load, Dup, Fold}
 use Rattle.emit.specs.View.{world, view}
-use Rattle.emit.specs.Steps.{Step, Coded}
+use Rattle.emit.specs.Steps.{call, Coded}
 
 -- how a load of v is emitted, by the last instruction
 unfoldable pub loadForm : def.Last → ℕ → LoadForm
@@ -22,8 +22,8 @@ loadForm def.other v = Load
 loadForm (def.loaded w) v = elim (eqb w v) [ true ↦ Dup | false ↦ Load ]
 loadForm (def.stored w) v = elim (eqb w v) [ true ↦ Fold | false ↦ Load ]
 
--- the step that each form is
-unfoldable pub loadBy : LoadForm → Sheet → ℕ → Step
+-- what each form does
+unfoldable pub loadBy : LoadForm → Sheet → ℕ → def.Emitter → Res def.Emitter
 loadBy Load s v e = add s loadVar (le16 v) (def.loaded v) e
 loadBy Dup s v e = add s dup [] def.other e
 loadBy Fold s v e = foldStore s e
@@ -56,5 +56,5 @@ readingOf r = record { offset = r .offset; dup = r .dup; moved = r .moved }
 
 -- what `load_variable` answers: the step, and what it did; after a refusal 0 and false
 pub record Loads (s : Sheet) (v : ℕ) (e : Emitter) (code book : List ℕ) (r : Loaded) (code′ book′ : List ℕ) : Type 0 where
-  pub coded : Coded (act s (loadVariable v)) e code book (r .emitter) code′ book′
+  pub coded : Coded (call s (loadVariable v)) e code book (r .emitter) code′ book′
   pub read : (pool : List ℕ) → readingOf r ≡ readOr (view (world e code book pool) >>= reading s v)

@@ -1,21 +1,21 @@
 -- Parts of a step, for the functions inside this crate.
-use Prim.Native.Nat.{ℕ, _+_, _*_, _≤_}
+use Prim.Native.Nat.{ℕ, _+_, _*_, _≤_, _<_}
 use mathlib.Core.Path.{_≡_}
 use mathlib.Core.List.{List, _∷_, _++_}
 use lib.Dec.{leb}
 use lib.ListN.{length, take}
-use Rattle.definition.specs.Limits.{maxCode, codeFull}
+use Rattle.definition.specs.Limits.{maxCode, maxConstants, codeFull}
 use Rattle.definition.specs.Res.{Res, ok, _>>=_, _>>_, demand}
 use Rattle.definition.specs.Opcode.{Sheet, Role, CompareOp, comparisonByte}
 use Rattle.definition.specs.Emit as def
-use Rattle.definition.specs.Emit.{LineEntry, PendingPatch, addConstant, add, recorded, patched, indexOf, le16}
+use Rattle.definition.specs.Emit.{LineEntry, PendingPatch, add, recorded, patched, pooled, indexOf, le16}
 use Rattle.line_map.specs.declared.Pos.{Pos}
 use Rattle.emit.specs.declared.Emitter.{Emitter}
-use Rattle.emit.specs.declared.Interned.{Interned}
+use Rattle.emit.specs.declared.Found.{Found}
 use Rattle.emit.specs.declared.Last.{Last}
 use Rattle.emit.specs.Book.{bookSize}
 use Rattle.emit.specs.View.{world, lastView}
-use Rattle.emit.specs.Steps.{Step, Did, Fine, Kept, Pooled, Coded}
+use Rattle.emit.specs.Steps.{Step, Did, once, Fine, Kept, Coded}
 
 -- the struct with other size, last instruction and depths
 abbrev pub altered : Emitter → ℕ → Last → ℕ → ℕ → Emitter
@@ -96,7 +96,7 @@ lined entries e = record {
 }
 
 -- room for so many bytes, and a line entry
-unfoldable pub prepared : ℕ → Step
+unfoldable pub prepared : ℕ → def.Emitter → Res def.Emitter
 prepared n e = demand (leb (length (e .bytecode) + n) maxCode) codeFull 0 >> (recorded e >>= λ entries. ok (lined entries e))
 
 -- a step that changes the book alone
@@ -107,7 +107,7 @@ pub record Noted (f : Step) (e : Emitter) (book : List ℕ) (r : Emitter) (book�
   pub did : (code pool : List ℕ) → length code ≡ maxCode → Did f (world e code book pool) (world r code book′ pool)
 
 pub record Prepared (n : ℕ) (e : Emitter) (book : List ℕ) (r : Emitter) (book′ : List ℕ) : Type 0 where
-  pub noted : Noted (prepared n) e book r book′
+  pub noted : Noted (once (prepared n)) e book r book′
   pub fits : r .refused ≡ 0 → r .size + n ≤ maxCode
 
 -- a step that changes the code alone
@@ -123,7 +123,7 @@ Branched e = e .refused ≡ 0 → 3 * e .patches + 3 ≤ e .size
 
 -- an instruction of role r with these operand bytes
 pub record Added (s : Sheet) (r : Role) (operand : List ℕ) (l : Last) (e : Emitter) (code book : List ℕ) (e′ : Emitter) (code′ book′ : List ℕ) : Type 0 where
-  pub coded : Coded (add s r operand (lastView l)) e code book e′ code′ book′
+  pub coded : Coded (once (add s r operand (lastView l))) e code book e′ code′ book′
   -- one of three bytes or more
   pub branched : 2 ≤ length operand → Branched e′
 
@@ -132,10 +132,21 @@ unfoldable pub cmpOperand : Sheet → CompareOp → ℕ → ℕ → List ℕ
 cmpOperand s c v i = (comparisonByte s c ∷ le16 v ++ le16 i) ++ le16 0
 
 -- the patch of a branch whose opcode the code ends before
-abbrev pub patching : PendingPatch → Step
+abbrev pub patching : PendingPatch → def.Emitter → Res def.Emitter
 patching p e = ok (patched p e)
 
--- a constant in the pool, and its index
-pub record Interns (k : ℕ) (e : Emitter) (pool : List ℕ) (r : Interned) (pool′ : List ℕ) : Type 0 where
-  pub pooled : Pooled (addConstant k) e pool (r .emitter) pool′
-  pub index : r .emitter .refused ≡ 0 → r .index ≡ indexOf k (take (r .emitter .constants) pool′)
+-- a place for a constant in the pool (13), which stays as it is
+unfoldable pub sought : ℕ → def.Emitter → Res def.Emitter
+sought k e = pooled k e >> ok e
+
+-- where a constant stands in the pool, or will stand
+pub record StandsAt (k : ℕ) (e : Emitter) (pool : List ℕ) (i : ℕ) : Type 0 where
+  pub is : i ≡ indexOf k (take (e .constants) pool)
+  pub few : i < maxConstants
+
+-- its place was found
+pub record Seeks (k : ℕ) (e : Emitter) (pool : List ℕ) (r : Found) : Type 0 where
+  pub fine : Fine (r .emitter)
+  pub kept : (code book : List ℕ) → Kept (world e code book pool) (world (r .emitter) code book pool)
+  pub did : (code book : List ℕ) → Did (once (sought k)) (world e code book pool) (world (r .emitter) code book pool)
+  pub index : r .emitter .refused ≡ 0 → StandsAt k (r .emitter) pool (r .index)

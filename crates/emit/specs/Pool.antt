@@ -3,7 +3,7 @@
 use Prim.Native.Nat.{ℕ, zero, suc, _+_, _%_, _≤_, _<_}
 use mathlib.Core.Path.{_≡_}
 use mathlib.Core.Bool.{Bool, true, false, _&&_}
-use mathlib.Core.List.{List}
+use mathlib.Core.List.{List, [], _∷_}
 use lib.Dec.{eqb}
 use lib.ListN.{length, getD, take, set}
 use Rattle.definition.specs.Limits.{maxConstants}
@@ -55,7 +55,21 @@ nearer x k i found = elim (eqb x k) [ true ↦ i | false ↦ found ]
 unfoldable pub covers : List ℕ → ℕ → Bool
 covers pool n = eqb (getD pool staleAt 0) 0 && eqb (getD pool countAt 0) n
 
+-- the pool once k, its constant n, is in the table of the constants before it
+unfoldable pub chained : ℕ → ℕ → List ℕ → List ℕ
+chained n k pool = set (set (set pool (linkBase + n) (getD pool (headBase + bucketOf k) 0)) (headBase + bucketOf k) (n + 1)) countAt (n + 1)
+
+-- the pool once k was written as its constant n; a table of other constants goes out of use
+unfoldable pub entered : ℕ → ℕ → List ℕ → List ℕ
+entered n k pool = elim (covers pool n) [ true ↦ chained n k (set pool n k) | false ↦ set (set pool n k) staleAt 1 ]
+
+-- so with constants one behind the other, the first of them constant n
+unfoldable pub enteredAll : List ℕ → ℕ → List ℕ → List ℕ
+enteredAll [] n pool = pool
+enteredAll (k ∷ ks) n pool = enteredAll ks (suc n) (entered n k pool)
+
 -- constant n was written; of the constants no other changes
 pub record Appended (n k : ℕ) (pool pool′ : List ℕ) : Type 0 where
+  pub all : pool′ ≡ entered n k pool
   pub held : Held pool′
   pub is : take maxConstants pool′ ≡ set (take maxConstants pool) n k

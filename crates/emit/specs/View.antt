@@ -51,3 +51,15 @@ standing (suc n) p a = refuse (suc n) p
 -- the emitter, or its refusal
 abbrev pub view : World → Res def.Emitter
 view w = standing (w .e .refused) (w .e .place) (state w)
+
+-- the same with the state of either: where emission stands, or which state the refused call met
+pub data Stage : Type 0 where
+  going : def.Emitter → Stage
+  halted : ℕ → ℕ → def.Emitter → Stage
+
+unfoldable pub stageOf : ℕ → ℕ → def.Emitter → Stage
+stageOf zero p x = going x
+stageOf (suc n) p x = halted (suc n) p x
+
+abbrev pub stage : World → Stage
+stage w = stageOf (w .e .refused) (w .e .place) (state w)

@@ -1,15 +1,15 @@
 // The emitter (emit.rs, and the pool of compile.rs): counts, the last instruction, depths, position and refusal by value; its tables are lent.
 //
 // Lent are the code (MAX_CODE bytes), the book (BOOK_SIZE numbers: labels, patches and line entries) and the pool (POOL_SIZE constants), each exactly as
-// long. A method has only those that its call can change. Its contract names the `act` of the definition's call that it is, in every state: a refusal is
-// sticky, and a refused emitter comes back as it was, with what is lent.
+// long. A method has only those that its call can change. Its contract names the definition's call that it is, in every state: one that refuses leaves the
+// state that it met, a refusal is sticky, and a refused emitter comes back as it was, with what is lent.
 ghost use mathlib.Core.Path.{_≡_};
 ghost use Prim.Native.Nat.{_≤_, _<_, _+_, max};
-ghost use mathlib.Core.List.{[]};
+ghost use mathlib.Core.List.{[], _∷_, _++_};
 ghost use lib.ListN.{length};
 ghost use Rattle.definition.specs.Limits.{maxCode};
-ghost use Rattle.definition.specs.Opcode.{shift, effect, cmpBr};
-ghost use Rattle.definition.specs.Emit.{branch, foldStore, standsAt, lastEntry, act, le16, bindLabel, storeVariable, loadConstant, addConstant, emitOpcode, emitJmp, emitJmpIfNot, emitCmpBr, resetStackDepth, setPosition, refused};
+ghost use Rattle.definition.specs.Opcode.{shift, effect, cmpBr, comparisonByte};
+ghost use Rattle.definition.specs.Emit.{branch, foldStore, standsAt, lastEntry, le16, bindLabel, storeVariable, loadConstant, addConstant, emitOpcode, emitJmp, emitJmpIfNot, emitCmpBr, resetStackDepth, setPosition, refused, cmpBrOperandDelta};
 ghost use Rattle.definition.specs.Compile.{boundLabel};
 ghost use Rattle.opcode.specs.View.{roleView, compareView};
 ghost use Rattle.opcode.specs.Table.{sheetIn};
@@ -17,9 +17,9 @@ ghost use Rattle.line_map.specs.View.{posView};
 ghost use Rattle.emit.specs.Book.{bookSize, labelsIn, linesIn};
 ghost use Rattle.emit.specs.Pool.{Held};
 ghost use Rattle.emit.specs.View.{world, patchView};
-ghost use Rattle.emit.specs.Steps.{LastAt, Fine, Ready, Bare, Booked, Created, Pooled, Coded, Filled, Begun};
+ghost use Rattle.emit.specs.Steps.{once, call, LastAt, Fine, Ready, Bare, Booked, Created, Pooled, Coded, Filled, Begun};
 ghost use Rattle.emit.specs.Load.{Loads};
-ghost use Rattle.emit.specs.Parts.{altered, Noted, Prepared, Written, Branched, Added, cmpOperand, patching, Interns};
+ghost use Rattle.emit.specs.Parts.{altered, Noted, Prepared, Written, Branched, Added, cmpOperand, patching, StandsAt, Seeks};
 use crate::load::LoadForm;
 use crate::load::Loaded;
 use crate::patch::PendingPatch;
@@ -85,8 +85,8 @@ pub struct NewLabel {
     pub label: Label,
 }
 
-// A constant's index in the pool.
-struct Interned {
+// Where a constant stands in the pool, or will stand.
+struct Found {
     emitter: Emitter,
     index: u16,
 }
@@ -373,7 +373,7 @@ impl Emitter {
         requires { ⌜ Fine self ⌝ }
         requires { ⌜ length (now code) ≡ maxCode ⌝ }
         requires { ⌜ length (now book) ≡ bookSize ⌝ }
-        ensures { λ r. ⌜ Coded (act (sheetIn (now (sheet .entry))) (emitOpcode (roleView role))) self (now (code .entry)) (now (book .entry)) r (now (code .exit)) (now (book .exit)) ⌝ }
+        ensures { λ r. ⌜ Coded (call (sheetIn (now (sheet .entry))) (emitOpcode (roleView role))) self (now (code .entry)) (now (book .entry)) r (now (code .exit)) (now (book .exit)) ⌝ }
     {
         self.add_plain(sheet, code, book, role)
     }
@@ -387,7 +387,7 @@ impl Emitter {
         requires { ⌜ Fine self ⌝ }
         requires { ⌜ length (now code) ≡ maxCode ⌝ }
         requires { ⌜ 3 ≤ self .size ⌝ }
-        ensures { λ r. ⌜ Written (foldStore (sheetIn (now (sheet .entry)))) self (now (code .entry)) r (now (code .exit)) ⌝ }
+        ensures { λ r. ⌜ Written (once (foldStore (sheetIn (now (sheet .entry))))) self (now (code .entry)) r (now (code .exit)) ⌝ }
     {
         if self.refused != 0 {
             return self;
@@ -432,7 +432,7 @@ impl Emitter {
         requires { ⌜ Fine self ⌝ }
         requires { ⌜ length (now code) ≡ maxCode ⌝ }
         requires { ⌜ length (now book) ≡ bookSize ⌝ }
-        ensures { λ r. ⌜ Coded (act (sheetIn (now (sheet .entry))) (storeVariable v)) self (now (code .entry)) (now (book .entry)) r (now (code .exit)) (now (book .exit)) ⌝ }
+        ensures { λ r. ⌜ Coded (call (sheetIn (now (sheet .entry))) (storeVariable v)) self (now (code .entry)) (now (book .entry)) r (now (code .exit)) (now (book .exit)) ⌝ }
     {
         self.add_u16(sheet, code, book, Role::StoreVar, v, Last::Stored(v))
     }
@@ -441,40 +441,51 @@ impl Emitter {
 // ---- constants
 
 impl Emitter {
-    // Equal constants share an index, new ones are appended (`intern_i32_constant`, 13).
-    fn intern_constant(self, pool: &mut [Constant], k: Constant) -> Interned
+    // Equal constants share an index, new ones stand behind the others (`intern_i32_constant`, 13).
+    fn find_constant(self, pool: &[Constant], k: Constant) -> Found
         requires { ⌜ Fine self ⌝ }
         requires { ⌜ Held (now pool) ⌝ }
-        ensures { λ r. ⌜ Interns k self (now (pool .entry)) r (now (pool .exit)) ⌝ }
+        ensures { λ r. ⌜ Seeks k self (now (pool .entry)) r ⌝ }
     {
         if self.refused != 0 {
-            return Interned {
+            return Found {
                 emitter: self,
                 index: 0,
             };
         }
-        let n = self.constants;
-        let i = pool::index_of(pool, n, k);
-        let index = numbers::narrow(i);
-        if i < n {
-            return Interned {
-                emitter: self,
-                index: index,
-            };
-        }
-        if n >= MAX_CONSTANTS {
-            return Interned {
+        let i = pool::index_of(pool, self.constants, k);
+        // An index is at most the count, so this is a new one where there is no room.
+        if i >= MAX_CONSTANTS {
+            return Found {
                 emitter: self.refuse(CONSTANTS_FULL, 0),
                 index: 0,
             };
         }
+        let index = numbers::narrow(i);
+        Found {
+            emitter: self,
+            index: index,
+        }
+    }
+
+    // The constant is appended if it is new: once nothing refuses any more.
+    fn keep_constant(self, pool: &mut [Constant], index: u16, k: Constant) -> Emitter
+        requires { ⌜ Fine self ⌝ }
+        requires { ⌜ Held (now pool) ⌝ }
+        requires { ⌜ (self .refused ≡ 0 → StandsAt k self (now pool) index) ⌝ }
+        ensures { λ r. ⌜ Pooled (addConstant k) self (now (pool .entry)) r (now (pool .exit)) ⌝ }
+    {
+        if self.refused != 0 { // by 13, 10 or 12
+            return self;
+        }
+        let n = self.constants;
+        if numbers::wide(index) < n {
+            return self;
+        }
         pool::append(pool, n, k);
         let mut e = self;
         e.constants = n + 1;
-        Interned {
-            emitter: e,
-            index: index,
-        }
+        e
     }
 
     // A constant that enters the pool before the instruction that names it.
@@ -483,8 +494,9 @@ impl Emitter {
         requires { ⌜ Held (now pool) ⌝ }
         ensures { λ r. ⌜ Pooled (addConstant k) self (now (pool .entry)) r (now (pool .exit)) ⌝ }
     {
-        let interned = self.intern_constant(pool, k);
-        interned.emitter
+        let found = self.find_constant(pool, k);
+        let e = found.emitter;
+        e.keep_constant(pool, found.index, k)
     }
 
     pub fn load_constant(
@@ -496,12 +508,13 @@ impl Emitter {
         k: Constant,
     ) -> Emitter
         requires { ⌜ Ready (world self (now code) (now book) (now pool)) ⌝ }
-        ensures { λ r. ⌜ Filled (act (sheetIn (now (sheet .entry))) (loadConstant k)) (world self (now (code .entry)) (now (book .entry)) (now (pool .entry))) (world r (now (code .exit)) (now (book .exit)) (now (pool .exit))) ⌝ }
+        ensures { λ r. ⌜ Filled (call (sheetIn (now (sheet .entry))) (loadConstant k)) (world self (now (code .entry)) (now (book .entry)) (now (pool .entry))) (world r (now (code .exit)) (now (book .exit)) (now (pool .exit))) ⌝ }
     {
-        let interned = self.intern_constant(pool, k);
-        let index = interned.index;
-        let e = interned.emitter;
-        e.add_u16(sheet, code, book, Role::LoadConst, index, Last::Other)
+        let found = self.find_constant(pool, k);
+        let index = found.index;
+        let p = found.emitter;
+        let e = p.add_u16(sheet, code, book, Role::LoadConst, index, Last::Other);
+        e.keep_constant(pool, index, k)
     }
 }
 
@@ -513,7 +526,7 @@ impl Emitter {
         requires { ⌜ Fine self ⌝ }
         requires { ⌜ length (now book) ≡ bookSize ⌝ }
         requires { ⌜ Branched self ⌝ }
-        ensures { λ r. ⌜ Noted (patching (patchView patch)) self (now (book .entry)) r (now (book .exit)) ⌝ }
+        ensures { λ r. ⌜ Noted (once (patching (patchView patch))) self (now (book .entry)) r (now (book .exit)) ⌝ }
     {
         if self.refused != 0 {
             return self;
@@ -538,7 +551,7 @@ impl Emitter {
         requires { ⌜ length (now code) ≡ maxCode ⌝ }
         requires { ⌜ length (now book) ≡ bookSize ⌝ }
         requires { ⌜ patch .«instruction_offset» ≡ self .size ⌝ }
-        ensures { λ r. ⌜ Coded (branch (sheetIn (now (sheet .entry))) (roleView role) [] (patch .«operand_delta») (patch .label .0)) self (now (code .entry)) (now (book .entry)) r (now (code .exit)) (now (book .exit)) ⌝ }
+        ensures { λ r. ⌜ Coded (once (branch (sheetIn (now (sheet .entry))) (roleView role) [] (patch .«operand_delta») (patch .label .0))) self (now (code .entry)) (now (book .entry)) r (now (code .exit)) (now (book .exit)) ⌝ }
     {
         let e = self.add_u16(sheet, code, book, role, 0, Last::Other);
         e.add_patch(book, patch)
@@ -548,7 +561,7 @@ impl Emitter {
         requires { ⌜ Fine self ⌝ }
         requires { ⌜ length (now code) ≡ maxCode ⌝ }
         requires { ⌜ length (now book) ≡ bookSize ⌝ }
-        ensures { λ r. ⌜ Coded (act (sheetIn (now (sheet .entry))) (emitJmp (label .0))) self (now (code .entry)) (now (book .entry)) r (now (code .exit)) (now (book .exit)) ⌝ }
+        ensures { λ r. ⌜ Coded (call (sheetIn (now (sheet .entry))) (emitJmp (label .0))) self (now (code .entry)) (now (book .entry)) r (now (code .exit)) (now (book .exit)) ⌝ }
     {
         let patch = PendingPatch::jmp(numbers::narrow(self.size), label);
         self.emit_branch(sheet, code, book, Role::Jmp, patch)
@@ -564,10 +577,31 @@ impl Emitter {
         requires { ⌜ Fine self ⌝ }
         requires { ⌜ length (now code) ≡ maxCode ⌝ }
         requires { ⌜ length (now book) ≡ bookSize ⌝ }
-        ensures { λ r. ⌜ Coded (act (sheetIn (now (sheet .entry))) (emitJmpIfNot (label .0))) self (now (code .entry)) (now (book .entry)) r (now (code .exit)) (now (book .exit)) ⌝ }
+        ensures { λ r. ⌜ Coded (call (sheetIn (now (sheet .entry))) (emitJmpIfNot (label .0))) self (now (code .entry)) (now (book .entry)) r (now (code .exit)) (now (book .exit)) ⌝ }
     {
         let patch = PendingPatch::jmp_if_not(numbers::narrow(self.size), label);
         self.emit_branch(sheet, code, book, Role::JmpIfNot, patch)
+    }
+
+    // A CMP_BR of a variable and the constant of an index (10, 12).
+    fn branch_fused(
+        self,
+        sheet: &[u8],
+        code: &mut [u8],
+        book: &mut [u16],
+        op: CompareOp,
+        v: u16,
+        index: u16,
+        label: Label,
+    ) -> Emitter
+        requires { ⌜ Fine self ⌝ }
+        requires { ⌜ length (now code) ≡ maxCode ⌝ }
+        requires { ⌜ length (now book) ≡ bookSize ⌝ }
+        ensures { λ r. ⌜ Coded (once (branch (sheetIn (now (sheet .entry))) cmpBr (comparisonByte (sheetIn (now (sheet .entry))) (compareView op) ∷ le16 v ++ le16 index) cmpBrOperandDelta (label .0))) self (now (code .entry)) (now (book .entry)) r (now (code .exit)) (now (book .exit)) ⌝ }
+    {
+        let patch = PendingPatch::cmp_br(numbers::narrow(self.size), label);
+        let e = self.add_cmp_br(sheet, code, book, op, v, index);
+        e.add_patch(book, patch)
     }
 
     // A CMP_BR of a variable and a constant (13, 10, 12).
@@ -583,13 +617,12 @@ impl Emitter {
         label: Label,
     ) -> Emitter
         requires { ⌜ Ready (world self (now code) (now book) (now pool)) ⌝ }
-        ensures { λ r. ⌜ Filled (act (sheetIn (now (sheet .entry))) (emitCmpBr (compareView op) v k (label .0))) (world self (now (code .entry)) (now (book .entry)) (now (pool .entry))) (world r (now (code .exit)) (now (book .exit)) (now (pool .exit))) ⌝ }
+        ensures { λ r. ⌜ Filled (call (sheetIn (now (sheet .entry))) (emitCmpBr (compareView op) v k (label .0))) (world self (now (code .entry)) (now (book .entry)) (now (pool .entry))) (world r (now (code .exit)) (now (book .exit)) (now (pool .exit))) ⌝ }
     {
-        let interned = self.intern_constant(pool, k);
-        let index = interned.index;
-        let p = interned.emitter;
-        let patch = PendingPatch::cmp_br(numbers::narrow(p.size), label);
-        let e = p.add_cmp_br(sheet, code, book, op, v, index);
-        e.add_patch(book, patch)
+        let found = self.find_constant(pool, k);
+        let index = found.index;
+        let p = found.emitter;
+        let e = p.branch_fused(sheet, code, book, op, v, index, label);
+        e.keep_constant(pool, index, k)
     }
 }

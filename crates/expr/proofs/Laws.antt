@@ -6,14 +6,13 @@ use Prim.Native.Nat.{ℕ, zero, suc, _+_, _-_, _<_}
 use native.Mathlib.Numerals.{add-one}
 use native.Mathlib.Omega.{arith}
 use lib.ListN.{length}
-use Rattle.definition.specs.Res.{Res, ok, refuse, _>>=_}
 use Rattle.definition.specs.Opcode.{Sheet, Role, BinaryOp, UnaryOp, CompareOp, ShortCircuitOp, AndThen, OrElse, loadTrue, loadFalse, binaryRole, unaryRole}
 use Rattle.definition.specs.Opcode as role
 use Rattle.definition.specs.Tree.{Expr, const, bool, read, shortCircuit}
 use Rattle.definition.specs.Program as def
 use Rattle.definition.specs.Program.{is, not, K, B, D, O, U, C, H, ExprLine, Reader, lineAt, nextLine, faultAt, exprForms, exprOf, exprAt}
 use Rattle.definition.specs.Emit as emit
-use Rattle.definition.specs.Emit.{Call, bindLabel, loadVariable, loadConstant, emitOpcode, emitJmp, emitJmpIfNot, resetStackDepth, refused, act}
+use Rattle.definition.specs.Emit.{Call, bindLabel, loadVariable, loadConstant, emitOpcode, emitJmp, emitJmpIfNot, resetStackDepth, refused}
 use Rattle.definition.specs.Walk.{Calls, say}
 use Rattle.definition.specs.Walk as walk
 use Rattle.definition.specs.Expr.{emitExpr}
@@ -25,8 +24,8 @@ use Rattle.program.specs.declared.Cursor.{Cursor}
 use Rattle.program.specs.Walk.{cursorOf, Near, Skipped}
 use Rattle.program.proofs.Laws.{expr-bad, expr-is, line-some, line-there}
 use Rattle.emit.specs.declared.Emitter.{Emitter}
-use Rattle.emit.specs.View.{World, world}
-use Rattle.emit.specs.Steps.{run, Ready, Bare, Booked, Created, Coded, Filled}
+use Rattle.emit.specs.View.{World, world, Stage, going, halted}
+use Rattle.emit.specs.Steps.{_>->_, run, call, Ready, Bare, Booked, Created, Coded, Filled}
 use Rattle.emit.proofs.Steps.{filled-by, bare-filled, booked-filled, created-filled, coded-filled}
 use Rattle.emit.proofs.Calls.{run-then, seq-filled, said-filled, fresh-filled}
 use Rattle.expr.specs.declared.Walked.{Walked}
@@ -46,12 +45,12 @@ filled x = record { ready = x .ready; kept = x .kept; did = x .did }
 module _ (s : Sheet) where
   -- the first two of three are one part
   regroup : (a b k : Calls) (e : emit.Emitter) → run s (walk._>>_ a (walk._>>_ b k)) e ≡ run s (walk._>>_ (walk._>>_ a b) k) e
-  unfolding _>>=_
-  regroup a b k e = run-then s a (walk._>>_ b k) e ∙ go (run s a e) ∙ sym (run-then s (walk._>>_ a b) k e ∙ ap (λ (m : Res emit.Emitter). m >>= run s k) (run-then s a b e))
+  unfolding _>->_
+  regroup a b k e = run-then s a (walk._>>_ b k) e ∙ go (run s a e) ∙ sym (run-then s (walk._>>_ a b) k e ∙ ap (λ (m : Stage). m >-> run s k) (run-then s a b e))
     where
-      go : (m : Res emit.Emitter) → m >>= run s (walk._>>_ b k) ≡ (m >>= run s b) >>= run s k
-      go (ok x) = run-then s b k x
-      go (refuse n p) = refl
+      go : (m : Stage) → m >-> run s (walk._>>_ b k) ≡ (m >-> run s b) >-> run s k
+      go (going x) = run-then s b k x
+      go (halted n p x) = refl
 
   pub operated : (m : Calls) (text : List ℕ) (d : def.Cursor) {w : World} {a r : Walked} {o : Role} {code book pool code′ book′ : List ℕ}
       → Went s m text d w (world (a .emitter) code book pool) (a .cursor) → Operated s o a code book r code′ book′
@@ -88,7 +87,7 @@ module _ (s : Sheet) (h left v : ℕ) (text : List ℕ) (c : Cursor) where
   module _ {e : Emitter} {r : Walked} (on : Behind text c e r) where
     -- what is emitted by one call
     abbrev Leaf : Call → World → List ℕ → List ℕ → List ℕ → Type 0
-    Leaf k w code book pool = Filled (act s k) w (world e code book pool) → Emits w (world (r .emitter) code book pool) (r .cursor)
+    Leaf k w code book pool = Filled (call s k) w (world e code book pool) → Emits w (world (r .emitter) code book pool) (r .cursor)
 
     leaf : (l : ExprLine) (x : Expr) (k : Call) {w : World} {code book pool : List ℕ} → ((r : Reader Expr) (d : def.Cursor) → exprOf r d l ≡ (x, d)) → emitExpr x h ≡ say k → Reads l → Leaf k w code book pool
     leaf l x k reads says line d = rw (on .same, expr-is left v text (cursorOf c) l line, reads _ _, says) (went (on .on) (said-filled s k d))
@@ -144,12 +143,12 @@ module _ (s : Sheet) (h left v : ℕ) (text : List ℕ) (c : Cursor) {next : Cur
 
   module _ {e e₁ e₂ e₃ e₄ e₅ e₆ e₇ e₈ e₉ e₁₀ : Emitter} {code book pool k₃ k₄ k₅ k₆ k₉ b₁ b₂ b₃ b₄ b₅ b₆ b₇ b₉ b₁₀ p₃ p₅ : List ℕ} {l₁ l₂ : ℕ} {c₁ c₂ : Cursor}
       (y : Ready (world e code book pool)) (m₁ : Created e book e₁ b₁ l₁) (m₂ : Created e₁ b₁ e₂ b₂ l₂)
-      (a : First (world e₂ code b₂ pool) (world e₃ k₃ b₃ p₃) c₁) (j : Coded (act s (emitJmpIfNot l₁)) e₃ k₃ b₃ e₄ k₄ b₄) where
+      (a : First (world e₂ code b₂ pool) (world e₃ k₃ b₃ p₃) c₁) (j : Coded (call s (emitJmpIfNot l₁)) e₃ k₃ b₃ e₄ k₄ b₄) where
     pub and-done : WentExpr s h (exprAt (left - 1) v text (cursorOf c₁)) text (world e₄ k₄ b₄ p₃) (world e₅ k₅ b₅ p₅) c₂
-        → Coded (act s (emitJmp l₂)) e₅ k₅ b₅ e₆ k₆ b₆
+        → Coded (call s (emitJmp l₂)) e₅ k₅ b₅ e₆ k₆ b₆
         → Booked (bindLabel l₁) e₆ b₆ e₇ b₇
         → Bare (resetStackDepth h) e₇ e₈
-        → Coded (act s (emitOpcode loadFalse)) e₈ k₆ b₇ e₉ k₉ b₉
+        → Coded (call s (emitOpcode loadFalse)) e₈ k₆ b₇ e₉ k₉ b₉
         → Booked (bindLabel l₂) e₉ b₉ e₁₀ b₁₀
         → Two s h left v text c (λ a b. emitExpr (shortCircuit AndThen a b) h) (world e code book pool) (world e₁₀ k₉ b₁₀ p₅) c₂
     unfolding emitExpr
@@ -175,8 +174,8 @@ module _ (s : Sheet) (h left v : ℕ) (text : List ℕ) (c : Cursor) {next : Cur
         (seq-filled s _ _ (said-filled s _ x₉)
         (said-filled s _ x₁₀)))))))))))
 
-    pub or-done : Coded (act s (emitOpcode loadTrue)) e₄ k₄ b₄ e₅ k₅ b₅
-        → Coded (act s (emitJmp l₂)) e₅ k₅ b₅ e₆ k₆ b₆
+    pub or-done : Coded (call s (emitOpcode loadTrue)) e₄ k₄ b₄ e₅ k₅ b₅
+        → Coded (call s (emitJmp l₂)) e₅ k₅ b₅ e₆ k₆ b₆
         → Booked (bindLabel l₁) e₆ b₆ e₇ b₇
         → Bare (resetStackDepth h) e₇ e₈
         → WentExpr s h (exprAt (left - 1) v text (cursorOf c₁)) text (world e₈ k₆ b₇ p₃) (world e₉ k₉ b₉ p₅) c₂

@@ -7,14 +7,14 @@ use Rattle.definition.specs.Opcode.{Sheet, Role, loadTrue, loadFalse}
 use Rattle.definition.specs.Tree.{Expr}
 use Rattle.definition.specs.Program as def
 use Rattle.definition.specs.Program.{exprAt, nextLine}
-use Rattle.definition.specs.Emit.{act, emitOpcode}
+use Rattle.definition.specs.Emit.{emitOpcode}
 use Rattle.definition.specs.Walk.{Calls, _>>_}
 use Rattle.definition.specs.Expr.{emitExpr}
 use Rattle.program.specs.declared.Cursor.{Cursor}
 use Rattle.program.specs.Walk.{cursorOf, Near, Skipped}
 use Rattle.emit.specs.declared.Emitter.{Emitter}
 use Rattle.emit.specs.View.{World}
-use Rattle.emit.specs.Steps.{run, Did, Ready, Kept, Coded}
+use Rattle.emit.specs.Steps.{run, call, Did, Ready, Kept, Coded}
 use Rattle.expr.specs.declared.Walked.{Walked}
 
 -- m was emitted, and the walk stands at d
@@ -46,7 +46,7 @@ boolRole false = loadFalse
 -- an instruction of one byte was added where the walk stands
 pub record Operated (s : Sheet) (role : Role) (w : Walked) (code book : List ℕ) (r : Walked) (code′ book′ : List ℕ) : Type 0 where
   pub there : r .cursor ≡ w .cursor
-  pub coded : Coded (act s (emitOpcode role)) (w .emitter) code book (r .emitter) code′ book′
+  pub coded : Coded (call s (emitOpcode role)) (w .emitter) code book (r .emitter) code′ book′
 
 -- the walk stands behind the line at c, which e has emitted
 pub record Behind (text : List ℕ) (c : Cursor) (e : Emitter) (r : Walked) : Type 0 where

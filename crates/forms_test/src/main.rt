@@ -3,7 +3,7 @@ ghost use mathlib.Core.Path.{_≡_};
 ghost use mathlib.Core.List.{[], _∷_};
 ghost use lib.ListN.{length};
 ghost use Rattle.definition.specs.Limits.{maxCode, maxNesting};
-ghost use Rattle.definition.specs.Emit.{act, loadVariable, storeVariable, loadConstant, emitJmp, emitCmpBr, bindLabel};
+ghost use Rattle.definition.specs.Emit.{loadVariable, storeVariable, loadConstant, emitJmp, emitCmpBr, bindLabel};
 ghost use Rattle.definition.specs.Stmt.{emitStmts};
 ghost use Rattle.opcode.specs.View.{compareView};
 ghost use Rattle.opcode.specs.Table.{sheetIn};
@@ -11,7 +11,7 @@ ghost use Rattle.program.specs.Walk.{cursorOf, Near};
 ghost use Rattle.program_shape.specs.Shape.{blockAt};
 ghost use Rattle.emit.specs.Book.{bookSize};
 ghost use Rattle.emit.specs.View.{world};
-ghost use Rattle.emit.specs.Steps.{Fine, Ready, Booked, Created, Coded, Filled};
+ghost use Rattle.emit.specs.Steps.{call, Fine, Ready, Booked, Created, Coded, Filled};
 ghost use Rattle.expr.specs.Went.{Went};
 ghost use Rattle.line_run.specs.Run.{entriesIn, kept, over};
 use definition::ENTRY_SIZE;
@@ -67,7 +67,7 @@ fn load_var(mut e: Lent, sheet: &[u8], code: &mut [u8], book: &mut [u16], v: u16
     requires { ⌜ Fine (e .emitter) ⌝ }
     requires { ⌜ length (now code) ≡ maxCode ⌝ }
     requires { ⌜ length (now book) ≡ bookSize ⌝ }
-    ensures { λ r. ⌜ Coded (act (sheetIn (now (sheet .entry))) (loadVariable v)) (e .emitter) (now (code .entry)) (now (book .entry)) (r .emitter) (now (code .exit)) (now (book .exit)) ⌝ }
+    ensures { λ r. ⌜ Coded (call (sheetIn (now (sheet .entry))) (loadVariable v)) (e .emitter) (now (code .entry)) (now (book .entry)) (r .emitter) (now (code .exit)) (now (book .exit)) ⌝ }
 {
     e.emit_load_var(sheet, code, book, v);
     e
@@ -77,7 +77,7 @@ fn store_var(mut e: Lent, sheet: &[u8], code: &mut [u8], book: &mut [u16], v: u1
     requires { ⌜ Fine (e .emitter) ⌝ }
     requires { ⌜ length (now code) ≡ maxCode ⌝ }
     requires { ⌜ length (now book) ≡ bookSize ⌝ }
-    ensures { λ r. ⌜ Coded (act (sheetIn (now (sheet .entry))) (storeVariable v)) (e .emitter) (now (code .entry)) (now (book .entry)) (r .emitter) (now (code .exit)) (now (book .exit)) ⌝ }
+    ensures { λ r. ⌜ Coded (call (sheetIn (now (sheet .entry))) (storeVariable v)) (e .emitter) (now (code .entry)) (now (book .entry)) (r .emitter) (now (code .exit)) (now (book .exit)) ⌝ }
 {
     e.emit_store_var(sheet, code, book, v);
     e
@@ -92,7 +92,7 @@ fn load_constant(
     k: Constant,
 ) -> Lent
     requires { ⌜ Ready (world (e .emitter) (now code) (now book) (now pool)) ⌝ }
-    ensures { λ r. ⌜ Filled (act (sheetIn (now (sheet .entry))) (loadConstant k)) (world (e .emitter) (now (code .entry)) (now (book .entry)) (now (pool .entry))) (world (r .emitter) (now (code .exit)) (now (book .exit)) (now (pool .exit))) ⌝ }
+    ensures { λ r. ⌜ Filled (call (sheetIn (now (sheet .entry))) (loadConstant k)) (world (e .emitter) (now (code .entry)) (now (book .entry)) (now (pool .entry))) (world (r .emitter) (now (code .exit)) (now (book .exit)) (now (pool .exit))) ⌝ }
 {
     e.load_constant(sheet, code, book, pool, k);
     e
@@ -102,7 +102,7 @@ fn jmp(mut e: Lent, sheet: &[u8], code: &mut [u8], book: &mut [u16], label: Labe
     requires { ⌜ Fine (e .emitter) ⌝ }
     requires { ⌜ length (now code) ≡ maxCode ⌝ }
     requires { ⌜ length (now book) ≡ bookSize ⌝ }
-    ensures { λ r. ⌜ Coded (act (sheetIn (now (sheet .entry))) (emitJmp (label .0))) (e .emitter) (now (code .entry)) (now (book .entry)) (r .emitter) (now (code .exit)) (now (book .exit)) ⌝ }
+    ensures { λ r. ⌜ Coded (call (sheetIn (now (sheet .entry))) (emitJmp (label .0))) (e .emitter) (now (code .entry)) (now (book .entry)) (r .emitter) (now (code .exit)) (now (book .exit)) ⌝ }
 {
     e.emit_jmp(sheet, code, book, label);
     e
@@ -120,7 +120,7 @@ fn cmp_br(
     label: Label,
 ) -> Lent
     requires { ⌜ Ready (world (e .emitter) (now code) (now book) (now pool)) ⌝ }
-    ensures { λ r. ⌜ Filled (act (sheetIn (now (sheet .entry))) (emitCmpBr (compareView op) v k (label .0))) (world (e .emitter) (now (code .entry)) (now (book .entry)) (now (pool .entry))) (world (r .emitter) (now (code .exit)) (now (book .exit)) (now (pool .exit))) ⌝ }
+    ensures { λ r. ⌜ Filled (call (sheetIn (now (sheet .entry))) (emitCmpBr (compareView op) v k (label .0))) (world (e .emitter) (now (code .entry)) (now (book .entry)) (now (pool .entry))) (world (r .emitter) (now (code .exit)) (now (book .exit)) (now (pool .exit))) ⌝ }
 {
     e.emit_cmp_br(sheet, code, book, pool, op, v, k, label);
     e

@@ -5,7 +5,7 @@
 ghost use mathlib.Core.Path.{_≡_};
 ghost use lib.ListN.{length};
 ghost use Rattle.definition.specs.Limits.{maxCode, maxNesting};
-ghost use Rattle.definition.specs.Emit.{act, loadVariable, storeVariable, emitJmp, loadConstant, emitCmpBr, bindLabel};
+ghost use Rattle.definition.specs.Emit.{loadVariable, storeVariable, emitJmp, loadConstant, emitCmpBr, bindLabel};
 ghost use Rattle.definition.specs.Stmt.{emitStmts};
 ghost use Rattle.opcode.specs.View.{compareView};
 ghost use Rattle.opcode.specs.Table.{sheetIn};
@@ -13,7 +13,7 @@ ghost use Rattle.program.specs.Walk.{cursorOf, Near};
 ghost use Rattle.program_shape.specs.Shape.{blockAt};
 ghost use Rattle.emit.specs.Book.{bookSize};
 ghost use Rattle.emit.specs.View.{world};
-ghost use Rattle.emit.specs.Steps.{Fine, Ready, Booked, Created, Coded, Filled};
+ghost use Rattle.emit.specs.Steps.{call, Fine, Ready, Booked, Created, Coded, Filled};
 ghost use Rattle.expr.specs.Went.{Went};
 use emit::Constant;
 use emit::Emitter;
@@ -55,7 +55,7 @@ impl Lent {
         requires { ⌜ Fine (now self .emitter) ⌝ }
         requires { ⌜ length (now code) ≡ maxCode ⌝ }
         requires { ⌜ length (now book) ≡ bookSize ⌝ }
-        ensures { λ _. ⌜ Coded (act (sheetIn (now (sheet .entry))) (loadVariable variable)) (now (self .entry) .emitter) (now (code .entry)) (now (book .entry)) (now (self .exit) .emitter) (now (code .exit)) (now (book .exit)) ⌝ }
+        ensures { λ _. ⌜ Coded (call (sheetIn (now (sheet .entry))) (loadVariable variable)) (now (self .entry) .emitter) (now (code .entry)) (now (book .entry)) (now (self .exit) .emitter) (now (code .exit)) (now (book .exit)) ⌝ }
     {
         self.emitter = compile_expr::emit_load_var(self.emitter, sheet, code, book, variable);
     }
@@ -64,7 +64,7 @@ impl Lent {
         requires { ⌜ Fine (now self .emitter) ⌝ }
         requires { ⌜ length (now code) ≡ maxCode ⌝ }
         requires { ⌜ length (now book) ≡ bookSize ⌝ }
-        ensures { λ _. ⌜ Coded (act (sheetIn (now (sheet .entry))) (storeVariable variable)) (now (self .entry) .emitter) (now (code .entry)) (now (book .entry)) (now (self .exit) .emitter) (now (code .exit)) (now (book .exit)) ⌝ }
+        ensures { λ _. ⌜ Coded (call (sheetIn (now (sheet .entry))) (storeVariable variable)) (now (self .entry) .emitter) (now (code .entry)) (now (book .entry)) (now (self .exit) .emitter) (now (code .exit)) (now (book .exit)) ⌝ }
     {
         self.emitter = compile_expr::emit_store_var(self.emitter, sheet, code, book, variable);
     }
@@ -79,7 +79,7 @@ impl Lent {
         k: Constant,
     )
         requires { ⌜ Ready (world (now self .emitter) (now code) (now book) (now pool)) ⌝ }
-        ensures { λ _. ⌜ Filled (act (sheetIn (now (sheet .entry))) (loadConstant k)) (world (now (self .entry) .emitter) (now (code .entry)) (now (book .entry)) (now (pool .entry))) (world (now (self .exit) .emitter) (now (code .exit)) (now (book .exit)) (now (pool .exit))) ⌝ }
+        ensures { λ _. ⌜ Filled (call (sheetIn (now (sheet .entry))) (loadConstant k)) (world (now (self .entry) .emitter) (now (code .entry)) (now (book .entry)) (now (pool .entry))) (world (now (self .exit) .emitter) (now (code .exit)) (now (book .exit)) (now (pool .exit))) ⌝ }
     {
         self.emitter = self.emitter.load_constant(sheet, code, book, pool, k);
     }
@@ -92,7 +92,7 @@ impl Lent {
         requires { ⌜ Fine (now self .emitter) ⌝ }
         requires { ⌜ length (now code) ≡ maxCode ⌝ }
         requires { ⌜ length (now book) ≡ bookSize ⌝ }
-        ensures { λ _. ⌜ Coded (act (sheetIn (now (sheet .entry))) (emitJmp (label .0))) (now (self .entry) .emitter) (now (code .entry)) (now (book .entry)) (now (self .exit) .emitter) (now (code .exit)) (now (book .exit)) ⌝ }
+        ensures { λ _. ⌜ Coded (call (sheetIn (now (sheet .entry))) (emitJmp (label .0))) (now (self .entry) .emitter) (now (code .entry)) (now (book .entry)) (now (self .exit) .emitter) (now (code .exit)) (now (book .exit)) ⌝ }
     {
         self.emitter = self.emitter.emit_jmp(sheet, code, book, label);
     }
@@ -110,7 +110,7 @@ impl Lent {
         label: Label,
     )
         requires { ⌜ Ready (world (now self .emitter) (now code) (now book) (now pool)) ⌝ }
-        ensures { λ _. ⌜ Filled (act (sheetIn (now (sheet .entry))) (emitCmpBr (compareView op) v k (label .0))) (world (now (self .entry) .emitter) (now (code .entry)) (now (book .entry)) (now (pool .entry))) (world (now (self .exit) .emitter) (now (code .exit)) (now (book .exit)) (now (pool .exit))) ⌝ }
+        ensures { λ _. ⌜ Filled (call (sheetIn (now (sheet .entry))) (emitCmpBr (compareView op) v k (label .0))) (world (now (self .entry) .emitter) (now (code .entry)) (now (book .entry)) (now (pool .entry))) (world (now (self .exit) .emitter) (now (code .exit)) (now (book .exit)) (now (pool .exit))) ⌝ }
     {
         self.emitter = self.emitter
             .emit_cmp_br(sheet, code, book, pool, op, v, k, label);

@@ -11,7 +11,7 @@ use Rattle.definition.specs.Opcode as role
 use Rattle.definition.specs.Tree.{CaseLabel, value, range, badLabel, Block, Arms, noArms, arm, badArm, Pos}
 use Rattle.definition.specs.Program as def
 use Rattle.definition.specs.Program.{Line, is, not, S, M, lineAt, nextLine, faultAt, armForms, labelForms, labelBy, labelsAt, stmtOf, armBy, armsAt}
-use Rattle.definition.specs.Emit.{bindLabel, loadConstant, emitOpcode, emitJmp, emitJmpIfNot, resetStackDepth, refused, act}
+use Rattle.definition.specs.Emit.{bindLabel, loadConstant, emitOpcode, emitJmp, emitJmpIfNot, resetStackDepth, refused}
 use Rattle.definition.specs.Walk.{Calls, say, newLabel}
 use Rattle.definition.specs.Walk as walk
 use Rattle.definition.specs.Stmt.{continues, continuesStmt, continuesArms, testAgainst, testLabel, testLabels, armBody, emitArm, emitStmt, emitBlock, emitArms}
@@ -20,7 +20,7 @@ use Rattle.program.specs.Walk.{cursorOf, Near, Skipped}
 use Rattle.program.proofs.Laws.{stmt-is, line-some}
 use Rattle.emit.specs.declared.Emitter.{Emitter}
 use Rattle.emit.specs.View.{World, world}
-use Rattle.emit.specs.Steps.{run, Ready, Bare, Booked, Created, Coded, Filled}
+use Rattle.emit.specs.Steps.{run, call, Ready, Bare, Booked, Created, Coded, Filled}
 use Rattle.emit.proofs.Kept.{kept-then}
 use Rattle.emit.proofs.Calls.{seq, said, seq-filled, said-filled, fresh-filled, none-filled}
 use Rattle.expr.specs.Went.{Went, WentExpr}
@@ -57,7 +57,7 @@ module _ (s : Sheet) (ctx : Context) (text : List ℕ) (n m end : ℕ) (c : Curs
 
   pub arm-some : {e e₁ e₃ r : Emitter} {code book pool b₁ k₃ b₃ k₅ b₅ ls ls′ : List ℕ} {w₂ w₄ : World} {c₂ c₄ : Cursor} {next : ℕ} → Ready (world e code book pool) → (n ≡ 0 → ⊥) → Created e book e₁ b₁ next
       → Leads s (armTests (labelsAt (ctx .left) text n (cursorOf c) .0) next) text (labelsAt (ctx .left) text n (cursorOf c) .1) (world e₁ code b₁ pool) w₂ c₂
-      → Coded (act s (emitOpcode pop)) (w₂ .e) (w₂ .code) (w₂ .book) e₃ k₃ b₃
+      → Coded (call s (emitOpcode pop)) (w₂ .e) (w₂ .code) (w₂ .book) e₃ k₃ b₃
       → RanBlock s ctx text m (cursorOf c₂) (world e₃ k₃ b₃ (w₂ .pool)) w₄ ls ls′ c₄
       → Coded (run s (armEnd next end)) (w₄ .e) (w₄ .code) (w₄ .book) r k₅ b₅
       → RanArm s ctx text n m end (cursorOf c) (world e code book pool) (world r k₅ b₅ (w₄ .pool)) ls ls′ c₄
@@ -173,7 +173,7 @@ module _ (s : Sheet) (ctx : Context) (text : List ℕ) (n m : ℕ) {d : def.Curs
   pub case-done : {e e₂ e₄ r : Emitter} {code book pool b₂ k₄ b₄ b₆ ls ls₃ ls₅ : List ℕ} {w₁ w₃ w₅ : World} {c₁ c₃ c₅ : Cursor} {end : ℕ} → WentExpr s 0 (exprIn ctx text (cursorOf c)) text (world e code book pool) w₁ c₁
       → Created (w₁ .e) (w₁ .book) e₂ b₂ end
       → RanArms s ctx text n end (cursorOf c₁) (world e₂ (w₁ .code) b₂ (w₁ .pool)) w₃ ls ls₃ c₃
-      → Coded (act s (emitOpcode pop)) (w₃ .e) (w₃ .code) (w₃ .book) e₄ k₄ b₄
+      → Coded (call s (emitOpcode pop)) (w₃ .e) (w₃ .code) (w₃ .book) e₄ k₄ b₄
       → RanBlock s ctx text m (cursorOf c₃) (world e₄ k₄ b₄ (w₃ .pool)) w₅ ls₃ ls₅ c₅
       → Booked (bindLabel end) (w₅ .e) (w₅ .book) r b₆
       → RanCase s ctx text n m d (world e code book pool) (world r (w₅ .code) b₆ (w₅ .pool)) ls ls₅ c₅

@@ -12,7 +12,7 @@ use Rattle.definition.specs.Tree.{Expr, Block, done, _then_, Pos}
 use Rattle.definition.specs.Program as def
 use Rattle.definition.specs.Program.{Line, is, I, F, L, StmtLine, lineAt, nextLine, stmtForms, stmtOf, blockOf}
 use Rattle.definition.specs.CompileExpr.{ClassifiedCmp, constantOf, classify, emitClassifiedCmpBr}
-use Rattle.definition.specs.Emit.{bindLabel, loadVariable, loadConstant, storeVariable, emitOpcode, emitJmp, emitJmpIfNot, act}
+use Rattle.definition.specs.Emit.{bindLabel, loadVariable, loadConstant, storeVariable, emitOpcode, emitJmp, emitJmpIfNot}
 use Rattle.definition.specs.Expr.{emitExpr}
 use Rattle.definition.specs.Stmt.{continues, continuesStmt, isDone, branchUnless, branchUnlessBy, elsePart, countsDown, bound, endTestBy, emitFor, emitStmt, emitBlock}
 use Rattle.program.specs.declared.Cursor.{Cursor}
@@ -20,7 +20,7 @@ use Rattle.program.specs.Walk.{cursorOf, Near, Skipped}
 use Rattle.program.proofs.Laws.{stmt-is}
 use Rattle.emit.specs.declared.Emitter.{Emitter}
 use Rattle.emit.specs.View.{World, world}
-use Rattle.emit.specs.Steps.{run, Ready, Booked, Created, Coded, Filled}
+use Rattle.emit.specs.Steps.{run, call, Ready, Booked, Created, Coded, Filled}
 use Rattle.emit.proofs.Calls.{seq-filled, said-filled, fresh-filled, none-filled}
 use Rattle.expr.specs.Went.{Went, WentExpr}
 use Rattle.expr.proofs.Laws.{went, place, filled}
@@ -121,7 +121,7 @@ module _ (s : Sheet) (ctx : Context) (text : List ℕ) (m : ℕ) (c : Cursor) (l
   else-none {ls = ls} slots near ready z d = rw (done-none ctx text m (cursorOf c) z) (quiet (λ i. false) (ctx .inside) ls slots (λ i. refl) (record { is = refl; near = near }) (said-filled s _ (booked-on ready s d)))
 
   pub else-some : {e e₁ e₂ e₃ r : Emitter} {code book pool b₁ k₂ b₂ b₃ book′ ls ls′ : List ℕ} {w₄ : World} {end : ℕ} {c′ : Cursor} → Ready (world e code book pool) → (m ≡ 0 → ⊥)
-      → Created e book e₁ b₁ end → Coded (act s (emitJmp end)) e₁ code b₁ e₂ k₂ b₂ → Booked (bindLabel l) e₂ b₂ e₃ b₃
+      → Created e book e₁ b₁ end → Coded (call s (emitJmp end)) e₁ code b₁ e₂ k₂ b₂ → Booked (bindLabel l) e₂ b₂ e₃ b₃
       → RanBlock s ctx text m (cursorOf c) (world e₃ k₂ b₃ pool) w₄ ls ls′ c′
       → Booked (bindLabel end) (w₄ .e) (w₄ .book) r book′
       → RanElse s ctx text m l (cursorOf c) (world e code book pool) (world r (w₄ .code) book′ (w₄ .pool)) ls ls′ c′
@@ -167,7 +167,7 @@ module _ (s : Sheet) (ctx : Context) (text : List ℕ) (n m : ℕ) {d : def.Curs
 
 module _ (s : Sheet) (ctx : Context) (text : List ℕ) (i v step n : ℕ) {d : def.Cursor} {c : Cursor} (on : Skipped text d c) {to : Cursor} (seen : Skipped text (exprIn ctx text (cursorOf c) .1) to) where
   pub for-done : {e e₂ e₃ e₄ e₅ : Emitter} {code book pool k₂ b₂ b₃ b₄ b₅ ls ls₇ : List ℕ} {head end : ℕ} {w₁ w₆ w₇ w₈ : World} {c₁ c₆ c₇ : Cursor}
-      → WentExpr s 0 (exprIn ctx text (cursorOf c)) text (world e code book pool) w₁ c₁ → Coded (act s (storeVariable v)) (w₁ .e) (w₁ .code) (w₁ .book) e₂ k₂ b₂
+      → WentExpr s 0 (exprIn ctx text (cursorOf c)) text (world e code book pool) w₁ c₁ → Coded (call s (storeVariable v)) (w₁ .e) (w₁ .code) (w₁ .book) e₂ k₂ b₂
       → Created e₂ b₂ e₃ b₃ head → Created e₃ b₃ e₄ b₄ end → Booked (bindLabel head) e₄ b₄ e₅ b₅
       → Went s (endTestBy (constantOf (exprIn ctx text (cursorOf to) .0)) (bound (countsDown step)) v (exprIn ctx text (cursorOf to) .0) end) text (exprIn ctx text (cursorOf to) .1) (world e₅ k₂ b₅ (w₁ .pool)) w₆ c₆
       → RanBody s ctx text i end n (cursorOf c₆) w₆ w₇ ls ls₇ c₇

@@ -13,7 +13,7 @@ use Rattle.definition.specs.Tree.{Expr, Stmt, Block, done, _then_}
 use Rattle.definition.specs.Program as def
 use Rattle.definition.specs.Program.{nextLine, stmtAt, blockOf}
 use Rattle.definition.specs.CompileExpr.{ClassifiedCmp, classify, emitClassifiedCmpBr}
-use Rattle.definition.specs.Emit.{bindLabel, addConstant, emitJmp, emitJmpIfNot, act}
+use Rattle.definition.specs.Emit.{bindLabel, addConstant, emitJmp, emitJmpIfNot}
 use Rattle.definition.specs.Walk.{Calls, say}
 use Rattle.definition.specs.Walk as walk
 use Rattle.definition.specs.Expr.{emitExpr}
@@ -25,7 +25,7 @@ use Rattle.program_shape.specs.declared.Shape.{Shape}
 use Rattle.program_shape.specs.declared.Shape.the-variants as loop-shape
 use Rattle.emit.specs.declared.Emitter.{Emitter}
 use Rattle.emit.specs.View.{World, world}
-use Rattle.emit.specs.Steps.{run, Ready, Fine, Booked, Created, Coded, Pooled, Filled}
+use Rattle.emit.specs.Steps.{run, call, Ready, Fine, Booked, Created, Coded, Pooled, Filled}
 use Rattle.emit.proofs.Calls.{seq-filled, said-filled, fresh-filled}
 use Rattle.expr.specs.Went.{Went}
 use Rattle.expr.proofs.Laws.{filled}
@@ -90,7 +90,7 @@ module _ (s : Sheet) (ctx : Context) (text : List ℕ) (i n m : ℕ) (c : Cursor
       → Created e book e₁ b₁ head → Created e₁ b₁ e₂ b₂ end → Booked (bindLabel head) e₂ b₂ e₃ b₃
       → RanBody s ctx text i end n (cursorOf c) (world e₃ code b₃ pool) w₄ ls ls₄ c₁
       → RanBlock s ctx text m (cursorOf c₁) w₄ w₅ ls₄ ls₅ c₂
-      → Coded (act s (emitJmp head)) (w₅ .e) (w₅ .code) (w₅ .book) e₆ k₆ b₆
+      → Coded (call s (emitJmp head)) (w₅ .e) (w₅ .code) (w₅ .book) e₆ k₆ b₆
       → Booked (bindLabel end) e₆ b₆ r book′
       → RanPlain s ctx text i n m (cursorOf c) (world e code book pool) (world r k₆ book′ (w₅ .pool)) ls ls₅ c₂
   unfolding emitPlain

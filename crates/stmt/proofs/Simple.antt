@@ -8,7 +8,7 @@ use Rattle.definition.specs.Opcode.{Sheet, ret}
 use Rattle.definition.specs.Tree.{Source, Expr, Pos}
 use Rattle.definition.specs.Program as def
 use Rattle.definition.specs.Program.{Line, is, not, A, I, S, F, L, X, N, R, StmtLine, lineAt, nextLine, faultAt, stmtForms, stmtOf}
-use Rattle.definition.specs.Emit.{storeVariable, emitOpcode, setPosition, refused, act}
+use Rattle.definition.specs.Emit.{storeVariable, emitOpcode, setPosition, refused}
 use Rattle.definition.specs.Walk.{Calls, say}
 use Rattle.definition.specs.Expr.{emitExpr}
 use Rattle.definition.specs.Stmt.{labels, jumpTo, exitOf, continuesStmt, sourceOf, recordPosition, emitStmt}
@@ -17,7 +17,7 @@ use Rattle.program.specs.Walk.{cursorOf, Near, Skipped}
 use Rattle.program.proofs.Laws.{stmt-bad, stmt-is}
 use Rattle.emit.specs.declared.Emitter.{Emitter}
 use Rattle.emit.specs.View.{World, world}
-use Rattle.emit.specs.Steps.{run, Ready, Fine, Bare, Coded, Filled}
+use Rattle.emit.specs.Steps.{run, call, Ready, Fine, Bare, Coded, Filled}
 use Rattle.emit.proofs.Calls.{seq-filled, said-filled, none-filled}
 use Rattle.expr.specs.declared.Walked.{Walked}
 use Rattle.expr.specs.Went.{Went}
@@ -67,12 +67,12 @@ source-here (not n) ctx text c e = rw (stmt-bad (ctx .left) (ctx .variables) tex
 pub quiet : {s : Sheet} {m : Calls} {text : List ℕ} {d : def.Cursor} {w v : World} {c : Cursor} (used : ℕ → Bool) (inside : ℕ) {vars : ℕ} (ls : List ℕ) → Lent text vars ls → ((i : ℕ) → used i ≡ false) → Skipped text d c → Filled (run s m) w v → Ran s (λ loops. m) used inside vars text d w v ls ls c
 quiet used inside ls slots off a f = record { place = a; filled = f; slots = slots; marks = sym (marked-off used _ off) }
 
-pub assigned : (s : Sheet) (v : ℕ) (x : Expr) (text : List ℕ) {d : def.Cursor} {c : Cursor} {w u : World} {r : Emitter} {code′ book′ : List ℕ} → Went s (emitExpr x 0) text d w u c → Coded (act s (storeVariable v)) (u .e) (u .code) (u .book) r code′ book′
+pub assigned : (s : Sheet) (v : ℕ) (x : Expr) (text : List ℕ) {d : def.Cursor} {c : Cursor} {w u : World} {r : Emitter} {code′ book′ : List ℕ} → Went s (emitExpr x 0) text d w u c → Coded (call s (storeVariable v)) (u .e) (u .code) (u .book) r code′ book′
     → Went s (emitAssign v x) text d w (world r code′ book′ (u .pool)) c
 unfolding emitAssign
 assigned s v x text a k = went (place a) (seq-filled s _ _ (filled a) (said-filled s _ (coded-on (a .ready) k)))
 
-pub returned : (s : Sheet) (text : List ℕ) {d : def.Cursor} {c : Cursor} {e r : Emitter} {code book code′ book′ : List ℕ} → Skipped text d c → Coded (act s (emitOpcode ret)) e code book r code′ book′
+pub returned : (s : Sheet) (text : List ℕ) {d : def.Cursor} {c : Cursor} {e r : Emitter} {code book code′ book′ : List ℕ} → Skipped text d c → Coded (call s (emitOpcode ret)) e code book r code′ book′
     → Stepped s (say (emitOpcode ret)) text d e code book (record { cursor = c; emitter = r }) code′ book′
 returned s text on k = record { place = on; coded = coded-run s _ k }
 

@@ -9,7 +9,7 @@ use Rattle.definition.specs.Opcode as role
 use Rattle.definition.specs.Tree.{CaseLabel, value, range}
 use Rattle.definition.specs.Program as def
 use Rattle.definition.specs.Program.{is, not, lineAt, nextLine, faultAt, labelForms, labelBy, labelsAt}
-use Rattle.definition.specs.Emit.{bindLabel, loadConstant, emitOpcode, emitJmp, emitJmpIfNot, resetStackDepth, refused, act}
+use Rattle.definition.specs.Emit.{bindLabel, loadConstant, emitOpcode, emitJmp, emitJmpIfNot, resetStackDepth, refused}
 use Rattle.definition.specs.Walk.{Calls, say, newLabel}
 use Rattle.definition.specs.Walk as walk
 use Rattle.definition.specs.Stmt.{testAgainst, testLabel, testLabels}
@@ -17,7 +17,7 @@ use Rattle.program.specs.declared.Cursor.{Cursor}
 use Rattle.program.specs.Walk.{cursorOf, Near, Skipped}
 use Rattle.emit.specs.declared.Emitter.{Emitter}
 use Rattle.emit.specs.View.{World, world}
-use Rattle.emit.specs.Steps.{run, Ready, Bare, Booked, Created, Coded, Filled}
+use Rattle.emit.specs.Steps.{run, call, Ready, Bare, Booked, Created, Coded, Filled}
 use Rattle.emit.proofs.Kept.{kept-then}
 use Rattle.emit.proofs.Calls.{seq, said, seq-filled, said-filled, fresh-filled}
 use Rattle.expr.specs.Went.{Went}
@@ -28,8 +28,8 @@ use Rattle.stmt_parts.proofs.Walks.{bare-on, booked-on, created-on, cod
 -- ---- labels
 
 module _ (s : Sheet) where
-  pub against : (op : CompareOp) (k fail : ℕ) {e e₁ e₃ r : Emitter} {code book pool k₁ b₁ k₃ b₃ k₄ b₄ : List ℕ} {w₂ : World} → Ready (world e code book pool) → Coded (act s (emitOpcode dup)) e code book e₁ k₁ b₁ → Filled (act s (loadConstant k)) (world e₁ k₁ b₁ pool) w₂
-      → Coded (act s (emitOpcode (role.compare op))) (w₂ .e) (w₂ .code) (w₂ .book) e₃ k₃ b₃ → Coded (act s (emitJmpIfNot fail)) e₃ k₃ b₃ r k₄ b₄ → Filled (run s (testAgainst op k fail)) (world e code book pool) (world r k₄ b₄ (w₂ .pool))
+  pub against : (op : CompareOp) (k fail : ℕ) {e e₁ e₃ r : Emitter} {code book pool k₁ b₁ k₃ b₃ k₄ b₄ : List ℕ} {w₂ : World} → Ready (world e code book pool) → Coded (call s (emitOpcode dup)) e code book e₁ k₁ b₁ → Filled (call s (loadConstant k)) (world e₁ k₁ b₁ pool) w₂
+      → Coded (call s (emitOpcode (role.compare op))) (w₂ .e) (w₂ .code) (w₂ .book) e₃ k₃ b₃ → Coded (call s (emitJmpIfNot fail)) e₃ k₃ b₃ r k₄ b₄ → Filled (run s (testAgainst op k fail)) (world e code book pool) (world r k₄ b₄ (w₂ .pool))
   unfolding testAgainst
   against op k fail ready a b d j =
       let x₃ = coded-on (b .ready) d in
@@ -55,7 +55,7 @@ module _ (s : Sheet) (left : ℕ) (text : List ℕ) (c : Cursor) (fail : ℕ) wh
   label-bad n near ready line d = rw line (went (record { is = refl; near = near }) (said-filled s _ (bare-on ready s d)))
 
 pub jump-done : (s : Sheet) (l : CaseLabel) (body : ℕ) {text : List ℕ} {d : def.Cursor} {c : Cursor} {e e₁ e₃ r : Emitter} {code book pool b₁ k₃ b₃ b₄ : List ℕ} {w₂ : World} {next : ℕ} → Ready (world e code book pool) → Created e book e₁ b₁ next
-    → Went s (testLabel l next) text d (world e₁ code b₁ pool) w₂ c → Coded (act s (emitJmp body)) (w₂ .e) (w₂ .code) (w₂ .book) e₃ k₃ b₃ → Booked (bindLabel next) e₃ b₃ r b₄
+    → Went s (testLabel l next) text d (world e₁ code b₁ pool) w₂ c → Coded (call s (emitJmp body)) (w₂ .e) (w₂ .code) (w₂ .book) e₃ k₃ b₃ → Booked (bindLabel next) e₃ b₃ r b₄
     → Leads s (testJump l body) text d (world e code book pool) (world r k₃ b₄ (w₂ .pool)) c
 unfolding testJump
 jump-done s l body {next = next} ready m t j b =
@@ -139,7 +139,7 @@ module _ (s : Sheet) (left : ℕ) (text : List ℕ) (n : ℕ) (c : Cursor) (next
         did = λ k u d. rw (arm-two n h z k) (fresh-filled s 1 start _ (m .label) (created-on ready s 1 m) (seq-filled s _ _ (filled t) (seq-filled s _ _ (said-filled s _ x₃) d)));
       }
 
-pub arm-ends : (s : Sheet) (next end : ℕ) {e e₁ e₂ r : Emitter} {code book k₁ b₁ b₂ : List ℕ} → Coded (act s (emitJmp end)) e code book e₁ k₁ b₁ → Booked (bindLabel next) e₁ b₁ e₂ b₂ → Bare (resetStackDepth 1) e₂ r → Coded (run s (armEnd next end)) e code book r k₁ b₂
+pub arm-ends : (s : Sheet) (next end : ℕ) {e e₁ e₂ r : Emitter} {code book k₁ b₁ b₂ : List ℕ} → Coded (call s (emitJmp end)) e code book e₁ k₁ b₁ → Booked (bindLabel next) e₁ b₁ e₂ b₂ → Bare (resetStackDepth 1) e₂ r → Coded (run s (armEnd next end)) e code book r k₁ b₂
 unfolding armEnd
 arm-ends s next end {code = code} {book = book} {k₁ = k₁} {b₂ = b₂} j b d = record {
   fine = d .fine;

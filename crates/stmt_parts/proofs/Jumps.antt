@@ -12,7 +12,7 @@ use Rattle.definition.specs.Limits.{maxCode, maxNesting, noLoop}
 use Rattle.definition.specs.Opcode.{Sheet}
 use Rattle.definition.specs.Program as def
 use Rattle.definition.specs.Program.{Form, not, lineAt, nextLine}
-use Rattle.definition.specs.Emit.{Call, bindLabel, emitJmp, refused, act}
+use Rattle.definition.specs.Emit.{Call, bindLabel, emitJmp, refused}
 use Rattle.definition.specs.Walk.{say, when}
 use Rattle.definition.specs.Stmt.{labels, exitOf, nextOf}
 use Rattle.program.specs.declared.Cursor.{Cursor}
@@ -20,10 +20,11 @@ use Rattle.program.specs.Walk.{Skipped}
 use Rattle.program.proofs.Laws.{line-some}
 use Rattle.emit.specs.declared.Emitter.{Emitter}
 use Rattle.emit.specs.Book.{bookSize}
-use Rattle.emit.specs.Steps.{run, Fine, Bare, Booked, Coded}
+use Rattle.emit.specs.Steps.{run, call, Fine, Bare, Booked, Coded}
 use Rattle.emit.proofs.Calls.{said, said-filled, none-filled}
 use Rattle.stmt_parts.specs.Loops.{loopSize, loopsSize, openAt, opensIn, loopsOf, foundAt, Finds}
 use Rattle.stmt_parts.specs.Parts.{jumpRow, Stepped, Continued, BindsNext}
+use Rattle.stmt_parts.proofs.Opens.{led-nowhere, led-there}
 use Rattle.stmt_parts.proofs.Marks.{labels-found, marks-found}
 use Rattle.stmt_parts.proofs.Walks.{booked-on}
 
@@ -42,7 +43,7 @@ unfolding foundAt
 found-some ls zero h = absurd (h refl)
 found-some ls (suc r) h = rw sub-one
 
-pub coded-run : (s : Sheet) (c : Call) {e r : Emitter} {code book code′ book′ : List ℕ} → Coded (act s c) e code book r code′ book′ → Coded (run s (say c)) e code book r code′ book′
+pub coded-run : (s : Sheet) (c : Call) {e r : Emitter} {code book code′ book′ : List ℕ} → Coded (call s c) e code book r code′ book′ → Coded (run s (say c)) e code book r code′ book′
 coded-run s c d = record { fine = d .fine; room = d .room; slots = d .slots; kept = d .kept; did = λ pool. said s c (d .did pool) }
 
 bare-run : (s : Sheet) (c : Call) {e r : Emitter} {code book : List ℕ} → length code ≡ maxCode → length book ≡ bookSize → Bare c e r → Coded (run s (say c)) e code book r code book
@@ -54,7 +55,7 @@ module _ (s : Sheet) (inside i : ℕ) (text : List ℕ) (c : def.Cursor) {n : Cu
   unfolding foundAt exitOf jumpRow
   exit-none z room slots d = record { place = on; coded = rw (labels-found ls inside i r f, z) (bare-run s _ room slots d) }
 
-  pub exit-found : {l : ℕ} {code′ book′ : List ℕ} → (r ≡ 0 → ⊥) → l ≡ getD ls (loopSize * (r - 1) + 1) 0 → Coded (act s (emitJmp l)) e code book u code′ book′
+  pub exit-found : {l : ℕ} {code′ book′ : List ℕ} → (r ≡ 0 → ⊥) → l ≡ getD ls (loopSize * (r - 1) + 1) 0 → Coded (call s (emitJmp l)) e code book u code′ book′
       → Stepped s (jumpRow (c .row) (exitOf (labels i (loopsOf (opensIn ls inside))))) text (nextLine text c) e code book (record { cursor = n; emitter = u }) code′ book′
   unfolding exitOf jumpRow openAt
   exit-found z is-l d = record { place = on; coded = rw (labels-found ls inside i r f, found-some ls r z, ← is-l) (coded-run s _ d) }
@@ -64,17 +65,19 @@ module _ (s : Sheet) (inside i : ℕ) (text : List ℕ) (c : def.Cursor) {n : Cu
   unfolding foundAt nextOf jumpRow
   continue-none z room slots long d = record {
     stepped = record { place = on; coded = rw (labels-found ls inside i r f, z) (bare-run s _ room slots d) };
+    is = led-nowhere ls inside i r f z;
     slots = long;
     marks = marks-found ls ls i r (λ k h. refl) (λ k h. absurd (omega arith)) inside f;
   }
 
   pub continue-found : {l : ℕ} {code′ book′ : List ℕ} → (r ≡ 0 → ⊥) → inside ≤ maxNesting → length ls ≡ loopsSize → l ≡ getD ls (loopSize * (r - 1) + 2) 0
-      → Coded (act s (emitJmp l)) e code book u code′ book′ → Continued s inside i text c e code book ls (record { cursor = n; emitter = u }) code′ book′ (set ls (loopSize * (r - 1) + 3) 1)
+      → Coded (call s (emitJmp l)) e code book u code′ book′ → Continued s inside i text c e code book ls (record { cursor = n; emitter = u }) code′ book′ (set ls (loopSize * (r - 1) + 3) 1)
   unfolding nextOf jumpRow openAt
   continue-found z few long is-l d =
       let at = loopSize * (r - 1) + 3 in
       record {
         stepped = record { place = on; coded = rw (labels-found ls inside i r f, found-some ls r z, ← is-l) (coded-run s _ d) };
+        is = led-there ls inside i r f z;
         slots = rw length-set long;
         marks = marks-found ls (set ls at 1) i r
             (λ k h. rw (getD-set-other ls at (loopSize * k) 1 0 (λ q. omega arith), getD-set-other ls at (loopSize * k + 1) 1 0 (λ q. omega arith), getD-set-other ls at (loopSize * k + 2) 1 0 (λ q. omega arith), getD-set-other ls at (loopSize * k + 3) 1 0 (λ q. h (omega arith))))

@@ -4,12 +4,13 @@ use mathlib.Core.Bool.{Bool, true, false}
 use mathlib.Core.List.{List, [], _∷_}
 use Prim.Native.Nat.{ℕ, zero, suc, _+_, _-_, _*_, _≤_, _<_}
 use native.Mathlib.Omega.{arith}
-use borrow.Author.Tests.{eqb-true, eqb-false}
+use borrow.Author.Tests.{eq-eqb, ne-eqb, eqb-true, eqb-false}
 use lib.ListN.{length, getD, set, length-set}
 use lib.Seq.{getD-set-same, getD-set-other}
 use lib.Dec.{eqb}
 use Rattle.definition.specs.Limits.{maxNesting}
-use Rattle.stmt_parts.specs.Loops.{loopSize, loopsSize, openAt, opensIn, Opened, Finds}
+use Rattle.emit.proofs.Loads.{four-stores}
+use Rattle.stmt_parts.specs.Loops.{loopSize, loopsSize, openAt, opensIn, Opened, ledTo, Finds}
 
 abbrev pub put4 : List ℕ → ℕ → ℕ → ℕ → ℕ → List ℕ
 put4 ls at a b c = set (set (set (set ls at a) (at + 1) b) (at + 2) c) (at + 3) 0
@@ -56,6 +57,7 @@ loop-opened ls inside i end next slots few =
     let at = loopSize * inside in
     let fits : at + 4 ≤ length ls = omega arith in
     record {
+      is = four-stores ls at i end next 0;
       slots = rw (length-set, length-set, length-set, length-set) slots;
       opens = opens-made ls inside i end next fits (opens-below ls (put4 ls at i end next) inside (λ j h. put4-other ls at i end next fits j h));
     }
@@ -80,3 +82,25 @@ module _ (ls : List ℕ) (inside i : ℕ) where
 
   pub looks-none : {k : ℕ} → Looking ls inside i k → k ≤ 0 → Finds ls inside i 0
   looks-none {k} l h = record { within = omega arith; inner = λ j a b. l .inner j (omega arith) b; is = λ n e. absurd (omega arith) }
+
+-- what a CONTINUE marks, by what was found
+led-none : (ls : List ℕ) (i n : ℕ) → ((j : ℕ) → j < n → getD ls (loopSize * j) 0 ≡ i → ⊥) → ledTo i ls n ≡ ls
+unfolding ledTo
+led-none ls i zero off = refl
+led-none ls i (suc n) off = rw (ledTo, ne-eqb (getD ls (loopSize * n) 0) i (off n (omega arith))) (led-none ls i n (λ j h. off j (omega arith)))
+
+led-some : (ls : List ℕ) (i n k : ℕ) → k < n → ((j : ℕ) → k < j → j < n → getD ls (loopSize * j) 0 ≡ i → ⊥) → getD ls (loopSize * k) 0 ≡ i → ledTo i ls n ≡ set ls (loopSize * k + 3) 1
+unfolding ledTo
+led-some ls i zero k h off on = absurd (omega arith)
+led-some ls i (suc n) k h off on = go (eqb k n) refl (λ less. led-some ls i n k less (λ j a b. off j a (omega arith)) on)
+  where
+    go : (b : Bool) → eqb k n ≡ b → (k < n → ledTo i ls n ≡ set ls (loopSize * k + 3) 1) → ledTo i ls (suc n) ≡ set ls (loopSize * k + 3) 1
+    go true q r = let e = eqb-true k n q in let on′ = rw e at on in rw (ledTo, eq-eqb (getD ls (loopSize * n) 0) i on′, e)
+    go false q r = let z = eqb-false k n q in rw (ledTo, ne-eqb (getD ls (loopSize * n) 0) i (off n (omega arith) (omega arith))) (r (omega arith))
+
+module _ (ls : List ℕ) (inside i r : ℕ) (f : Finds ls inside i r) where
+  pub led-nowhere : r ≡ 0 → ls ≡ ledTo i ls inside
+  led-nowhere z = sym (led-none ls i inside (λ j h. f .inner j (omega arith) h))
+
+  pub led-there : (r ≡ 0 → ⊥) → set ls (loopSize * (r - 1) + 3) 1 ≡ ledTo i ls inside
+  led-there z = sym (led-some ls i inside (r - 1) (omega (arith, f .within)) (λ j a b. f .inner j (omega arith) b) (f .is (r - 1) (omega arith)))

@@ -10,7 +10,7 @@ use Rattle.definition.specs.Opcode as role
 use Rattle.definition.specs.Tree.{Expr}
 use Rattle.definition.specs.Program as def
 use Rattle.definition.specs.CompileExpr.{ClassifiedCmp, classify, emitClassifiedCmpBr}
-use Rattle.definition.specs.Emit.{bindLabel, addConstant, loadVariable, loadConstant, storeVariable, emitOpcode, emitJmp, emitJmpIfNot, act}
+use Rattle.definition.specs.Emit.{bindLabel, addConstant, loadVariable, loadConstant, storeVariable, emitOpcode, emitJmp, emitJmpIfNot}
 use Rattle.definition.specs.Expr.{emitExpr}
 use Rattle.definition.specs.Stmt.{branchUnless, branchUnlessBy, endTestBy}
 use Rattle.program.specs.declared.Cursor.{Cursor}
@@ -18,7 +18,7 @@ use Rattle.program.specs.Walk.{Skipped}
 use Rattle.emit.specs.declared.Emitter.{Emitter}
 use Rattle.emit.specs.Pool.{Held}
 use Rattle.emit.specs.View.{World, world}
-use Rattle.emit.specs.Steps.{run, Ready, Fine, Booked, Created, Coded, Pooled, Filled}
+use Rattle.emit.specs.Steps.{run, call, Ready, Fine, Booked, Created, Coded, Pooled, Filled}
 use Rattle.emit.proofs.Calls.{seq-filled, said-filled, fresh-filled}
 use Rattle.expr.specs.Went.{Went}
 use Rattle.expr.proofs.Laws.{went, place, filled}
@@ -32,7 +32,7 @@ module _ (s : Sheet) (text : List ℕ) (x : Expr) (l : ℕ) {d : def.Cursor} {en
   unfolding branchUnless branchUnlessBy
   fused-done f is-f on k = rw (← is-f) (went on k)
 
-  pub jumps-done : {w u : World} {r : Emitter} {code′ book′ : List ℕ} → none ≡ classify x → Went s (emitExpr x 0) text d w u end → Coded (act s (emitJmpIfNot l)) (u .e) (u .code) (u .book) r code′ book′
+  pub jumps-done : {w u : World} {r : Emitter} {code′ book′ : List ℕ} → none ≡ classify x → Went s (emitExpr x 0) text d w u end → Coded (call s (emitJmpIfNot l)) (u .e) (u .code) (u .book) r code′ book′
       → Went s (branchUnless x l) text d w (world r code′ book′ (u .pool)) end
   unfolding branchUnless branchUnlessBy
   jumps-done is-f a k = rw (← is-f) (went (place a) (seq-filled s _ _ (filled a) (said-filled s _ (coded-on (a .ready) k))))
@@ -48,15 +48,15 @@ module _ (s : Sheet) (text : List ℕ) (v : ℕ) (x : Expr) (l : ℕ) {d : def.C
   pub end-tested : {o : Option ℕ} {op to : CompareOp} {w u : World} → none ≡ o → op ≡ to → Went s (endTestBy none op v x l) text d w u end → Went s (endTestBy o to v x l) text d w u end
   end-tested is-k is-op d = rw (← is-k, ← is-op) d
 
-  pub test-done : (op : CompareOp) {e e₁ e₃ r : Emitter} {code book pool k₁ b₁ k₃ b₃ k₄ b₄ : List ℕ} {u : World} → Ready (world e code book pool) → Coded (act s (loadVariable v)) e code book e₁ k₁ b₁ → Went s (emitExpr x 1) text d (world e₁ k₁ b₁ pool) u end
-      → Coded (act s (emitOpcode (role.compare op))) (u .e) (u .code) (u .book) e₃ k₃ b₃ → Coded (act s (emitJmpIfNot l)) e₃ k₃ b₃ r k₄ b₄ → Went s (endTestBy none op v x l) text d (world e code book pool) (world r k₄ b₄ (u .pool)) end
+  pub test-done : (op : CompareOp) {e e₁ e₃ r : Emitter} {code book pool k₁ b₁ k₃ b₃ k₄ b₄ : List ℕ} {u : World} → Ready (world e code book pool) → Coded (call s (loadVariable v)) e code book e₁ k₁ b₁ → Went s (emitExpr x 1) text d (world e₁ k₁ b₁ pool) u end
+      → Coded (call s (emitOpcode (role.compare op))) (u .e) (u .code) (u .book) e₃ k₃ b₃ → Coded (call s (emitJmpIfNot l)) e₃ k₃ b₃ r k₄ b₄ → Went s (endTestBy none op v x l) text d (world e code book pool) (world r k₄ b₄ (u .pool)) end
   unfolding endTestBy
   test-done op ready a b k j =
       let x₃ = coded-on (b .ready) k in
       went (place b) (seq-filled s _ _ (said-filled s _ (coded-on ready a)) (seq-filled s _ _ (filled b) (seq-filled s _ _ (said-filled s _ x₃) (said-filled s _ (coded-on (x₃ .ready) j)))))
 
-pub counts-on : (s : Sheet) (v step head end : ℕ) {e e₁ e₃ e₄ e₅ r : Emitter} {code book pool k₁ b₁ k₃ b₃ k₄ b₄ k₅ b₅ b₆ : List ℕ} {w₂ : World} → Ready (world e code book pool) → Coded (act s (loadVariable v)) e code book e₁ k₁ b₁ → Filled (act s (loadConstant step)) (world e₁ k₁ b₁ pool) w₂
-    → Coded (act s (emitOpcode (role.arithmetic Add))) (w₂ .e) (w₂ .code) (w₂ .book) e₃ k₃ b₃ → Coded (act s (storeVariable v)) e₃ k₃ b₃ e₄ k₄ b₄ → Coded (act s (emitJmp head)) e₄ k₄ b₄ e₅ k₅ b₅ → Booked (bindLabel end) e₅ b₅ r b₆
+pub counts-on : (s : Sheet) (v step head end : ℕ) {e e₁ e₃ e₄ e₅ r : Emitter} {code book pool k₁ b₁ k₃ b₃ k₄ b₄ k₅ b₅ b₆ : List ℕ} {w₂ : World} → Ready (world e code book pool) → Coded (call s (loadVariable v)) e code book e₁ k₁ b₁ → Filled (call s (loadConstant step)) (world e₁ k₁ b₁ pool) w₂
+    → Coded (call s (emitOpcode (role.arithmetic Add))) (w₂ .e) (w₂ .code) (w₂ .book) e₃ k₃ b₃ → Coded (call s (storeVariable v)) e₃ k₃ b₃ e₄ k₄ b₄ → Coded (call s (emitJmp head)) e₄ k₄ b₄ e₅ k₅ b₅ → Booked (bindLabel end) e₅ b₅ r b₆
     → Filled (run s (forEnd v step head end)) (world e code book pool) (world r k₅ b₆ (w₂ .pool))
 unfolding forEnd
 counts-on s v step head end ready a b k d j o =
@@ -82,7 +82,7 @@ module _ (s : Sheet) (x : Expr) (end : ℕ) where
       })
 
   pub head-tested : {text : List ℕ} {d : def.Cursor} {c : Cursor} {e e₁ e₂ r : Emitter} {code book pool b₁ b₂ k₄ b₄ : List ℕ} {u : World} {head : ℕ} → none ≡ classify x → Ready (world e code book pool)
-      → Created e book e₁ b₁ head → Booked (bindLabel head) e₁ b₁ e₂ b₂ → Went s (emitExpr x 0) text d (world e₂ code b₂ pool) u c → Coded (act s (emitJmpIfNot end)) (u .e) (u .code) (u .book) r k₄ b₄
+      → Created e book e₁ b₁ head → Booked (bindLabel head) e₁ b₁ e₂ b₂ → Went s (emitExpr x 0) text d (world e₂ code b₂ pool) u c → Coded (call s (emitJmpIfNot end)) (u .e) (u .code) (u .book) r k₄ b₄
       → Enters s (whileFrom (classify x) x end) (world e code book pool) (world r k₄ b₄ (u .pool)) head
   unfolding whileFrom
   head-tested {head = head} is-f ready m b a j =
@@ -99,7 +99,7 @@ module _ (s : Sheet) (x : Expr) (end : ℕ) where
   unfolding whileEnd
   back-fused f is-f k = rw (← is-f) k
 
-  pub back-jumps : {e r : Emitter} {code book pool code′ book′ : List ℕ} → none ≡ classify x → Ready (world e code book pool) → Coded (act s (emitJmp end)) e code book r code′ book′ → Filled (run s (whileEnd (classify x) end)) (world e code book pool) (world r code′ book′ pool)
+  pub back-jumps : {e r : Emitter} {code book pool code′ book′ : List ℕ} → none ≡ classify x → Ready (world e code book pool) → Coded (call s (emitJmp end)) e code book r code′ book′ → Filled (run s (whileEnd (classify x) end)) (world e code book pool) (world r code′ book′ pool)
   unfolding whileEnd
   back-jumps is-f ready f = rw (← is-f) (said-filled s _ (coded-on ready f))
 

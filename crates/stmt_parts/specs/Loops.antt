@@ -1,10 +1,11 @@
 -- The open loops in a lent list of 16-bit numbers, outermost first: so many numbers each, and as many as a program can nest.
 use mathlib.Core.Path.{_≡_}
-use mathlib.Core.Bool.{Bool, false, not, _&&_, _||_}
+use mathlib.Core.Bool.{Bool, true, false, not, _&&_, _||_}
 use mathlib.Core.Option.{Option, some, none}
 use mathlib.Core.List.{List, [], _∷_}
 use Prim.Native.Nat.{ℕ, zero, suc, _+_, _*_, _≤_, _<_}
-use lib.ListN.{length, getD}
+use lib.ListN.{length, getD, set}
+use lib.Seq.{sets}
 use lib.Dec.{eqb}
 use Rattle.definition.specs.Limits.{maxNesting}
 use Rattle.definition.specs.Stmt.{Loops, LoopLabels}
@@ -40,8 +41,9 @@ unfoldable pub marked : (ℕ → Bool) → List Open → List Open
 marked c [] = []
 marked c (o ∷ os) = record { labels = o .labels; used = o .used || c (o .labels .loop) } ∷ marked (λ i. not (eqb i (o .labels .loop)) && c i) os
 
--- a loop was opened
+-- a loop was opened, and no other number changed
 pub record Opened (inside i end next : ℕ) (ls ls′ : List ℕ) : Type 0 where
+  pub is : ls′ ≡ sets ls (loopSize * inside) (i ∷ end ∷ next ∷ 0 ∷ [])
   pub slots : length ls′ ≡ loopsSize
   pub opens : opensIn ls′ (suc inside) ≡ record { labels = record { loop = i; exit = end; next = next }; used = false } ∷ opensIn ls inside
 
@@ -49,6 +51,11 @@ pub record Opened (inside i end next : ℕ) (ls ls′ : List ℕ) : Type 0 where
 unfoldable pub foundAt : List ℕ → ℕ → Option LoopLabels
 foundAt ls zero = none
 foundAt ls (suc k) = some (openAt ls k .labels)
+
+-- the list after a CONTINUE of number i, of so many open loops: the innermost of that number is marked
+unfoldable pub ledTo : ℕ → List ℕ → ℕ → List ℕ
+ledTo i ls zero = ls
+ledTo i ls (suc k) = elim (eqb (getD ls (loopSize * k) 0) i) [ true ↦ set ls (loopSize * k + 3) 1 | false ↦ ledTo i ls k ]
 
 -- the innermost loop of number i
 pub record Finds (ls : List ℕ) (inside i r : ℕ) : Type 0 where

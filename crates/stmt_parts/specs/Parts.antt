@@ -27,7 +27,7 @@ use Rattle.emit.specs.View.{World, world}
 use Rattle.emit.specs.Steps.{run, Ready, Fine, Coded, Filled}
 use Rattle.expr.specs.declared.Walked.{Walked}
 use Rattle.stmt_parts.specs.declared.labels.ArmParts.{ArmParts}
-use Rattle.stmt_parts.specs.Loops.{loopsSize, opensIn, loopsOf, marked}
+use Rattle.stmt_parts.specs.Loops.{loopsSize, opensIn, loopsOf, marked, ledTo}
 
 -- m was emitted, and whatever is emitted next stands where m has it
 pub record Leads (s : Sheet) (m : Calls → Calls) (text : List ℕ) (d : def.Cursor) (w v : World) (c : Cursor) : Type 0 where
@@ -55,6 +55,7 @@ pub record Stepped (s : Sheet) (m : Calls) (text : List ℕ) (d : def.Cursor) (e
 -- a CONTINUE of loop i was emitted, its line at c
 pub record Continued (s : Sheet) (inside i : ℕ) (text : List ℕ) (c : def.Cursor) (e : Emitter) (code book ls : List ℕ) (r : Walked) (code′ book′ ls′ : List ℕ) : Type 0 where
   pub stepped : Stepped s (jumpRow (c .row) (nextOf (labels i (loopsOf (opensIn ls inside))))) text (nextLine text c) e code book r code′ book′
+  pub is : ls′ ≡ ledTo i ls inside
   pub slots : length ls′ ≡ loopsSize
   pub marks : opensIn ls′ inside ≡ marked (λ j. eqb j i) (opensIn ls inside)
 

@@ -48,8 +48,8 @@ use Rattle.emit.specs.declared.Label.{Label}
 use Rattle.opcode.specs.View.{compareView}
 use Rattle.opcode.specs.Table.{sheetIn}
 use Rattle.emit.specs.View.{world}
-use Rattle.definition.specs.Emit.{act, emitCmpBr}
-use Rattle.emit.specs.Steps.{Ready, Filled}
+use Rattle.definition.specs.Emit.{emitCmpBr}
+use Rattle.emit.specs.Steps.{call, Ready, Filled}
 use Rattle.lent_emitter.proofs.Lent as T
 use Rattle.lent_emitter.proofs.Lent.Laws as T′
 use Rattle.opcode.proofs.CompareOp as compareop
@@ -115,7 +115,7 @@ module _ {M : Type 1} (𝓤 : URA M) (H : Heap 𝓤) (A : Atoms 𝓤) (W : Given
 
   -- what `Lent::emit_cmp_br` ensures of the last emitter and lists
   abbrev Done : Lent → List ℕ → List ℕ → List ℕ → Type 0
-  Done r code′ book′ pool′ = Filled (act (sheetIn sheet) (emitCmpBr (compareView op) v k (aim .0))) (world (h .emitter) code book pool) (world (r .emitter) code′ book′ pool′)
+  Done r code′ book′ pool′ = Filled (call (sheetIn sheet) (emitCmpBr (compareView op) v k (aim .0))) (world (h .emitter) code book pool) (world (r .emitter) code′ book′ pool′)
 
   abbrev Post : Val → SProp 𝓤
   Post = walkOf 𝓤 H A f.ended stayed (f.clauses 𝓤 H A at-mem run) .post (((κ₀, (κ₁, (κ₂, (κ₃, tt)))), (q₀, (q₁, (q₂, (q₃, tt)))), tt, a, at), tt)

@@ -11,8 +11,8 @@ use Rattle.emit.specs.declared.Label.{Label}
 use Rattle.opcode.specs.Table.{sheetIn}
 use Rattle.emit.specs.Book.{bookSize}
 use Rattle.definition.specs.Limits.{maxCode}
-use Rattle.definition.specs.Emit.{act, emitJmp}
-use Rattle.emit.specs.Steps.{Fine as IsFine, Coded}
+use Rattle.definition.specs.Emit.{emitJmp}
+use Rattle.emit.specs.Steps.{call, Fine as IsFine, Coded}
 use Rattle.lent_emitter.proofs.Value as value
 use Rattle.forms_test.proofs.Coded.{Callee, thin-meets}
 use Rattle.lent_emitter.proofs.Lent.emit_jmp.Symbol as core-def
@@ -33,7 +33,7 @@ abbrev P₃ : Lent → List ℕ → List ℕ → List ℕ → Label → Type 0
 P₃ h sheet code book aim = length book ≡ bookSize
 
 abbrev Q : Lent → List ℕ → List ℕ → List ℕ → Label → Lent → List ℕ → List ℕ → Type 0
-Q h sheet code book aim r code′ book′ = Coded (act (sheetIn sheet) (emitJmp (aim .0))) (h .emitter) code book (r .emitter) code′ book′
+Q h sheet code book aim r code′ book′ = Coded (call (sheetIn sheet) (emitJmp (aim .0))) (h .emitter) code book (r .emitter) code′ book′
 
 pub jmp-spec : {M : Type 1} → stated.statement M
 unfolding the-code.routine tablesOf

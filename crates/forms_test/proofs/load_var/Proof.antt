@@ -10,8 +10,8 @@ use Rattle.lent_emitter.specs.declared.Lent.{Lent}
 use Rattle.opcode.specs.Table.{sheetIn}
 use Rattle.emit.specs.Book.{bookSize}
 use Rattle.definition.specs.Limits.{maxCode}
-use Rattle.definition.specs.Emit.{act, loadVariable}
-use Rattle.emit.specs.Steps.{Fine as IsFine, Coded}
+use Rattle.definition.specs.Emit.{loadVariable}
+use Rattle.emit.specs.Steps.{call, Fine as IsFine, Coded}
 use Rattle.lent_emitter.proofs.Value as value
 use Rattle.forms_test.proofs.Coded.{Callee, thin-meets}
 use Rattle.lent_emitter.proofs.Lent.emit_load_var.Symbol as core-def
@@ -32,7 +32,7 @@ abbrev P₃ : Lent → List ℕ → List ℕ → List ℕ → ℕ → Type 0
 P₃ h sheet code book v = length book ≡ bookSize
 
 abbrev Q : Lent → List ℕ → List ℕ → List ℕ → ℕ → Lent → List ℕ → List ℕ → Type 0
-Q h sheet code book v r code′ book′ = Coded (act (sheetIn sheet) (loadVariable v)) (h .emitter) code book (r .emitter) code′ book′
+Q h sheet code book v r code′ book′ = Coded (call (sheetIn sheet) (loadVariable v)) (h .emitter) code book (r .emitter) code′ book′
 
 pub load-var-spec : {M : Type 1} → stated.statement M
 unfolding the-code.routine tablesOf

@@ -2,7 +2,8 @@
 use mathlib.Core.Path.{ap, _∙_}
 use native.Mathlib.Omega.{arith}
 use Rattle.definition.specs.Emit.{PendingPatch}
-use Rattle.emit.proofs.Branches.{jmp-done}
+use Rattle.emit.proofs.Instructions.{coded-by}
+use Rattle.emit.proofs.Branches.{branch-of, jmp-is}
 use borrow.Author.Needs.{needs}
 use Rattle.emit.proofs.Emitter.emit_jmp.Statement.{statement}
 use Rattle.emit.proofs.Emitter.emit_jmp.Tie as tie
@@ -16,4 +17,4 @@ emit-jmp-spec =
     (λ c κs. (c .before .before .before .before .before .before .before .pre .0, (c .before .before .before .before .before .before .before .pre .1 .0, (c .before .before .before .before .before .before .before .pre .1 .1, ap (λ (p : PendingPatch). p .instructionOffset) (c .before .before .jmp .ensures) ∙ (c .before .before .before .narrow) .ensures))))  -- emit-branch-requires
     (λ c. search needs)  -- same-length
     (λ c. search needs)  -- same-length-2
-    (λ c. jmp-done _ _ (c .before .before .before .before .before .before .before .jmp .ensures) (c .before .before .before .before .emit-branch .ensures)))  -- returns
+    (λ c. coded-by _ _ (λ pool. jmp-is _ _ _) (branch-of _ _ _ _ _ _ (c .before .before .before .before .before .before .before .jmp .ensures) (c .before .before .before .before .emit-branch .ensures))))  -- returns

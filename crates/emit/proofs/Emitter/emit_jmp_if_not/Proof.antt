@@ -2,7 +2,8 @@
 use mathlib.Core.Path.{ap, _∙_}
 use native.Mathlib.Omega.{arith}
 use Rattle.definition.specs.Emit.{PendingPatch}
-use Rattle.emit.proofs.Branches.{jmp-if-not-done}
+use Rattle.emit.proofs.Instructions.{coded-by}
+use Rattle.emit.proofs.Branches.{branch-of, jmp-if-not-is}
 use borrow.Author.Needs.{needs}
 use Rattle.emit.proofs.Emitter.emit_jmp_if_not.Statement.{statement}
 use Rattle.emit.proofs.Emitter.emit_jmp_if_not.Tie as tie
@@ -16,4 +17,4 @@ emit-jmp-if-not-spec =
     (λ c κs. (c .before .before .before .before .before .before .before .pre .0, (c .before .before .before .before .before .before .before .pre .1 .0, (c .before .before .before .before .before .before .before .pre .1 .1, ap (λ (p : PendingPatch). p .instructionOffset) (c .before .before .jmp-if-not .ensures) ∙ (c .before .before .before .narrow) .ensures))))  -- emit-branch-requires
     (λ c. search needs)  -- same-length
     (λ c. search needs)  -- same-length-2
-    (λ c. jmp-if-not-done _ _ (c .before .before .before .before .before .before .before .jmp-if-not .ensures) (c .before .before .before .before .emit-branch .ensures)))  -- returns
+    (λ c. coded-by _ _ (λ pool. jmp-if-not-is _ _ _) (branch-of _ _ _ _ _ _ (c .before .before .before .before .before .before .before .jmp-if-not .ensures) (c .before .before .before .before .emit-branch .ensures))))  -- returns

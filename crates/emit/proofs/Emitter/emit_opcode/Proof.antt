@@ -12,4 +12,4 @@ emit-opcode-spec =
     (λ c κs. search needs)  -- add-plain-requires
     (λ c. search needs)  -- same-length
     (λ c. search needs)  -- same-length-2
-    (λ c. coded-by (λ pool. opcode-is _ _ _) (c .before .before .before .before .add-plain .ensures .coded)))  -- returns
+    (λ c. coded-by _ _ (λ pool. opcode-is _ _ _) (c .before .before .before .before .add-plain .ensures .coded)))  -- returns

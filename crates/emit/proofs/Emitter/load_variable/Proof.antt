@@ -11,15 +11,15 @@ use Rattle.emit.proofs.Emitter.load_variable.Tie as tie
 
 returns : tie.Need-returns
 unfolding readBy
-returns c = load-answers _ _ Load (c .before .before .before .before .before .before .before .before .before .before .before .before .before .before .pre .0) (c .before .before .before .before .before .before .before .before .before .before .before .before .before .before .pre .1 .0) (sym (c .before .before .before .before .before .before .before .before .enum-told .given .1) ∙ (c .before .before .before .before .before .before .before .before .before .before .form) .ensures) (c .done .ensures .0) (c .done .ensures .1 .0) (c .done .ensures .1 .1) (coded-by (λ pool. load-is _ _ _) (c .before .before .before .before .before .add-u16 .ensures .coded))
+returns c = load-answers _ _ Load (c .before .before .before .before .before .before .before .before .before .before .before .before .before .before .pre .0) (c .before .before .before .before .before .before .before .before .before .before .before .before .before .before .pre .1 .0) (sym (c .before .before .before .before .before .before .before .before .enum-told .given .1) ∙ (c .before .before .before .before .before .before .before .before .before .before .form) .ensures) (c .done .ensures .0) (c .done .ensures .1 .0) (c .done .ensures .1 .1) (coded-by _ _ (λ pool. load-is _ _ _) (c .before .before .before .before .before .add-u16 .ensures .coded))
 
 returns-2 : tie.Need-returns-2
 unfolding readBy
-returns-2 c = load-answers _ _ Dup (c .before .before .before .before .before .before .before .before .before .before .before .before .before .before .pre .0) (c .before .before .before .before .before .before .before .before .before .before .before .before .before .before .pre .1 .0) (sym (c .before .before .before .before .before .before .before .before .enum-told2 .given .1) ∙ (c .before .before .before .before .before .before .before .before .before .before .form) .ensures) (c .done2 .ensures .0) (c .done2 .ensures .1 .0) (c .done2 .ensures .1 .1) (coded-by (λ pool. dup-is _ _ _) (c .before .before .before .before .before .add-plain .ensures .coded))
+returns-2 c = load-answers _ _ Dup (c .before .before .before .before .before .before .before .before .before .before .before .before .before .before .pre .0) (c .before .before .before .before .before .before .before .before .before .before .before .before .before .before .pre .1 .0) (sym (c .before .before .before .before .before .before .before .before .enum-told2 .given .1) ∙ (c .before .before .before .before .before .before .before .before .before .before .form) .ensures) (c .done2 .ensures .0) (c .done2 .ensures .1 .0) (c .done2 .ensures .1 .1) (coded-by _ _ (λ pool. dup-is _ _ _) (c .before .before .before .before .before .add-plain .ensures .coded))
 
 returns-3 : tie.Need-returns-3
 unfolding readBy
-returns-3 c = load-answers _ _ Fold (c .before .before .before .before .before .before .before .before .before .before .before .pre .0) (c .before .before .before .before .before .before .before .before .before .before .before .pre .1 .0) (sym (c .before .before .before .before .before .enum-told3 .given .1) ∙ (c .before .before .before .before .before .before .before .form) .ensures) (c .done3 .ensures .0) (c .done3 .ensures .1 .0) (c .done3 .ensures .1 .1) (coded-by (λ pool. fold-is _ _ _) (written-coded (c .before .before .before .before .before .before .before .before .before .before .before .pre .1 .1) (c .before .before .before .fold-store .ensures)))
+returns-3 c = load-answers _ _ Fold (c .before .before .before .before .before .before .before .before .before .before .before .pre .0) (c .before .before .before .before .before .before .before .before .before .before .before .pre .1 .0) (sym (c .before .before .before .before .before .enum-told3 .given .1) ∙ (c .before .before .before .before .before .before .before .form) .ensures) (c .done3 .ensures .0) (c .done3 .ensures .1 .0) (c .done3 .ensures .1 .1) (coded-by _ _ (λ pool. fold-is _ _ _) (written-coded (c .before .before .before .before .before .before .before .before .before .before .before .pre .1 .1) (c .before .before .before .fold-store .ensures)))
 
 pub load-variable-spec : {M : Type 1} → statement M
 load-variable-spec =

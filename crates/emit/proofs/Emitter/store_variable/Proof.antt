@@ -12,4 +12,4 @@ store-variable-spec =
     (λ c κs. search needs)  -- add-u16-requires
     (λ c. search needs)  -- same-length
     (λ c. search needs)  -- same-length-2
-    (λ c. coded-by (λ pool. store-is _ _ _) (c .before .before .before .before .add-u16 .ensures .coded)))  -- returns
+    (λ c. coded-by _ _ (λ pool. store-is _ _ _) (c .before .before .before .before .add-u16 .ensures .coded)))  -- returns

@@ -46,10 +46,10 @@ use Rattle.lent_emitter.specs.declared.Lent.{Lent}
 use Rattle.emit.specs.declared.Emitter.{Emitter}
 use Rattle.opcode.specs.declared.CompareOp.{CompareOp}
 use Rattle.emit.specs.declared.Label.{Label}
-use Rattle.definition.specs.Emit.{act, emitCmpBr}
+use Rattle.definition.specs.Emit.{emitCmpBr}
 use Rattle.opcode.specs.Table.{sheetIn}
 use Rattle.emit.specs.View.{world}
-use Rattle.emit.specs.Steps.{Ready, Filled}
+use Rattle.emit.specs.Steps.{call, Ready, Filled}
 use Rattle.opcode.specs.View.{compareView}
 use Rattle.lent_emitter.proofs.Lent as T
 use Rattle.lent_emitter.proofs.Lent.Laws as T′
@@ -118,7 +118,7 @@ module _ {M : Type 1} (𝓤 : URA M) (H : Heap 𝓤) (A : Atoms 𝓤) (W : Given
 
   -- what `Emitter::emit_cmp_br` ensures of its result and the last lists
   abbrev Done : Emitter → List ℕ → List ℕ → List ℕ → Type 0
-  Done r code′ book′ pool′ = Filled (act (sheetIn sheet) (emitCmpBr (compareView op) v k (l .0))) (world (h .emitter) code book pool) (world r code′ book′ pool′)
+  Done r code′ book′ pool′ = Filled (call (sheetIn sheet) (emitCmpBr (compareView op) v k (l .0))) (world (h .emitter) code book pool) (world r code′ book′ pool′)
 
   abbrev Post : Val → SProp 𝓤
   Post = walkOf 𝓤 H A f.ended stayed (f.clauses 𝓤 H A at-mem run) .post (((κ₀, (κ₁, (κ₂, (κ₃, (κ₄, tt))))), (q₀, (q₁, (q₂, (q₃, (q₄, tt))))), tt, a, at), tt)

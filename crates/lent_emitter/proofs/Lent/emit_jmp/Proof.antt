@@ -11,8 +11,8 @@ use Rattle.emit.specs.declared.Label.{Label}
 use Rattle.definition.specs.Limits.{maxCode}
 use Rattle.opcode.specs.Table.{sheetIn}
 use Rattle.emit.specs.Book.{bookSize}
-use Rattle.emit.specs.Steps.{Fine as IsFine, Coded}
-use Rattle.definition.specs.Emit.{act, emitJmp}
+use Rattle.emit.specs.Steps.{call, Fine as IsFine, Coded}
+use Rattle.definition.specs.Emit.{emitJmp}
 use Rattle.lent_emitter.proofs.Value as value
 use Rattle.lent_emitter.proofs.Coded.{Callee, thin-meets}
 use Rattle.emit.proofs.Emitter.emit_jmp.Symbol as core-def
@@ -33,7 +33,7 @@ abbrev P₃ : Emitter → List ℕ → List ℕ → List ℕ → Label → Type 
 P₃ h sheet code book v = length book ≡ bookSize
 
 abbrev Q : Emitter → List ℕ → List ℕ → List ℕ → Label → Emitter → List ℕ → List ℕ → Type 0
-Q h sheet code book v r code′ book′ = Coded (act (sheetIn sheet) (emitJmp (v .0))) h code book r code′ book′
+Q h sheet code book v r code′ book′ = Coded (call (sheetIn sheet) (emitJmp (v .0))) h code book r code′ book′
 
 pub emit-jmp-spec : {M : Type 1} → stated.statement M
 unfolding the-code.routine tablesOf
