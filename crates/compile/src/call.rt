@@ -1,22 +1,13 @@
-// The call, but for emission: what is refused before it, what follows it, and what the lent outputs then hold. Only the entry zeroes them.
+// What the call answers, and what the lent outputs then hold.
 ghost use mathlib.Core.Path.{_≡_};
-ghost use lib.ListN.{length};
 ghost use Rattle.definition.specs.Res.{refuse};
 ghost use Rattle.definition.specs.Compile.{roomy, answer};
-ghost use Rattle.opcode.specs.Table.{sheetIn};
-ghost use Rattle.rules.specs.View.{rulesIn};
-ghost use Rattle.optimize.specs.View.{Tables};
-ghost use Rattle.emit.specs.Book.{bookSize};
-ghost use Rattle.emit.specs.View.{world, state, view};
-ghost use Rattle.emit.specs.Steps.{Fine};
-ghost use Rattle.compile.specs.View.{Patchable};
-ghost use Rattle.compile.specs.Call.{room, roomOf, answerView, finishing, settled, Roomy, Ends};
+ghost use Rattle.compile.specs.Call.{room, roomOf, answerView, settled};
 use definition::ENTRY_SIZE;
 use definition::MAX_CODE;
 use definition::MAX_CONSTANTS;
 use definition::MAX_LINES;
 use emit::Constant;
-use emit::Emitter;
 
 // What is answered: a refusal's number and place, or 0, 0, how many bytes, constants and line entries the outputs hold, and the depth.
 pub struct Answer {
@@ -77,40 +68,6 @@ pub fn roomy(code: usize, constants: usize, lines: usize) -> bool
         MAX_CONSTANTS,
         MAX_LINES * ENTRY_SIZE,
     )
-}
-
-// Behind emission: its refusal, or finished code, constants and line list in the lent outputs.
-pub fn finish(
-    sheet: &[u8],
-    rules: &[u16],
-    count: usize,
-    e: Emitter,
-    book: &[u16],
-    code: &mut [u8],
-    constants: &mut [Constant],
-    lines: &mut [u16],
-) -> Outcome
-    requires { ⌜ Tables (now sheet) (now rules) count ⌝ }
-    requires { ⌜ Fine e ⌝ }
-    requires { ⌜ length (now book) ≡ bookSize ⌝ }
-    requires { ⌜ Roomy (room (now code) (now constants) (now lines)) ⌝ }
-    requires { ⌜ (e .refused ≡ 0 → Patchable (sheetIn (now sheet)) (rulesIn (now rules) count) (state (world e (now code) (now book) (now constants)))) ⌝ }
-    ensures { λ r. ⌜ Ends (finishing (sheetIn (now (sheet .entry))) (rulesIn (now (rules .entry)) count) (view (world e (now (code .entry)) (now (book .entry)) (now (constants .entry))))) (now (code .entry)) (now (constants .entry)) (now (lines .entry)) (now (code .exit)) (now (constants .exit)) (now (lines .exit)) r ⌝ }
-{
-    if e.refused != 0 {
-        return Outcome::Refused {
-            number: e.refused,
-            place: e.place,
-        };
-    }
-    let f = crate::finalize_function(sheet, rules, count, e, code, book, lines);
-    store::zero_words(constants, e.constants);
-    Outcome::Finished {
-        bytes: f.size,
-        depth: f.max_stack_depth,
-        pooled: e.constants,
-        entries: f.entries,
-    }
 }
 
 // The answer of what the part behind the sheet came to; the outputs hold its result already.

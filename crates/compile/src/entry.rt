@@ -1,6 +1,7 @@
 // The call: refusals in their order (14, 7, 9, 1, line by line 6, 5, 2, 3, then 4 and 10 to 13 as emission meets them), finished code and its line list.
 // It is parted behind the sheet; only the entry zeroes.
 ghost use mathlib.Core.Path.{_≡_};
+ghost use lib.ListN.{length};
 ghost use Rattle.definition.specs.Compile.{compileProgram, Compiles};
 ghost use Rattle.definition.specs.Claims.{Safe};
 ghost use Rattle.opcode.specs.Table.{IsTable, Good, sheetIn};
@@ -8,7 +9,11 @@ ghost use Rattle.rules.specs.View.{rulesIn};
 ghost use Rattle.line_map.specs.View.{posView};
 ghost use Rattle.optimize.specs.View.{Tables};
 ghost use Rattle.program.specs.Check.{Accepts, programOf};
-ghost use Rattle.compile.specs.Call.{room, answerView, Roomy, Ends};
+ghost use Rattle.emit.specs.Book.{bookSize};
+ghost use Rattle.emit.specs.View.{world, state, view};
+ghost use Rattle.emit.specs.Steps.{Fine};
+ghost use Rattle.compile.specs.View.{Patchable};
+ghost use Rattle.compile.specs.Call.{room, answerView, finishing, Roomy, Ends};
 ghost use Rattle.compile.specs.Entry.{FromFile, behindRules, behindSheet};
 use crate::call;
 use crate::call::Answer;
@@ -23,6 +28,40 @@ use opcode::sheet::SheetRead;
 use program::Checked;
 use program::Cursor;
 use rules::RuleAnswer;
+
+// Behind emission: its refusal, or finished code, constants and line list in the lent outputs.
+fn finish(
+    sheet: &[u8],
+    rules: &[u16],
+    count: usize,
+    e: Emitter,
+    book: &[u16],
+    code: &mut [u8],
+    constants: &mut [Constant],
+    lines: &mut [u16],
+) -> Outcome
+    requires { ⌜ Tables (now sheet) (now rules) count ⌝ }
+    requires { ⌜ Fine e ⌝ }
+    requires { ⌜ length (now book) ≡ bookSize ⌝ }
+    requires { ⌜ Roomy (room (now code) (now constants) (now lines)) ⌝ }
+    requires { ⌜ (e .refused ≡ 0 → Patchable (sheetIn (now sheet)) (rulesIn (now rules) count) (state (world e (now code) (now book) (now constants)))) ⌝ }
+    ensures { λ r. ⌜ Ends (finishing (sheetIn (now (sheet .entry))) (rulesIn (now (rules .entry)) count) (view (world e (now (code .entry)) (now (book .entry)) (now (constants .entry))))) (now (code .entry)) (now (constants .entry)) (now (lines .entry)) (now (code .exit)) (now (constants .exit)) (now (lines .exit)) r ⌝ }
+{
+    if e.refused != 0 {
+        return Outcome::Refused {
+            number: e.refused,
+            place: e.place,
+        };
+    }
+    let f = crate::finalize_function(sheet, rules, count, e, code, book, lines);
+    store::zero_words(constants, e.constants);
+    Outcome::Finished {
+        bytes: f.size,
+        depth: f.max_stack_depth,
+        pooled: e.constants,
+        entries: f.entries,
+    }
+}
 
 // A text that was checked: its emission, and what follows.
 fn compile_accepted(
@@ -63,7 +102,7 @@ fn compile_accepted(
     let e = walked.emitter;
     let n = e.constants;
     store::fill_words(&pool[..n], constants);
-    call::finish(sheet, rules, count, e, &book, code, constants, lines)
+    finish(sheet, rules, count, e, &book, code, constants, lines)
 }
 
 // 1, and line by line 6, 5, 2 and 3; then the rest.
@@ -109,7 +148,7 @@ fn compile_text(
 }
 
 // The part behind the sheet: 9, then the rest. After a refusal nothing is said of the outputs.
-pub fn compile_program(
+fn compile_program(
     sheet: &[u8],
     rules: &[u8],
     text: &[u8],

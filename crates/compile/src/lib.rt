@@ -21,7 +21,7 @@ use emit::book;
 use emit::bytes;
 use emit::patch::PendingPatch;
 
-pub mod call; // call.rt: the call, but for emission
+pub mod call; // call.rt: what the call answers
 pub mod entry; // entry.rt: the call
 
 // Targets of small code: a branch has three bytes or more.

@@ -1,10 +1,10 @@
--- Made by `answers` from crates/compile/answers/call/finish.txt: edit that file, not this one.
+-- Made by `answers` from crates/compile/answers/entry/finish.txt: edit that file, not this one.
 use Rattle.opcode.specs.Table.{sheetIn}
 use Rattle.rules.specs.View.{rulesIn}
 use Rattle.compile.proofs.Answers.{any-pool, ends-refused, ends-finished}
 use borrow.Author.Needs.{needs}
-use Rattle.compile.proofs.call.finish.Statement.{statement}
-use Rattle.compile.proofs.call.finish.Tie as tie
+use Rattle.compile.proofs.entry.finish.Statement.{statement}
+use Rattle.compile.proofs.entry.finish.Tie as tie
 
 pub finish-spec : {M : Type 1} → statement M
 finish-spec =
