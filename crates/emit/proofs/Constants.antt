@@ -5,6 +5,7 @@ use mathlib.Core.List.{List, [], _∷_, _++_}
 use Prim.Native.Nat.{ℕ, zero, suc, _+_, _≤_, _<_}
 use native.Mathlib.Numerals.{add-one}
 use native.Mathlib.Omega.{arith}
+use native.Mathlib.Decide.{ℕ-discrete}
 use borrow.Author.Tests.{le-ltb, lt-ltb, ltb-false, eq-eqb, ne-eqb, eqb-true, eqb-false}
 use lib.Dec.{eqb, ltb, leb}
 use lib.ListN.{length, take, set, getD, length-set}
@@ -126,19 +127,17 @@ module _ (k : ℕ) {e : Emitter} {pool : List ℕ} (h : Fine e) (long : Held poo
   pub keep-stays : (e .refused ≡ 0 → ⊥) → Pooled (addConstant k) e pool e pool
   keep-stays off = record { fine = h; held = long; kept = λ code book. kept-self (world e code book pool); did = λ s code book. stays (call s (addConstant k)) off }
 
-  module _ {i x : ℕ} (on : e .refused ≡ 0) (at : e .refused ≡ 0 → StandsAt k e pool x) (is-i : i ≡ x) where
+  module _ {i x : ℕ} (at : e .refused ≡ 0 → StandsAt k e pool x) (is-i : i ≡ x) where
+    -- refused or not
     pub keep-has : i < e .constants → Pooled (addConstant k) e pool e pool
     unfolding act pooled pooledIf
-    keep-has few =
-        let is = is-i ∙ at on .is in
-        record {
-          fine = h;
-          held = long;
-          kept = λ code book. kept-self (world e code book pool);
-          did = λ s code book. goes (act s (addConstant k)) (world e code book pool) (world e code book pool) on on (rw (count-of pool h long, ← is, lt-ltb _ _ few));
-        }
+    keep-has few = record { fine = h; held = long; kept = λ code book. kept-self (world e code book pool); did = λ s code book. go s code book (ℕ-discrete (e .refused) 0) }
+      where
+        go : (s : Sheet) (code book : List ℕ) → Dec (e .refused ≡ 0) → Did (call s (addConstant k)) (world e code book pool) (world e code book pool)
+        go s code book (yes on) = let is = is-i ∙ at on .is in goes (act s (addConstant k)) (world e code book pool) (world e code book pool) on on (rw (count-of pool h long, ← is, lt-ltb _ _ few))
+        go s code book (no off) = stays (call s (addConstant k)) off
 
-    module _ (absent : e .constants ≤ i) where
+    module _ (on : e .refused ≡ 0) (absent : e .constants ≤ i) where
       pub keep-room : e .constants < maxConstants
       keep-room = omega (arith, at on .few)
 

@@ -11,8 +11,8 @@ keep-constant-spec =
     (tie.spec
     (λ c. keep-stays _ (search needs) (search needs) (λ z. omega (arith, c .if1 .taken)))  -- returns
     (λ c κs. search needs)  -- wide-requires
-    (λ c. keep-has _ (c .before .before .before .before .before .pre .0) (c .before .before .before .before .before .pre .1 .0) (omega (arith, c .before .before .if1 .left)) (c .before .before .before .before .before .pre .1 .1) (c .before .wide .ensures) (c .if2 .taken))  -- returns-2
-    (λ c κs. (c .before .before .before .before .before .before .pre .1 .0, keep-room _ (c .before .before .before .before .before .before .pre .0) (c .before .before .before .before .before .before .pre .1 .0) (omega (arith, c .before .before .before .if1 .left)) (c .before .before .before .before .before .before .pre .1 .1) (c .before .before .wide .ensures) (c .before .if2 .left)))  -- append-requires
+    (λ c. keep-has _ (c .before .before .before .before .before .pre .0) (c .before .before .before .before .before .pre .1 .0) (c .before .before .before .before .before .pre .1 .1) (c .before .wide .ensures) (c .if2 .taken))  -- returns-2
+    (λ c κs. (c .before .before .before .before .before .before .pre .1 .0, keep-room _ (c .before .before .before .before .before .before .pre .0) (c .before .before .before .before .before .before .pre .1 .0) (c .before .before .before .before .before .before .pre .1 .1) (c .before .before .wide .ensures) (omega (arith, c .before .before .before .if1 .left)) (c .before .if2 .left)))  -- append-requires
     (λ c. search needs)  -- add-e
     (λ c. search needs)  -- same-length
-    (λ c. keep-more _ (c .before .before .before .before .before .before .before .before .before .pre .0) (c .before .before .before .before .before .before .before .before .before .pre .1 .0) (omega (arith, c .before .before .before .before .before .before .if1 .left)) (c .before .before .before .before .before .before .before .before .before .pre .1 .1) (c .before .before .before .before .before .wide .ensures) (c .before .before .before .before .if2 .left) (c .before .before .append .ensures)))  -- returns-3
+    (λ c. keep-more _ (c .before .before .before .before .before .before .before .before .before .pre .0) (c .before .before .before .before .before .before .before .before .before .pre .1 .0) (c .before .before .before .before .before .before .before .before .before .pre .1 .1) (c .before .before .before .before .before .wide .ensures) (omega (arith, c .before .before .before .before .before .before .if1 .left)) (c .before .before .before .before .if2 .left) (c .before .before .append .ensures)))  -- returns-3
