@@ -124,7 +124,7 @@ module _ (q : Phase) where
 
 -- ---- reading in parts
 
-pub reading-then : {q : Phase} {s t u : State} → Reading q s t → Reading q t u → Reading q s u
+unfoldable pub reading-then : {q : Phase} {s t u : State} → Reading q s t → Reading q t u → Reading q s u
 reading-then {q = q} {s = s} a b = record { bytes = a .bytes ++ b .bytes; is = b .is ∙ ap (λ (x : State). steps q x (b .bytes)) (a .is) ∙ sym (steps-append q s (a .bytes) (b .bytes)) }
 
 -- with the lengths of the buffers, which a loop keeps

@@ -1,5 +1,7 @@
 // Standard input, read to its end by the reader of the listing's and the passes program's input.
-ghost use Rattle.input_reader.specs.View.{phaseView, stateView, begun, Reading};
+ghost use Prim.Native.Nat.{_-_, _^_};
+ghost use Rattle.input_reader.specs.View.{phaseView, stateView, begun};
+ghost use Rattle.standard_input.specs.Turns.{Turned};
 use input_reader::Phase;
 use input_reader::Reader;
 
@@ -20,7 +22,7 @@ fn read_some(
     offsets: &mut [u16],
     entries: &mut [u16],
 ) -> Turn
-    ensures { λ r. ⌜ Reading (phaseView follows) (stateView reader (now (sheet .entry)) (now (rules .entry)) (now (code .entry)) (now (offsets .entry)) (now (entries .entry))) (stateView (r .reader) (now (sheet .exit)) (now (rules .exit)) (now (code .exit)) (now (offsets .exit)) (now (entries .exit))) ⌝ }
+    ensures { λ r. ⌜ Turned (phaseView follows) (stateView reader (now (sheet .entry)) (now (rules .entry)) (now (code .entry)) (now (offsets .entry)) (now (entries .entry))) (stateView (r .reader) (now (sheet .exit)) (now (rules .exit)) (now (code .exit)) (now (offsets .exit)) (now (entries .exit))) 1 (r .more) (r .failed) ⌝ }
 {
     let mut bytes = io::large_buffer();
     let got = libc::read(0, &mut bytes);
@@ -43,7 +45,7 @@ fn read_some(
 }
 
 // All of the input: a proved loop has to end, and nothing says that the input does, so the turns are counted down from a number that no run
-// uses up.
+// uses up. `more` is true only where it was used up, so of an input that has no more bytes than that it is false.
 pub fn read_all(
     follows: Phase,
     sheet: &mut [u8],
@@ -52,7 +54,7 @@ pub fn read_all(
     offsets: &mut [u16],
     entries: &mut [u16],
 ) -> Turn
-    ensures { λ r. ⌜ Reading (phaseView follows) (begun (now (sheet .entry)) (now (rules .entry)) (now (code .entry)) (now (offsets .entry)) (now (entries .entry))) (stateView (r .reader) (now (sheet .exit)) (now (rules .exit)) (now (code .exit)) (now (offsets .exit)) (now (entries .exit))) ⌝ }
+    ensures { λ r. ⌜ Turned (phaseView follows) (begun (now (sheet .entry)) (now (rules .entry)) (now (code .entry)) (now (offsets .entry)) (now (entries .entry))) (stateView (r .reader) (now (sheet .exit)) (now (rules .exit)) (now (code .exit)) (now (offsets .exit)) (now (entries .exit))) (2 ^ 64 - 1) (r .more) (r .failed) ⌝ }
 {
     let start = input_reader::start();
     let mut turn = Turn {
