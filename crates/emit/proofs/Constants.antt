@@ -1,12 +1,12 @@
 -- The pool.
-use mathlib.Core.Path.{_≡_, refl, ap, sym, _∙_}
+use mathlib.Core.Path.{_≡_, refl, ap, sym, subst, _∙_}
 use mathlib.Core.Bool.{Bool, true, false}
 use mathlib.Core.List.{List, [], _∷_, _++_}
 use Prim.Native.Nat.{ℕ, zero, suc, _+_, _≤_, _<_}
 use native.Mathlib.Numerals.{add-one}
 use native.Mathlib.Omega.{arith}
 use native.Mathlib.Decide.{ℕ-discrete}
-use borrow.Author.Tests.{le-ltb, lt-ltb, ltb-false, eq-eqb, ne-eqb, eqb-true, eqb-false}
+use borrow.Author.Tests.{le-ltb, lt-ltb, ltb-true, ltb-false, eq-eqb, ne-eqb, eqb-true, eqb-false}
 use lib.Dec.{eqb, ltb, leb}
 use lib.ListN.{length, take, set, getD, length-set}
 use lib.Seq.{length-take-le, getD-take, take-take, take-suc-set, drop-at}
@@ -17,7 +17,7 @@ use Rattle.definition.specs.Emit as def
 use Rattle.definition.specs.Emit.{Call, LineEntry, loadConstant, addConstant, emitCmpBr, cmpBrOperandDelta, refused, act, add, added, recorded, branch, patched, pooled, pooledIf, withConstant, indexOf, le16}
 use Rattle.emit.specs.declared.Emitter.{Emitter}
 use Rattle.emit.specs.declared.Found.{Found}
-use Rattle.emit.specs.Pool.{Held, enteredAll, Appended}
+use Rattle.emit.specs.Pool.{Held, enteredAll, Appended, Keeps}
 use Rattle.emit.specs.View.{world, state, going, stageOf}
 use Rattle.emit.specs.Steps.{_>->_, Did, metAt, once, call, Fine, Bare, Pooled, Coded, Filled}
 use Rattle.emit.specs.Parts.{counted, sought, StandsAt, Seeks}
@@ -124,12 +124,12 @@ module _ (k : ℕ) {e : Emitter} {pool : List ℕ} (h : Fine e) (long : Held poo
 -- ---- a constant in the pool
 
 module _ (k : ℕ) {e : Emitter} {pool : List ℕ} (h : Fine e) (long : Held pool) where
-  pub keep-stays : (e .refused ≡ 0 → ⊥) → Pooled (addConstant k) e pool e pool
+  keep-stays : (e .refused ≡ 0 → ⊥) → Pooled (addConstant k) e pool e pool
   keep-stays off = record { fine = h; held = long; kept = λ code book. kept-self (world e code book pool); did = λ s code book. stays (call s (addConstant k)) off }
 
   module _ {i x : ℕ} (at : e .refused ≡ 0 → StandsAt k e pool x) (is-i : i ≡ x) where
     -- refused or not
-    pub keep-has : i < e .constants → Pooled (addConstant k) e pool e pool
+    keep-has : i < e .constants → Pooled (addConstant k) e pool e pool
     unfolding act pooled pooledIf
     keep-has few = record { fine = h; held = long; kept = λ code book. kept-self (world e code book pool); did = λ s code book. go s code book (ℕ-discrete (e .refused) 0) }
       where
@@ -138,10 +138,10 @@ module _ (k : ℕ) {e : Emitter} {pool : List ℕ} (h : Fine e) (long : Held poo
         go s code book (no off) = stays (call s (addConstant k)) off
 
     module _ (on : e .refused ≡ 0) (absent : e .constants ≤ i) where
-      pub keep-room : e .constants < maxConstants
+      keep-room : e .constants < maxConstants
       keep-room = omega (arith, at on .few)
 
-      pub keep-more : {pool′ : List ℕ} → Appended (e .constants) k pool pool′ → Pooled (addConstant k) e pool (counted e (e .labels) (e .patches) (e .lines) (e .constants + 1)) pool′
+      keep-more : {pool′ : List ℕ} → Appended (e .constants) k pool pool′ → Pooled (addConstant k) e pool (counted e (e .labels) (e .patches) (e .lines) (e .constants + 1)) pool′
       unfolding act pooled pooledIf demand _>>_ withConstant enteredAll
       keep-more {pool′} a =
           let is = is-i ∙ at on .is in
@@ -163,6 +163,33 @@ module _ (k : ℕ) {e : Emitter} {pool : List ℕ} (h : Fine e) (long : Held poo
             did = λ s code book. goes (act s (addConstant k)) (world e code book pool) (world (counted e (e .labels) (e .patches) (e .lines) (e .constants + 1)) code book pool′) on on
                 (rw (count, ← is, le-ltb _ _ absent, count, lt-ltb _ _ few, more));
           }
+
+-- w being the index i as the code has it
+module _ {refused n i k : ℕ} {pool : List ℕ} where
+  pub kept-off : (refused ≡ 0 → ⊥) → Keeps refused n i k pool n pool
+  kept-off off = record { off = λ z. (refl, refl); has = λ few. (refl, refl); new = λ on absent. absurd (off on) }
+
+  pub kept-has : {w : ℕ} → w ≡ i → w < n → Keeps refused n i k pool n pool
+  kept-has is few = record { off = λ z. (refl, refl); has = λ few. (refl, refl); new = λ on absent. absurd (omega arith) }
+
+  pub kept-new : {w : ℕ} {pool′ : List ℕ} → w ≡ i → refused ≡ 0 → n ≤ w → Appended n k pool pool′ → Keeps refused n i k pool (n + 1) pool′
+  kept-new is on absent a = record { off = λ z. absurd (z on); has = λ few. absurd (omega arith); new = λ on absent. (refl, a) }
+
+-- the constant is kept, and the emitter counts it
+pub keeps-is : (k : ℕ) {e : Emitter} {pool pool′ : List ℕ} {i r : ℕ} → Fine e → Held pool → (e .refused ≡ 0 → StandsAt k e pool i) → Keeps (e .refused) (e .constants) i k pool r pool′
+    → Pooled (addConstant k) e pool (counted e (e .labels) (e .patches) (e .lines) r) pool′
+keeps-is k {e} {pool} {pool′} {i} {r} h long at q = go (ℕ-discrete (e .refused) 0) (ltb i (e .constants)) refl
+  where
+    same : (r ≡ e .constants) × (pool′ ≡ pool) → Pooled (addConstant k) e pool e pool → Pooled (addConstant k) e pool (counted e (e .labels) (e .patches) (e .lines) r) pool′
+    same x p = rw (x .0, x .1) p
+
+    go : Dec (e .refused ≡ 0) → (b : Bool) → ltb i (e .constants) ≡ b → Pooled (addConstant k) e pool (counted e (e .labels) (e .patches) (e .lines) r) pool′
+    go (no off) b l = same (q .off off) (keep-stays k h long off)
+    go (yes on) true l = let few = ltb-true i (e .constants) l in same (q .has few) (keep-has k h long at refl few)
+    go (yes on) false l =
+        let absent = ltb-false i (e .constants) l in
+        let x = q .new on absent in
+        subst (λ c. Pooled (addConstant k) e pool (counted e (e .labels) (e .patches) (e .lines) c) pool′) (sym (x .0)) (keep-more k h long at refl on absent (x .1))
 
 -- its place, and then the constant
 seek-first : (s : Sheet) (k : ℕ) (x : def.Emitter) → call s (addConstant k) x ≡ once (sought k) x >-> call s (addConstant k)

@@ -468,26 +468,6 @@ impl Emitter {
         }
     }
 
-    // The constant is appended if it is new: once nothing refuses any more.
-    fn keep_constant(self, pool: &mut [Constant], index: u16, k: Constant) -> Emitter
-        requires { ⌜ Fine self ⌝ }
-        requires { ⌜ Held (now pool) ⌝ }
-        requires { ⌜ (self .refused ≡ 0 → StandsAt k self (now pool) index) ⌝ }
-        ensures { λ r. ⌜ Pooled (addConstant k) self (now (pool .entry)) r (now (pool .exit)) ⌝ }
-    {
-        if self.refused != 0 { // by 13, 10 or 12
-            return self;
-        }
-        let n = self.constants;
-        if numbers::wide(index) < n {
-            return self;
-        }
-        pool::append(pool, n, k);
-        let mut e = self;
-        e.constants = n + 1;
-        e
-    }
-
     // A constant that enters the pool before the instruction that names it.
     pub fn add_constant(self, pool: &mut [Constant], k: Constant) -> Emitter
         requires { ⌜ Fine self ⌝ }
@@ -495,8 +475,9 @@ impl Emitter {
         ensures { λ r. ⌜ Pooled (addConstant k) self (now (pool .entry)) r (now (pool .exit)) ⌝ }
     {
         let found = self.find_constant(pool, k);
-        let e = found.emitter;
-        e.keep_constant(pool, found.index, k)
+        let mut e = found.emitter;
+        e.constants = pool::keep(pool, e.refused, e.constants, found.index, k);
+        e
     }
 
     pub fn load_constant(
@@ -513,8 +494,9 @@ impl Emitter {
         let found = self.find_constant(pool, k);
         let index = found.index;
         let p = found.emitter;
-        let e = p.add_u16(sheet, code, book, Role::LoadConst, index, Last::Other);
-        e.keep_constant(pool, index, k)
+        let mut e = p.add_u16(sheet, code, book, Role::LoadConst, index, Last::Other);
+        e.constants = pool::keep(pool, e.refused, e.constants, index, k);
+        e
     }
 }
 
@@ -583,27 +565,6 @@ impl Emitter {
         self.emit_branch(sheet, code, book, Role::JmpIfNot, patch)
     }
 
-    // A CMP_BR of a variable and the constant of an index (10, 12).
-    fn branch_fused(
-        self,
-        sheet: &[u8],
-        code: &mut [u8],
-        book: &mut [u16],
-        op: CompareOp,
-        v: u16,
-        index: u16,
-        label: Label,
-    ) -> Emitter
-        requires { ⌜ Fine self ⌝ }
-        requires { ⌜ length (now code) ≡ maxCode ⌝ }
-        requires { ⌜ length (now book) ≡ bookSize ⌝ }
-        ensures { λ r. ⌜ Coded (once (branch (sheetIn (now (sheet .entry))) cmpBr (comparisonByte (sheetIn (now (sheet .entry))) (compareView op) ∷ le16 v ++ le16 index) cmpBrOperandDelta (label .0))) self (now (code .entry)) (now (book .entry)) r (now (code .exit)) (now (book .exit)) ⌝ }
-    {
-        let patch = PendingPatch::cmp_br(numbers::narrow(self.size), label);
-        let e = self.add_cmp_br(sheet, code, book, op, v, index);
-        e.add_patch(book, patch)
-    }
-
     // A CMP_BR of a variable and a constant (13, 10, 12).
     pub fn emit_cmp_br(
         self,
@@ -622,7 +583,10 @@ impl Emitter {
         let found = self.find_constant(pool, k);
         let index = found.index;
         let p = found.emitter;
-        let e = p.branch_fused(sheet, code, book, op, v, index, label);
-        e.keep_constant(pool, index, k)
+        let patch = PendingPatch::cmp_br(numbers::narrow(p.size), label);
+        let b = p.add_cmp_br(sheet, code, book, op, v, index);
+        let mut e = b.add_patch(book, patch);
+        e.constants = pool::keep(pool, e.refused, e.constants, index, k);
+        e
     }
 }

@@ -4,7 +4,7 @@ ghost use Prim.Native.Nat.{_≤_, _<_};
 ghost use lib.ListN.{length, take};
 ghost use Rattle.definition.specs.Limits.{maxConstants};
 ghost use Rattle.definition.specs.Emit.{indexOf};
-ghost use Rattle.emit.specs.Pool.{poolSize, bucketOf, covers, nearer, Chained, Held, Appended};
+ghost use Rattle.emit.specs.Pool.{poolSize, bucketOf, covers, nearer, Chained, Held, Appended, Keeps};
 use crate::Constant;
 use definition::MAX_CONSTANTS;
 
@@ -110,4 +110,20 @@ pub fn append(pool: &mut [Constant], n: usize, k: Constant)
     } else {
         pool[STALE_AT] = 1;
     }
+}
+
+// How many constants there are once this one, whose place was found, is kept: it is appended if it is new, unless something refused.
+pub fn keep(pool: &mut [Constant], refused: u8, n: usize, index: u16, k: Constant) -> usize
+    requires { ⌜ Held (now pool) ⌝ }
+    requires { ⌜ (refused ≡ 0 → index < maxConstants) ⌝ }
+    ensures { λ r. ⌜ Keeps refused n index k (now (pool .entry)) r (now (pool .exit)) ⌝ }
+{
+    if refused != 0 { // by 13, 10 or 12
+        return n;
+    }
+    if numbers::wide(index) < n {
+        return n;
+    }
+    append(pool, n, k);
+    n + 1
 }

@@ -1,5 +1,8 @@
 -- Made by `answers` from crates/emit/answers/Emitter/emit_cmp_br.txt: edit that file, not this one.
-use Rattle.emit.proofs.Constants.{fused, still-stands, constant-done, cmp-br-is}
+use native.Mathlib.Omega.{arith}
+use Rattle.emit.proofs.Instructions.{seven-bytes}
+use Rattle.emit.proofs.Branches.{fused-done}
+use Rattle.emit.proofs.Constants.{fused, still-stands, keeps-is, constant-done, cmp-br-is}
 use borrow.Author.Needs.{needs}
 use Rattle.emit.proofs.Emitter.emit_cmp_br.Statement.{statement}
 use Rattle.emit.proofs.Emitter.emit_cmp_br.Tie as tie
@@ -9,9 +12,12 @@ emit-cmp-br-spec =
     tie.close
     (tie.spec
     (λ c κs. (c .before .before .before .before .before .pre .fine, c .before .before .before .before .before .pre .held))  -- find-constant-requires
-    (λ c κs. (c .before .before .before .find-constant .ensures .fine, (c .before .before .before .before .before .before .before .before .before .pre .room, c .before .before .before .before .before .before .before .before .before .pre .slots)))  -- branch-fused-requires
-    (λ c κs. (c .before .before .before .before .before .branch-fused .ensures .fine, (c .before .before .before .before .before .before .before .before .before .before .before .before .before .before .before .pre .held, still-stands _ (fused _ _ _ _) (c .before .before .before .before .before .before .before .before .before .find-constant .ensures .index) (c .before .before .before .before .before .branch-fused .ensures .did _))))  -- keep-constant-requires
+    (λ c κs. omega (arith, c .before .find-constant .ensures .fine .size))  -- narrow-requires
+    (λ c κs. search needs)  -- cmp-br-requires
+    (λ c κs. (c .before .before .before .before .before .find-constant .ensures .fine, (c .before .before .before .before .before .before .before .before .before .before .before .pre .room, c .before .before .before .before .before .before .before .before .before .before .before .pre .slots)))  -- add-cmp-br-requires
+    (λ c κs. (c .before .before .before .before .before .add-cmp-br .ensures .coded .fine, (c .before .before .before .before .before .add-cmp-br .ensures .coded .slots, c .before .before .before .before .before .add-cmp-br .ensures .branched (seven-bytes _ _ _ _))))  -- add-patch-requires
+    (λ c κs. (c .before .before .before .before .before .before .before .before .before .before .before .before .before .before .before .before .before .before .before .before .before .pre .held, λ z. still-stands _ (fused _ _ _ _) (c .before .before .before .before .before .before .before .before .before .before .before .before .before .before .before .find-constant .ensures .index) (fused-done _ _ _ _ _ (c .before .before .before .before .before .before .before .before .before .before .before .before .before .before .before .find-constant .ensures .fine) (c .before .before .before .before .before .before .before .before .before .before .before .before .before .before .before .before .before .before .before .before .before .pre .room) (c .before .before .before .before .before .before .before .before .before .before .before .before .cmp-br .ensures) (c .before .before .before .before .before .before .before .before .before .before .before .before .before .narrow .ensures) (c .before .before .before .before .before .before .before .before .before .add-cmp-br .ensures) (c .before .before .before .add-patch .ensures) .did _) z .few))  -- keep-requires
     (λ c. search needs)  -- same-length
     (λ c. search needs)  -- same-length-2
     (λ c. search needs)  -- same-length-3
-    (λ c. constant-done _ _ (fused _ _ _ _) _ (cmp-br-is _ _ _ _ _) (c .before .before .before .before .before .before .before .before .before .before .before .before .find-constant .ensures) (c .before .before .before .before .before .before .before .before .branch-fused .ensures) (c .before .before .keep-constant .ensures)))  -- returns
+    (λ c. constant-done _ _ (fused _ _ _ _) _ (cmp-br-is _ _ _ _ _) (c .before .before .before .before .before .before .before .before .before .before .before .before .before .before .before .before .before .before .find-constant .ensures) (fused-done _ _ _ _ _ (c .before .before .before .before .before .before .before .before .before .before .before .before .before .before .before .before .before .before .find-constant .ensures .fine) (c .before .before .before .before .before .before .before .before .before .before .before .before .before .before .before .before .before .before .before .before .before .before .before .before .pre .room) (c .before .before .before .before .before .before .before .before .before .before .before .before .before .before .before .cmp-br .ensures) (c .before .before .before .before .before .before .before .before .before .before .before .before .before .before .before .before .narrow .ensures) (c .before .before .before .before .before .before .before .before .before .before .before .before .add-cmp-br .ensures) (c .before .before .before .before .before .before .add-patch .ensures)) (keeps-is _ (c .before .before .before .before .before .before .add-patch .ensures .fine) (c .before .before .before .before .before .before .before .before .before .before .before .before .before .before .before .before .before .before .before .before .before .before .before .before .pre .held) (still-stands _ (fused _ _ _ _) (c .before .before .before .before .before .before .before .before .before .before .before .before .before .before .before .before .before .before .find-constant .ensures .index) (fused-done _ _ _ _ _ (c .before .before .before .before .before .before .before .before .before .before .before .before .before .before .before .before .before .before .find-constant .ensures .fine) (c .before .before .before .before .before .before .before .before .before .before .before .before .before .before .before .before .before .before .before .before .before .before .before .before .pre .room) (c .before .before .before .before .before .before .before .before .before .before .before .before .before .before .before .cmp-br .ensures) (c .before .before .before .before .before .before .before .before .before .before .before .before .before .before .before .before .narrow .ensures) (c .before .before .before .before .before .before .before .before .before .before .before .before .add-cmp-br .ensures) (c .before .before .before .before .before .before .add-patch .ensures) .did _)) (c .before .before .keep .ensures))))  -- returns
