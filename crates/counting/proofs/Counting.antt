@@ -12,10 +12,10 @@ use lib.IntN.{pos, _+ℤ_, _-ℤ_}
 use lib.Signed.{ltZ, quotZ}
 use borrow.Author.Tests.{ne-eqb, eq-eqb, eqb-false}
 use Rattle.definition.specs.Opcode.{Role, dup, pop, loadVar, storeVar, loadConst, loadTrue, loadFalse, arithmetic, logic, neg, boolNot, compare, jmp, jmpIfNot, cmpBr, ret, Add, size, traits, traitsOf, number as roleNumber}
-use Rattle.definition.specs.Iec.{signedOf, iec, decides, taken}
+use Rattle.definition.specs.Iec.{signedOf, iec, decides, taken, wrapped, onNumbers, calculate, stored, truth}
 use Rattle.definition.specs.Rules.{hasRole}
 use Rattle.definition.specs.Runs.{Break, offCode, target}
-use Rattle.definition.specs.Machine.{Image, State, Step, goes, finishes, stops, breaks, wrapped, onNumbers, calculate, operandAt, constantAt, compares, at, stored, popOne, popTwo, leadsTo, calculated, branchIf, truth, execute, executeIf, isStart, roleAt, step, andThen, afterSteps}
+use Rattle.definition.specs.Machine.{Image, State, Step, goes, finishes, stops, breaks, operandAt, constantAt, compares, at, popOne, popTwo, leadsTo, calculated, branchIf, execute, executeIf, isStart, roleAt, step, andThen, afterSteps}
 use Rattle.definition.specs.For.{Places}
 use Rattle.definition.specs.Count.{oneIf, crossings, passes, storesTo, Ends, ended, later, AlwaysEnds, IsValue, CountsUp, upCount, Makes}
 use Rattle.counting.proofs.Laid.{Stands, Tests, Opening, Laid}

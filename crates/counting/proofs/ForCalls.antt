@@ -4,13 +4,14 @@ use mathlib.Core.Path.{_≡_, refl, _∙_, ap}
 use mathlib.Core.List.{[], _∷_, _++_}
 use mathlib.Core.Bool.{Bool, true, false}
 use mathlib.Core.Option.{some}
+use Rattle.definition.specs.Limits.{width}
 use Rattle.definition.specs.Opcode.{negate, arithmetic, Add}
-use Rattle.definition.specs.Tree.{const}
+use Rattle.definition.specs.Tree.{const, countsDown, bound}
 use Rattle.definition.specs.Emit.{bindLabel, loadVariable, storeVariable, loadConstant, emitOpcode, emitJmp}
 use Rattle.definition.specs.Walk.{next, after, Calls, _>>=_, _>>_, say, nothing, newLabel, when}
 use Rattle.definition.specs.CompileExpr.{constantOf, emitClassifiedCmpBr}
 use Rattle.definition.specs.Expr.{emitExpr}
-use Rattle.definition.specs.Stmt.{Loops, loopBody, continues, countsDown, bound, endTestBy, emitFor, emitStmt, emitBlock}
+use Rattle.definition.specs.Stmt.{Loops, loopBody, continues, endTestBy, emitFor, emitStmt, emitBlock}
 use Rattle.definition.specs.For.{For, forStmt, settingOf, testingOf, bodyOf, countingOf}
 use Rattle.counting.proofs.Once.{closed, closes, block-closed, closed-append}
 
@@ -31,7 +32,7 @@ forBy f loops down = do
   say (emitJmp head)
   say (bindLabel end)
 
-pub for-calls : (f : For) (loops : Loops) (n : ℕ) → countsDown (f .step) ≡ false → emitStmt (forStmt f) loops n .1 ≡ settingOf f ++ (testingOf f n ++ (bodyOf f loops n ++ countingOf f n))
+pub for-calls : (f : For) (loops : Loops) (n : ℕ) → countsDown width (f .step) ≡ false → emitStmt (forStmt f) loops n .1 ≡ settingOf f ++ (testingOf f n ++ (bodyOf f loops n ++ countingOf f n))
 unfolding forBy forStmt settingOf testingOf bodyOf countingOf emitStmt emitFor emitExpr constantOf endTestBy bound emitClassifiedCmpBr negate _>>=_ _>>_ say newLabel after next
 for-calls f loops n up = ap (λ b. forBy f loops b n .1) up
 

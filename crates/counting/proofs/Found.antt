@@ -5,11 +5,11 @@ use mathlib.Core.List.{List, [], _∷_, _++_, append-assoc, append-nil}
 use mathlib.Core.Bool.{Bool, true, false, _&&_}
 use mathlib.Core.Option.{Option, some, none}
 use native.Mathlib.Omega.{arith}
-use Rattle.definition.specs.Tree.{CaseLabel, Expr, Stmt, Block, done, _then_, Arms, Program}
+use Rattle.definition.specs.Tree.{CaseLabel, Expr, Stmt, Block, done, _then_, Arms, Program, isDone, isExitStmt, isExit, onlyIf, exitWhen, exitUnless, Shape, while, repeat, plain, repeatOr, whileOr, shape}
 use Rattle.definition.specs.Emit.{Call, createLabel}
 use Rattle.definition.specs.Walk.{next, after, Walk, Calls, _>>=_, _>>_, newLabel}
 use Rattle.definition.specs.CompileExpr.{ClassifiedCmp, classify}
-use Rattle.definition.specs.Stmt.{Loops, isDone, isExitStmt, isExit, onlyIf, exitWhen, exitUnless, Shape, while, repeat, plain, repeatOr, whileOr, shape, branchUnless, elsePart, armBody, emitArm, loopBody, continues, emitFor, whileBy, emitWhile, repeatBy, emitRepeat, emitPlain, emitLoop, emitStmt, emitBlock, emitRest, emitArms, emitStmts}
+use Rattle.definition.specs.Stmt.{Loops, branchUnless, elsePart, armBody, emitArm, loopBody, continues, emitFor, whileBy, emitWhile, repeatBy, emitRepeat, emitPlain, emitLoop, emitStmt, emitBlock, emitRest, emitArms, emitStmts}
 use Rattle.counting.proofs.Once.{after-append}
 use Rattle.definition.specs.For.{In, here, inside, behind, InStmt, inThen, inElse, inArms, inOther, inFor, inBody, inContinuing, InArms, inArm, inLater, Emits, For, forStmt}
 

@@ -98,7 +98,7 @@ no-within {s = s} {rows = rows} {e = e} h = record { more = []; formed = subst (
 bytes-length : {s : Sheet} {rows : List Row} {l : Last} {e : Emitter} → At s rows l e → length (e .bytecode) ≡ length (codeOf s rows)
 bytes-length h = ap length (h .formed .is)
 
-code-length : (s : Sheet) (A : List Row) (r : Row) → length (codeOf s (A ++ (r ∷ []))) ≡ length (codeOf s A) + length (bytesOf s r)
+pub code-length : (s : Sheet) (A : List Row) (r : Row) → length (codeOf s (A ++ (r ∷ []))) ≡ length (codeOf s A) + length (bytesOf s r)
 unfolding codeOf
 code-length s A r = ap length (code-append s A (r ∷ [])) ∙ (length-append (codeOf s A) (bytesOf s r ++ []) ∙ ap (λ x. length (codeOf s A) + length x) (append-nil (bytesOf s r)))
 
@@ -250,11 +250,11 @@ rows-append s [] B = refl
 rows-append s (r ∷ A) B = ap (λ x. bytesOf s r ∷ x) (rows-append s A B)
 
 -- where a label's branches lead
-abbrev goalOf : Sheet → List Row → Emitter → ℕ → ℕ
+abbrev pub goalOf : Sheet → List Row → Emitter → ℕ → ℕ
 goalOf s rows e = goalIn s (e .labels) (boundariesFrom 0 (instructionsOf s rows))
 
 module _ (s : Sheet) (known : Reads s) (rows : List Row) (e : Emitter) (formed : FormedBy s rows e) where
-  finished : finalizeFunction s [] e .bytecode ≡ joined (finalRows s (goalOf s rows e) 0 rows)
+  pub finished : finalizeFunction s [] e .bytecode ≡ joined (finalRows s (goalOf s rows e) 0 rows)
   unfolding finalizeFunction
   finished =
       let is = instructionsOf s rows in
@@ -268,7 +268,7 @@ module _ (s : Sheet) (known : Reads s) (rows : List Row) (e : Emitter) (formed :
       ∙ (ap (λ x. patchJumps (e .labels) (diagonal places) x (codeOf s rows)) (formed .patches) ∙ patched-all s (e .labels) places rows (among-self places))))
 
   -- a label bound at a row's place leads there
-  goal-is : (l p : ℕ) (A B : List Row) → rows ≡ A ++ B → getD (e .labels) l none ≡ some p → p ≡ length (codeOf s A) → goalOf s rows e l ≡ p
+  pub goal-is : (l p : ℕ) (A B : List Row) → rows ≡ A ++ B → getD (e .labels) l none ≡ some p → p ≡ length (codeOf s A) → goalOf s rows e l ≡ p
   unfolding goalIn boundLabel boundOr0
   goal-is l p A B q b r =
       let at : has (boundariesFrom 0 (instructionsOf s rows)) p ≡ true =
@@ -278,11 +278,11 @@ module _ (s : Sheet) (known : Reads s) (rows : List Row) (e : Emitter) (formed :
 
 -- ---- what the rows say once they are placed
 
-sixteen : (n : ℕ) → n % 256 + 256 * (n / 256) ≡ n
+pub sixteen : (n : ℕ) → n % 256 + 256 * (n / 256) ≡ n
 sixteen n = omega arith
 
 module _ (m : Image) (s : Sheet) (goal : ℕ → ℕ) (p : ℕ) where
-  variable-read : (r : Role) (v : ℕ) → Placed m p r (finalBytes s goal p (rowOf r (le16 v) none)) → operandAt (m .bytecode) (p + 1) ≡ v
+  pub variable-read : (r : Role) (v : ℕ) → Placed m p r (finalBytes s goal p (rowOf r (le16 v) none)) → operandAt (m .bytecode) (p + 1) ≡ v
   unfolding finalBytes aimedOperand operandOf unpatched rowOf le16
   variable-read r v h = operand-at m p r _ h 1 (omega arith) ∙ sixteen v
 

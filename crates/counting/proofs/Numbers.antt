@@ -8,8 +8,7 @@ use lib.Dec.{ltb}
 use lib.IntN.{ℤ, pos, negsuc, subℕ, _+ℤ_, _-ℤ_}
 use lib.Signed.{leZ, ltZ, mag}
 use borrow.Author.Tests.{ltb-true, ltb-false, leb-true, lt-ltb, le-ltb}
-use Rattle.definition.specs.Iec.{signedOf}
-use Rattle.definition.specs.Machine.{wrapped}
+use Rattle.definition.specs.Iec.{signedOf, wrapped}
 use Rattle.definition.specs.Count.{IsValue}
 
 -- a width of 1 or more

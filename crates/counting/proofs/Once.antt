@@ -8,14 +8,15 @@ use mathlib.Core.Option.{Option, some, none}
 use native.Mathlib.Omega.{arith}
 use lib.Dec.{eqb, ltb}
 use borrow.Author.Tests.{ltb-true, ltb-false, eqb-true, eqb-false}
+use Rattle.definition.specs.Limits.{width}
 use Rattle.definition.specs.Opcode.{CompareOp, AndThen, OrElse, dup, pop, ret, loadTrue, loadFalse, size}
 use Rattle.definition.specs.Opcode as role
-use Rattle.definition.specs.Tree.{Source, Expr, const, bool, read, binary, unary, compare, shortCircuit, bad, CaseLabel, value, range, badLabel, Stmt, assign, if, case, for, loop, exit, continue, return, badStmt, Block, done, _then_, Arms, noArms, arm, badArm}
+use Rattle.definition.specs.Tree.{Source, Expr, const, bool, read, binary, unary, compare, shortCircuit, bad, CaseLabel, value, range, badLabel, Stmt, assign, if, case, for, loop, exit, continue, return, badStmt, Block, done, _then_, Arms, noArms, arm, badArm, isDone, Shape, while, repeat, plain, shape, countsDown, bound}
 use Rattle.definition.specs.Emit.{Call, createLabel, bindLabel, loadVariable, storeVariable, loadConstant, addConstant, emitOpcode, emitJmp, emitJmpIfNot, emitCmpBr, resetStackDepth, setPosition, refused}
 use Rattle.definition.specs.Walk.{next, after, Walk, Calls, _>>=_, _>>_, say, nothing, newLabel, when}
 use Rattle.definition.specs.CompileExpr.{ClassifiedCmp, constantOf, classify, emitClassifiedCmpBr}
 use Rattle.definition.specs.Expr.{emitExpr}
-use Rattle.definition.specs.Stmt.{Loops, labels, jumpTo, exitOf, nextOf, continues, isDone, Shape, while, repeat, plain, shape, branchUnlessBy, branchUnless, elsePart, testAgainst, testLabel, testLabels, armBody, emitArm, loopBody, countsDown, bound, endTestBy, emitFor, whileBy, emitWhile, repeatBy, emitRepeat, emitPlain, emitLoop, sourceOf, recordPosition, emitStmt, emitBlock, emitRest, emitArms, emitStmts}
+use Rattle.definition.specs.Stmt.{Loops, labels, jumpTo, exitOf, nextOf, continues, branchUnlessBy, branchUnless, elsePart, testAgainst, testLabel, testLabels, armBody, emitArm, loopBody, endTestBy, emitFor, whileBy, emitWhile, repeatBy, emitRepeat, emitPlain, emitLoop, sourceOf, recordPosition, emitStmt, emitBlock, emitRest, emitArms, emitStmts}
 use Rattle.definition.specs.Count.{oneIf}
 use Rattle.runs.proofs.Heights.{Step, Safe, ends, goes, next-mono}
 use Rattle.runs.proofs.Emitted.{program-safe}
@@ -243,7 +244,7 @@ module _ (body : Loops → Calls) (x : (o : Loops) → Once nil (body o)) where
       (opens {c = nil} 0 λ head. opens 0 λ end.
       fits
       (seq (binding head)
-      (seq (end-test-once (constantOf to) (bound (countsDown step)) v to end)
+      (seq (end-test-once (constantOf to) (bound (countsDown width step)) v to end)
       (seq (body-once i end used loops)
       (seq (says (loadVariable v) (λ l. refl))
       (seq (says (loadConstant step) (λ l. refl))

@@ -12,10 +12,10 @@ use Rattle.definition.specs.Res.{ok}
 use Rattle.definition.specs.Program.{readProgram}
 use Rattle.definition.specs.Opcode.{Sheet, Gt}
 use Rattle.definition.specs.Sheet.{readSheet}
-use Rattle.definition.specs.Tree.{Program}
+use Rattle.definition.specs.Tree.{Program, countsDown, Block}
 use Rattle.definition.specs.Emit.{loadConstant, Emitter, emitterAt, acts}
 use Rattle.definition.specs.Walk.{after}
-use Rattle.definition.specs.Stmt.{countsDown, emitStmts}
+use Rattle.definition.specs.Stmt.{emitStmts}
 use Rattle.definition.specs.Compile.{FinalizedFunction, finalizeFunction, emitProgram, compileFiles}
 use Rattle.definition.specs.Claims.{Either, left, right}
 use Rattle.opcode.proofs.Faults.{good}
@@ -36,12 +36,12 @@ use Rattle.counting.proofs.LaidOut.{rest₀, rest₁, rest₂, rest₅,
 valueWidth : IsWidth width
 valueWidth = record { twice = refl; some = omega arith }
 
-counts-up : (k : ℕ) → k < 2 ^ (width - 1) → countsDown k ≡ false
+counts-up : (k : ℕ) → k < 2 ^ (width - 1) → countsDown width k ≡ false
 unfolding countsDown
 counts-up k h = lt-leb (2 ^ (width - 1)) k h
 
 -- the program's calls, with those of the FOR written out
-calls-are : (p : Program) (f : For) (o : Emits p (forStmt f)) → countsDown (f .step) ≡ false
+calls-are : (p : Program) (f : For) (o : Emits p (forStmt f)) → countsDown width (f .step) ≡ false
     → emitStmts (p .body) 0 .1 ≡ o .before ++ (loadConstant (f .from) ∷ rest₁ f (after 0 (o .before)) (bodyOf f (o .loops) (after 0 (o .before))) (o .behind))
 unfolding settingOf testingOf countingOf rest₁ rest₅ rest₀ rest₂
 calls-are p f o up =
@@ -50,14 +50,14 @@ calls-are p f o up =
     ∙ (ap (λ t. o .before ++ (t ++ o .behind)) (for-calls f (o .loops) n up)
     ∙ ap (λ t. o .before ++ (settingOf f ++ (testingOf f n ++ t))) (append-assoc (bodyOf f (o .loops) n) (countingOf f n) (o .behind)))
 
-at-most-once : (p : Program) (l : ℕ) → binds l (emitStmts (p .body) 0 .1) ≤ 1
+pub at-most-once : (b : Block) (l : ℕ) → binds l (emitStmts b 0 .1) ≤ 1
 unfolding below oneIf
-at-most-once p l =
-    let a = program-once (p .body) .once 0 l in
-    let b = one (ltb l (after 0 (emitStmts (p .body) 0 .1))) in
+at-most-once b l =
+    let a = program-once b .once 0 l in
+    let c = one (ltb l (after 0 (emitStmts b 0 .1))) in
     omega arith
   where
-    one : (b : Bool) → oneIf b ≤ 1
+    one : (c : Bool) → oneIf c ≤ 1
     one true = omega arith
     one false = omega arith
 
@@ -114,7 +114,7 @@ in-files place sheet program s p c sheetRead programRead answered f o u x a b d 
     let calls = calls-are p f o (counts-up (f .step) (counts width (f .step) (u .up) .1 .1)) in
     let em : Emission s p f n (o .before) body (o .behind) e = emission s p f n (o .before) body (o .behind) e (subst (λ cs. acts s cs (emitterAt (p .pos)) ≡ ok e) calls (q .emits)) in
     let laid = laid-out s (λ r. role-of-opcode g r) (comparison-of-byte g Gt) p f (o .before) (o .behind) (o .loops) e
-    (λ l. subst (λ cs. binds l cs ≤ 1) calls (at-most-once p l)) (subst (λ cs. OneBytes cs) calls (program-bytes (p .body))) em in
+    (λ l. subst (λ cs. binds l cs ≤ 1) calls (at-most-once (p .body) l)) (subst (λ cs. OneBytes cs) calls (program-bytes (p .body))) em in
     concludes (imageOf s c) (placesOf s p f o) (f .control) (f .from) (f .to) (f .step)
     (carried _ (imageOf s c) _ (placesOf s p f o) (f .control) (f .from) (f .to) (f .step) (ap (λ k. imageOf s k) (q .finish)) (sym (places-are s p f o e em)) laid)
     valueWidth u x a b d

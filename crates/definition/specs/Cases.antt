@@ -13,6 +13,7 @@ use Rattle.definition.specs.Field.{open-Field}
 use Rattle.definition.specs.Opcode.{open-Opcode}
 use Rattle.definition.specs.Iec.{open-Iec}
 use Rattle.definition.specs.Sheet.{open-Sheet}
+use Rattle.definition.specs.Tree.{open-Tree}
 use Rattle.definition.specs.Rules.{open-Rules}
 use Rattle.definition.specs.Program.{open-Program}
 use Rattle.definition.specs.Emit.{open-Emit}
@@ -34,7 +35,7 @@ use Rattle.definition.specs.Passes.{open-Passes}
 
 -- `unfolding open-Definition` names every definition of the crate
 unfoldable pub open-Definition : Unit {0}
-unfolding open-Res open-Field open-Opcode open-Iec open-Sheet open-Rules open-Program open-Emit open-Walk open-CompileExpr open-Expr open-Stmt open-Rewrite open-Optimize open-Lent open-Compile open-Alone open-Runs open-Machine open-For open-Count open-Listing open-Passes
+unfolding open-Res open-Field open-Opcode open-Iec open-Sheet open-Rules open-Tree open-Program open-Emit open-Walk open-CompileExpr open-Expr open-Stmt open-Rewrite open-Optimize open-Lent open-Compile open-Alone open-Runs open-Machine open-For open-Count open-Listing open-Passes
 open-Definition = tt
 
 unfoldable pub bytes : String → List ℕ

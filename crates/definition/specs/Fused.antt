@@ -4,18 +4,19 @@ use mathlib.Core.Path.{_≡_}
 use mathlib.Core.List.{List, _++_}
 use mathlib.Core.Bool.{Bool, true, false, not}
 use mathlib.Core.Option.{some}
+use Rattle.definition.specs.Limits.{width}
 use Rattle.definition.specs.Opcode.{size, cmpBr}
-use Rattle.definition.specs.Iec.{signedOf, iec}
-use Rattle.definition.specs.Tree.{Source, Expr, const, bool, read, binary, unary, compare, shortCircuit, bad, Stmt, if, for, loop, Block, Program}
+use Rattle.definition.specs.Iec.{Values, compared}
+use Rattle.definition.specs.Tree.{Source, Expr, const, bool, read, binary, unary, compare, shortCircuit, bad, Stmt, if, for, loop, Block, Program, while, repeat, shape, countsDown, bound}
 use Rattle.definition.specs.Emit.{Call}
 use Rattle.definition.specs.Walk.{after}
 use Rattle.definition.specs.CompileExpr.{ClassifiedCmp, classify, emitClassifiedCmpBr}
-use Rattle.definition.specs.Stmt.{while, repeat, shape, countsDown, bound, emitStmts}
+use Rattle.definition.specs.Stmt.{emitStmts}
 use Rattle.definition.specs.Machine.{Image, at, step}
 use Rattle.definition.specs.For.{Emits}
 
 -- the bits of a side that is a variable or a constant, where the variables hold these
-unfoldable pub side : (ℕ → ℕ) → Expr → ℕ
+unfoldable pub side : Values → Expr → ℕ
 side values (const k) = k
 side values (bool b) = 0
 side values (read v) = values v
@@ -26,13 +27,13 @@ side values (shortCircuit o a b) = 0
 side values (bad f) = 0
 
 -- IEC's comparison of the two sides, in the order in which they are written, on values of w bits
-unfoldable pub holds : ℕ → (ℕ → ℕ) → Expr → Bool
+unfoldable pub holds : ℕ → Values → Expr → Bool
 holds w values (const k) = false
 holds w values (bool b) = false
 holds w values (read v) = false
 holds w values (binary o a b) = false
 holds w values (unary o a) = false
-holds w values (compare c a b) = iec c (signedOf w (side values a)) (signedOf w (side values b))
+holds w values (compare c a b) = compared w c (side values a) (side values b)
 holds w values (shortCircuit o a b) = false
 holds w values (bad f) = false
 
@@ -47,7 +48,7 @@ pub data Tests : Stmt → Expr → Bool → Type 0 where
   ofIf : {s : Source} {c : Expr} {t e : Block} → Tests (if s c t e) c false
   ofWhile : {s : Source} {i : ℕ} {b k : Block} {c : Expr} (on : Bool) → shape i b k ≡ while c → Tests (loop s i b k) c on
   ofRepeat : {s : Source} {i : ℕ} {b k : Block} {c : Expr} → shape i b k ≡ repeat c → Tests (loop s i b k) c false
-  ofFor : {s : Source} {i v step : ℕ} {from to : Expr} {b : Block} → Tests (for s i v step from to b) (compare (bound (countsDown step)) (read v) to) false
+  ofFor : {s : Source} {i v step : ℕ} {from to : Expr} {b : Block} → Tests (for s i v step from to b) (compare (bound (countsDown width step)) (read v) to) false
 
 -- a branch that some calls emit for a condition that is fused, on true or on false, to a label
 pub record FusedBranch (calls : List Call) : Type 0 where

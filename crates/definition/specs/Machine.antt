@@ -1,19 +1,17 @@
 -- Runs of finished code with values: what each instruction makes of the stack and the variables (IEC 61131-3 for what an operator means).
 -- Values are two's complement bits. Where Runs has a height and a list of outcomes, this has a stack and variables, and decides branches itself;
 -- what a step of it is in Runs stands at the end.
-use Prim.Native.Nat.{ℕ, _+_, _-_, _*_, _%_, _^_, suc, zero}
+use Prim.Native.Nat.{ℕ, _+_, _*_, suc, zero}
 use mathlib.Core.List.{List, [], _∷_, _++_}
-use mathlib.Core.Bool.{Bool, true, false, not, _&&_, _||_}
+use mathlib.Core.Bool.{Bool, true, false, not}
 use mathlib.Core.Option.{Option, some, none}
 use lib.Dec.{eqb}
 use lib.ListN.{length, getD}
-use lib.IntN.{ℤ, pos, negsuc, negℤ, _+ℤ_, _-ℤ_, _*ℤ_}
-use lib.Signed.{quotZ, remZ}
 use Rattle.definition.specs.Limits.{width}
 use Rattle.definition.specs.Field.{has}
-use Rattle.definition.specs.Opcode.{Role, dup, pop, loadVar, storeVar, loadConst, loadTrue, loadFalse, arithmetic, logic, neg, boolNot, compare, jmp, jmpIfNot, cmpBr, ret, ArithmeticOp, Add, Sub, Mul, Div, Mod, BoolOp, BoolAnd, BoolOr, BoolXor, Sheet, roleOf, size, effect, shift, Flow, onward, away, either, stop, flow}
+use Rattle.definition.specs.Opcode.{Role, dup, pop, loadVar, storeVar, loadConst, loadTrue, loadFalse, arithmetic, logic, neg, boolNot, compare, jmp, jmpIfNot, cmpBr, ret, Div, Sheet, roleOf, size, effect, shift, Flow, onward, away, either, stop, flow}
 use Rattle.definition.specs.Rules.{hasRole}
-use Rattle.definition.specs.Iec.{signedOf, iec, taken}
+use Rattle.definition.specs.Iec.{Values, stored, compared, taken, truth, bit, calculate, negated, decide}
 use Rattle.definition.specs.Rewrite.{decode, startsFrom}
 use Rattle.definition.specs.Compile.{FinalizedFunction}
 use Rattle.definition.specs.Runs.{Break, offCode, emptyStack, target}
@@ -34,7 +32,7 @@ pub record State : Type 0 where
   pub place : ℕ
   -- the top first
   pub stack : List ℕ
-  pub variables : ℕ → ℕ
+  pub variables : Values
 
 pub data Step : Type 0 where
   goes : State → Step
@@ -42,45 +40,6 @@ pub data Step : Type 0 where
   -- division or modulo by zero
   stops : Step
   breaks : Break → Step
-
--- ---- operators
-
--- integers wrap at their width w
-unfoldable pub wrapped : ℕ → ℤ → ℕ
-wrapped w (pos n) = n % 2 ^ w
-wrapped w (negsuc n) = 2 ^ w - suc (n % 2 ^ w)
-
--- an operation on the numbers that w bits stand for
-unfoldable pub onNumbers : ℕ → (ℤ → ℤ → ℤ) → ℕ → ℕ → ℕ
-onNumbers w f a b = wrapped w (f (signedOf w a) (signedOf w b))
-
--- 0 counts as false and all else as true; a result is 0 or 1
-unfoldable pub truth : ℕ → Bool
-truth x = not (eqb x 0)
-
-unfoldable pub bit : Bool → ℕ
-bit true = 1
-bit false = 0
-
-unfoldable pub differ : Bool → Bool → Bool
-differ true b = not b
-differ false b = b
-
--- none for a zero divisor; division drops the fraction
-unfoldable pub dividedBy : ℕ → (ℤ → ℤ → ℤ) → ℕ → ℕ → Option ℕ
-dividedBy w f a b = elim (eqb b 0) [ true ↦ none | false ↦ some (onNumbers w f a b) ]
-
-unfoldable pub calculate : ℕ → ArithmeticOp → ℕ → ℕ → Option ℕ
-calculate w Add a b = some (onNumbers w _+ℤ_ a b)
-calculate w Sub a b = some (onNumbers w _-ℤ_ a b)
-calculate w Mul a b = some (onNumbers w _*ℤ_ a b)
-calculate w Div a b = dividedBy w quotZ a b
-calculate w Mod a b = dividedBy w remZ a b
-
-unfoldable pub decide : BoolOp → Bool → Bool → Bool
-decide BoolAnd a b = a && b
-decide BoolOr a b = a || b
-decide BoolXor a b = differ a b
 
 -- ---- instructions
 
@@ -93,14 +52,11 @@ unfoldable pub constantAt : Image → ℕ → ℕ
 constantAt m p = getD (m .constants) (operandAt (m .bytecode) p) 0
 
 -- does a CMP_BR at place p branch? Its bytes are opcode, comparison, variable, constant index, offset
-unfoldable pub compares : Image → ℕ → (ℕ → ℕ) → Bool
+unfoldable pub compares : Image → ℕ → Values → Bool
 compares m p vs = taken (m .sheet) (m .width) (getD (m .bytecode) (p + 1) 0) (vs (operandAt (m .bytecode) (p + 2))) (constantAt m (p + 4))
 
-unfoldable pub at : ℕ → List ℕ → (ℕ → ℕ) → Step
+unfoldable pub at : ℕ → List ℕ → Values → Step
 at p stack variables = goes (record { place = p; stack = stack; variables = variables })
-
-unfoldable pub stored : (ℕ → ℕ) → ℕ → ℕ → ℕ → ℕ
-stored variables v a = λ w. elim (eqb w v) [ true ↦ a | false ↦ variables w ]
 
 -- with the top value, and with the two top values, of which the right one is on top
 unfoldable pub popOne : List ℕ → (ℕ → List ℕ → Step) → Step
@@ -112,20 +68,20 @@ popTwo [] f = breaks emptyStack
 popTwo (b ∷ []) f = breaks emptyStack
 popTwo (b ∷ a ∷ stack) f = f a b stack
 
-unfoldable pub leadsTo : Option ℕ → List ℕ → (ℕ → ℕ) → Step
+unfoldable pub leadsTo : Option ℕ → List ℕ → Values → Step
 leadsTo none stack variables = breaks offCode
 leadsTo (some p) stack variables = at p stack variables
 
-unfoldable pub calculated : Option ℕ → ℕ → List ℕ → (ℕ → ℕ) → Step
+unfoldable pub calculated : Option ℕ → ℕ → List ℕ → Values → Step
 calculated none next stack variables = stops
 calculated (some a) next stack variables = at next (a ∷ stack) variables
 
-unfoldable pub branchIf : Bool → List ℕ → ℕ → List ℕ → (ℕ → ℕ) → Step
+unfoldable pub branchIf : Bool → List ℕ → ℕ → List ℕ → Values → Step
 branchIf true code next stack variables = leadsTo (target code next) stack variables
 branchIf false code next stack variables = at next stack variables
 
 -- an instruction of a role, its bytes and what follows them being at hand
-unfoldable pub execute : Role → Image → ℕ → List ℕ → (ℕ → ℕ) → Step
+unfoldable pub execute : Role → Image → ℕ → List ℕ → Values → Step
 execute dup m p st vs = popOne st λ a rest. at (p + size dup) (a ∷ a ∷ rest) vs
 execute pop m p st vs = popOne st λ a rest. at (p + size pop) rest vs
 execute loadVar m p st vs = at (p + size loadVar) (vs (operandAt (m .bytecode) (p + 1)) ∷ st) vs
@@ -135,9 +91,9 @@ execute loadTrue m p st vs = at (p + size loadTrue) (bit true ∷ st) vs
 execute loadFalse m p st vs = at (p + size loadFalse) (bit false ∷ st) vs
 execute (arithmetic o) m p st vs = popTwo st λ a b rest. calculated (calculate (m .width) o a b) (p + size (arithmetic o)) rest vs
 execute (logic o) m p st vs = popTwo st λ a b rest. at (p + size (logic o)) (bit (decide o (truth a) (truth b)) ∷ rest) vs
-execute neg m p st vs = popOne st λ a rest. at (p + size neg) (wrapped (m .width) (negℤ (signedOf (m .width) a)) ∷ rest) vs
+execute neg m p st vs = popOne st λ a rest. at (p + size neg) (negated (m .width) a ∷ rest) vs
 execute boolNot m p st vs = popOne st λ a rest. at (p + size boolNot) (bit (not (truth a)) ∷ rest) vs
-execute (compare c) m p st vs = popTwo st λ a b rest. at (p + size (compare c)) (bit (iec c (signedOf (m .width) a) (signedOf (m .width) b)) ∷ rest) vs
+execute (compare c) m p st vs = popTwo st λ a b rest. at (p + size (compare c)) (bit (compared (m .width) c a b) ∷ rest) vs
 execute jmp m p st vs = leadsTo (target (m .bytecode) (p + size jmp)) st vs
 execute jmpIfNot m p st vs = popOne st λ a rest. branchIf (not (truth a)) (m .bytecode) (p + size jmpIfNot) rest vs
 execute cmpBr m p st vs = branchIf (compares m p vs) (m .bytecode) (p + size cmpBr) st vs
@@ -211,5 +167,5 @@ stepInRuns x os (breaks b) = runs.breaks b
 
 -- `unfolding open-Machine` names all of this module's definitions at once
 unfoldable pub open-Machine : Unit {0}
-unfolding imageOf wrapped onNumbers truth bit differ dividedBy calculate decide operandAt constantAt compares at stored popOne popTwo leadsTo calculated branchIf execute executeIf isStart roleAt step andThen afterSteps inRuns outcomeIf outcomeOf decided decidedIn stepInRuns
+unfolding imageOf operandAt constantAt compares at popOne popTwo leadsTo calculated branchIf execute executeIf isStart roleAt step andThen afterSteps inRuns outcomeIf outcomeOf decided decidedIn stepInRuns
 open-Machine = tt

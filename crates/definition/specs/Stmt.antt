@@ -1,13 +1,13 @@
 -- Emission of statements (body/stmt.rs), in its order of label creation. Between statements the stack is empty.
-use Prim.Native.Nat.{ℕ, _-_, _^_}
+use Prim.Native.Nat.{ℕ}
 use mathlib.Core.List.{List, [], _∷_}
 use mathlib.Core.Bool.{Bool, true, false, not, _&&_, _||_}
 use mathlib.Core.Option.{Option, some, none}
-use lib.Dec.{eqb, leb}
+use lib.Dec.{eqb}
 use Rattle.definition.specs.Limits.{width, noLoop}
 use Rattle.definition.specs.Opcode.{Eq, Le, Ge, CompareOp, Add, dup, pop, ret}
 use Rattle.definition.specs.Opcode as role
-use Rattle.definition.specs.Tree.{Constant, Source, Expr, CaseLabel, value, range, badLabel, Stmt, assign, if, case, for, loop, exit, continue, return, badStmt, Block, done, _then_, Arms, noArms, arm, badArm}
+use Rattle.definition.specs.Tree.{Constant, Source, Expr, CaseLabel, value, range, badLabel, Stmt, assign, if, case, for, loop, exit, continue, return, badStmt, Block, done, _then_, Arms, noArms, arm, badArm, isDone, Shape, while, repeat, plain, shape, countsDown, bound}
 use Rattle.definition.specs.Emit.{bindLabel, loadVariable, storeVariable, loadConstant, addConstant, emitOpcode, emitJmp, emitJmpIfNot, resetStackDepth, setPosition, refused}
 use Rattle.definition.specs.Walk.{Calls, _>>=_, _>>_, say, nothing, newLabel, when}
 use Rattle.definition.specs.CompileExpr.{ClassifiedCmp, constantOf, classify, emitClassifiedCmpBr}
@@ -64,76 +64,6 @@ unfoldable mutual
   continuesArms i (arm [] b xs) = continuesArms i xs
   continuesArms i (arm (l ∷ ls) b xs) = continues i b || continuesArms i xs
   continuesArms i (badArm f) = false
-
--- ---- the shapes of WHILE and REPEAT
-
-unfoldable pub isDone : Block → Bool
-isDone done = true
-isDone (s then b) = false
-
-unfoldable pub isExitStmt : ℕ → Stmt → Bool
-isExitStmt i (assign s v e) = false
-isExitStmt i (if s c t e) = false
-isExitStmt i (case s e xs b) = false
-isExitStmt i (for s j v k a b c) = false
-isExitStmt i (loop s j b c) = false
-isExitStmt i (exit s j) = eqb i j
-isExitStmt i (continue s j) = false
-isExitStmt i (return s) = false
-isExitStmt i (badStmt f) = false
-
--- `is_exit`: a block that is a sole EXIT of loop i
-unfoldable pub isExit : ℕ → Block → Bool
-isExit i done = false
-isExit i (s then b) = isExitStmt i s && isDone b
-
-unfoldable pub onlyIf : Bool → Expr → Option Expr
-onlyIf true c = some c
-onlyIf false c = none
-
--- `exit_when`: the condition of IF c THEN EXIT i
-unfoldable pub exitWhen : ℕ → Stmt → Option Expr
-exitWhen i (assign s v e) = none
-exitWhen i (if s c t e) = onlyIf (isDone e && isExit i t) c
-exitWhen i (case s e xs b) = none
-exitWhen i (for s j v k a b c) = none
-exitWhen i (loop s j b c) = none
-exitWhen i (exit s j) = none
-exitWhen i (continue s j) = none
-exitWhen i (return s) = none
-exitWhen i (badStmt f) = none
-
--- `exit_unless`: the condition of IF c ELSE EXIT i
-unfoldable pub exitUnless : ℕ → Stmt → Option Expr
-exitUnless i (assign s v e) = none
-exitUnless i (if s c t e) = onlyIf (isDone t && isExit i e) c
-exitUnless i (case s e xs b) = none
-exitUnless i (for s j v k a b c) = none
-exitUnless i (loop s j b c) = none
-exitUnless i (exit s j) = none
-exitUnless i (continue s j) = none
-exitUnless i (return s) = none
-exitUnless i (badStmt f) = none
-
-pub data Shape : Type 0 where
-  while : Expr → Shape
-  repeat : Expr → Shape
-  plain : Shape
-
-unfoldable pub repeatOr : Option Expr → Shape
-repeatOr (some c) = repeat c
-repeatOr none = plain
-
-unfoldable pub whileOr : Option Expr → Shape
-whileOr (some c) = while c
-whileOr none = plain
-
--- of loop i: body, `continuing`
-unfoldable pub shape : ℕ → Block → Block → Shape
-shape i b (s then done) = repeatOr (exitWhen i s)
-shape i b (s then (t then c)) = plain
-shape i (s then b) done = whileOr (exitUnless i s)
-shape i done done = plain
 
 -- ---- conditions
 
@@ -215,14 +145,6 @@ loopBody i end nextUsed body loops = do
   body (record { loop = i; exit = end; next = next } ∷ loops)
   when nextUsed (say (bindLabel next))
 
--- is a value negative? Such a step counts down (a stand-in)
-unfoldable pub countsDown : Constant → Bool
-countsDown step = leb (2 ^ (width - 1)) step
-
-unfoldable pub bound : Bool → CompareOp
-bound true = Ge
-bound false = Le
-
 -- a FOR's end test: leaves the loop unless the control is within the end
 unfoldable pub endTestBy : Option Constant → CompareOp → ℕ → Expr → ℕ → Calls
 endTestBy (some k) within v to end = emitClassifiedCmpBr (record { op = within; variable = v; constant = k }) false end
@@ -239,7 +161,7 @@ emitFor i v step from to nextUsed body loops = do
   head ← newLabel 0
   end ← newLabel 0
   say (bindLabel head)
-  endTestBy (constantOf to) (bound (countsDown step)) v to end
+  endTestBy (constantOf to) (bound (countsDown width step)) v to end
   loopBody i end nextUsed body loops
   say (loadVariable v)
   say (loadConstant step)
@@ -377,5 +299,5 @@ emitStmts (s then b) = do
 
 -- `unfolding open-Stmt` names all of this module's definitions at once
 unfoldable pub open-Stmt : Unit {0}
-unfolding labels jumpTo exitOf nextOf continues isDone isExitStmt isExit onlyIf exitWhen exitUnless repeatOr whileOr shape branchUnlessBy branchUnless elsePart testAgainst testLabel testLabels armBody emitArm loopBody countsDown bound endTestBy emitFor whileBy emitWhile repeatBy emitRepeat emitPlain emitLoop sourceOf recordPosition emitStmt emitStmts
+unfolding labels jumpTo exitOf nextOf continues branchUnlessBy branchUnless elsePart testAgainst testLabel testLabels armBody emitArm loopBody endTestBy emitFor whileBy emitWhile repeatBy emitRepeat emitPlain emitLoop sourceOf recordPosition emitStmt emitStmts
 open-Stmt = tt

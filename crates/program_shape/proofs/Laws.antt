@@ -11,11 +11,10 @@ use lib.ListN.{length, getD, set, length-set}
 use lib.Seq.{getD-set-other}
 use Rattle.definition.specs.Limits.{maxNesting}
 use Rattle.definition.specs.Opcode.{CompareOp}
-use Rattle.definition.specs.Tree.{Pos, Source, Expr, Stmt, if, Arms}
+use Rattle.definition.specs.Tree.{Pos, Source, Expr, Stmt, if, Arms, isDone, isExitStmt, isExit, onlyIf, exitWhen, exitUnless, repeatOr, whileOr, shape}
 use Rattle.definition.specs.Program as def
 use Rattle.definition.specs.Program.{Line, is, not, Reader, A, I, S, F, L, X, N, R, K, B, D, O, U, C, H, StmtLine, ExprLine, nextLine, lineAt, stmtForms, exprForms, exprOf, exprAt, stmtOf, stmtAt, blockOf}
-use Rattle.definition.specs.Stmt as shapes
-use Rattle.definition.specs.Stmt.{isDone, isExitStmt, isExit, onlyIf, exitWhen, exitUnless, repeatOr, whileOr, shape}
+use Rattle.definition.specs.Tree as shapes
 use Rattle.definition.specs.CompileExpr.{readOf, constantOf, zip, orClassified, classify}
 use Rattle.field.proofs.Results.{never}
 use Rattle.field.proofs.Tests.{and-left, and-right}

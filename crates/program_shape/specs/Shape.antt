@@ -7,13 +7,12 @@ use mathlib.Core.Option.{Option, some, none}
 use lib.Dec.{eqb}
 use lib.ListN.{length}
 use Rattle.definition.specs.Limits.{maxNesting}
-use Rattle.definition.specs.Tree.{Expr, Stmt, Block}
+use Rattle.definition.specs.Tree.{Expr, Stmt, Block, exitWhen, exitUnless}
 use Rattle.definition.specs.Program as def
 use Rattle.definition.specs.Program.{Line, is, not, A, I, S, F, L, X, N, R, K, B, D, O, U, C, H, nextLine, exprAt, stmtAt, blockOf}
 use Rattle.definition.specs.Opcode.{CompareOp, commute}
 use Rattle.definition.specs.CompileExpr.{ClassifiedCmp, readOf, constantOf, zip, orClassified}
-use Rattle.definition.specs.Stmt as shapes
-use Rattle.definition.specs.Stmt.{exitWhen, exitUnless}
+use Rattle.definition.specs.Tree as shapes
 use Rattle.opcode.specs.View.{compareView}
 use Rattle.program.specs.declared.Cursor.{Cursor}
 use Rattle.program.specs.declared.Walk.{Walk}

@@ -22,72 +22,73 @@ use Rattle.definition.specs.Fused.{side, holds, goes}
 use Rattle.field.proofs.Results.{never, ok-demand, ok-bind, ok-is}
 use Rattle.runs.proofs.Emitted.{add-ok}
 
--- ---- what a condition says
+-- ---- what is fused: a variable and a constant, on the one side or on the other
 
-read-side : (values : ℕ → ℕ) (a : Expr) (v : ℕ) → readOf a ≡ some v → side values a ≡ values v
-unfolding readOf side
-read-side values (const k) v e = never (cc)
-read-side values (bool b) v e = never (cc)
-read-side values (read w) v e = cc
-read-side values (binary o a b) v e = never (cc)
-read-side values (unary o a) v e = never (cc)
-read-side values (compare c a b) v e = never (cc)
-read-side values (shortCircuit o a b) v e = never (cc)
-read-side values (bad f) v e = never (cc)
+pub read-is : (a : Expr) (v : ℕ) → readOf a ≡ some v → a ≡ read v
+unfolding readOf
+read-is (const k) v e = never (cc)
+read-is (bool b) v e = never (cc)
+read-is (read w) v e = cc
+read-is (binary o a b) v e = never (cc)
+read-is (unary o a) v e = never (cc)
+read-is (compare c a b) v e = never (cc)
+read-is (shortCircuit o a b) v e = never (cc)
+read-is (bad f) v e = never (cc)
 
-constant-side : (values : ℕ → ℕ) (a : Expr) (k : ℕ) → constantOf a ≡ some k → side values a ≡ k
-unfolding constantOf side
-constant-side values (const j) k e = cc
-constant-side values (bool b) k e = never (cc)
-constant-side values (read w) k e = never (cc)
-constant-side values (binary o a b) k e = never (cc)
-constant-side values (unary o a) k e = never (cc)
-constant-side values (compare c a b) k e = never (cc)
-constant-side values (shortCircuit o a b) k e = never (cc)
-constant-side values (bad f) k e = never (cc)
+pub constant-is : (a : Expr) (k : ℕ) → constantOf a ≡ some k → a ≡ const k
+unfolding constantOf
+constant-is (const j) k e = cc
+constant-is (bool b) k e = never (cc)
+constant-is (read w) k e = never (cc)
+constant-is (binary o a b) k e = never (cc)
+constant-is (unary o a) k e = never (cc)
+constant-is (compare c a b) k e = never (cc)
+constant-is (shortCircuit o a b) k e = never (cc)
+constant-is (bad f) k e = never (cc)
+
+pub data Sides : ClassifiedCmp → Expr → Type 0 where
+  straight : (c : CompareOp) (v k : ℕ) → Sides (record { op = c; variable = v; constant = k }) (compare c (read v) (const k))
+  mirrored : (c : CompareOp) (v k : ℕ) → Sides (record { op = commute c; variable = v; constant = k }) (compare c (const k) (read v))
+
+swapped : (c : CompareOp) (a b : Expr) (f : ClassifiedCmp) (z u : Option ℕ) → readOf b ≡ z → constantOf a ≡ u → zip (commute c) z u ≡ some f → Sides f (compare c a b)
+unfolding zip
+swapped c a b f (some v) (some k) r t e =
+    let g : f ≡ record { op = commute c; variable = v; constant = k } = cc in
+    rw (g, constant-is a k t, read-is b v r) (mirrored c v k)
+swapped c a b f (some v) none r t e = never (cc)
+swapped c a b f none u r t e = never (cc)
+
+by-sides : (c : CompareOp) (a b : Expr) (f : ClassifiedCmp) (x y z u : Option ℕ) → readOf a ≡ x → constantOf b ≡ y → readOf b ≡ z → constantOf a ≡ u → orClassified (zip c x y) (zip (commute c) z u) ≡ some f → Sides f (compare c a b)
+unfolding orClassified zip
+by-sides c a b f (some v) (some k) z u p q r t e =
+    let g : f ≡ record { op = c; variable = v; constant = k } = cc in
+    rw (g, read-is a v p, constant-is b k q) (straight c v k)
+by-sides c a b f (some v) none z u p q r t e = swapped c a b f z u r t e
+by-sides c a b f none y z u p q r t e = swapped c a b f z u r t e
+
+pub sides : (c : Expr) (f : ClassifiedCmp) → classify c ≡ some f → Sides f c
+unfolding classify
+sides (const k) f e = never (cc)
+sides (bool b) f e = never (cc)
+sides (read v) f e = never (cc)
+sides (binary o a b) f e = never (cc)
+sides (unary o a) f e = never (cc)
+sides (compare c a b) f e = by-sides c a b f (readOf a) (constantOf b) (readOf b) (constantOf a) refl refl refl refl e
+sides (shortCircuit o a b) f e = never (cc)
+sides (bad g) f e = never (cc)
 
 -- ---- classification keeps what the condition says
 
 unfoldable pub asks : ℕ → (ℕ → ℕ) → ClassifiedCmp → Bool
 asks w values f = iec (f .op) (signedOf w (values (f .variable))) (signedOf w (f .constant))
 
-module _ (w : ℕ) (values : ℕ → ℕ) (c : CompareOp) (a b : Expr) (f : ClassifiedCmp) where
-  abbrev Goal : Type 0
-  Goal = asks w values f ≡ iec c (signedOf w (side values a)) (signedOf w (side values b))
-
-  straight : (v k : ℕ) → readOf a ≡ some v → constantOf b ≡ some k → some (record { op = c; variable = v; constant = k }) ≡ some f → Goal
-  unfolding asks
-  straight v k p q e =
-      let g : f ≡ record { op = c; variable = v; constant = k } = cc in
-      ap (λ x. asks w values x) g ∙ (ap (λ x. iec c (signedOf w x) (signedOf w k)) (sym (read-side values a v p)) ∙ ap (λ x. iec c (signedOf w (side values a)) (signedOf w x)) (sym (constant-side values b k q)))
-
-  mirrored : (v k : ℕ) → readOf b ≡ some v → constantOf a ≡ some k → some (record { op = commute c; variable = v; constant = k }) ≡ some f → Goal
-  unfolding asks
-  mirrored v k p q e =
-      let g : f ≡ record { op = commute c; variable = v; constant = k } = cc in
-      ap (λ x. asks w values x) g ∙ (iec-commute c (signedOf w (values v)) (signedOf w k)
-      ∙ (ap (λ x. iec c (signedOf w k) (signedOf w x)) (sym (read-side values b v p)) ∙ ap (λ x. iec c (signedOf w x) (signedOf w (side values b))) (sym (constant-side values a k q))))
-
-  by-sides : (x y z u : Option ℕ) → readOf a ≡ x → constantOf b ≡ y → readOf b ≡ z → constantOf a ≡ u → orClassified (zip c x y) (zip (commute c) z u) ≡ some f → Goal
-  unfolding orClassified zip
-  by-sides (some v) (some k) z u p q r t e = straight v k p q e
-  by-sides (some v) none (some w) (some j) p q r t e = mirrored w j r t e
-  by-sides (some v) none (some w) none p q r t e = never (cc)
-  by-sides (some v) none none u p q r t e = never (cc)
-  by-sides none y (some w) (some j) p q r t e = mirrored w j r t e
-  by-sides none y (some w) none p q r t e = never (cc)
-  by-sides none y none u p q r t e = never (cc)
+says : (w : ℕ) (values : ℕ → ℕ) (c : Expr) (f : ClassifiedCmp) → Sides f c → asks w values f ≡ holds w values c
+unfolding asks holds side
+says w values c f (straight o v k) = refl
+says w values c f (mirrored o v k) = iec-commute o (signedOf w (values v)) (signedOf w k)
 
 classified : (w : ℕ) (values : ℕ → ℕ) (c : Expr) (f : ClassifiedCmp) → classify c ≡ some f → asks w values f ≡ holds w values c
-unfolding classify holds
-classified w values (const k) f e = never (cc)
-classified w values (bool b) f e = never (cc)
-classified w values (read v) f e = never (cc)
-classified w values (binary o a b) f e = never (cc)
-classified w values (unary o a) f e = never (cc)
-classified w values (compare c a b) f e = by-sides w values c a b f (readOf a) (constantOf b) (readOf b) (constantOf a) refl refl refl refl e
-classified w values (shortCircuit o a b) f e = never (cc)
-classified w values (bad g) f e = never (cc)
+classified w values c f e = says w values c f (sides c f e)
 
 -- ---- the law
 

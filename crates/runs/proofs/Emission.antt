@@ -7,13 +7,14 @@ use mathlib.Core.Option.{Option, some, none}
 use lib.Dec.{eqb}
 use borrow.Author.Tests.{eqb-true, eqb-false, ne-eqb, eq-eqb}
 use native.Mathlib.Omega.{arith}
+use Rattle.definition.specs.Limits.{width}
 use Rattle.definition.specs.Opcode.{CompareOp, AndThen, OrElse, dup, pop, loadTrue, loadFalse, ret, Eq, Le, Ge, Add, binaryRole, unaryRole, negate, size, needs, effect, flow, traits, traitsOf, shift}
 use Rattle.definition.specs.Opcode as role
-use Rattle.definition.specs.Tree.{Source, Expr, const, bool, read, binary, unary, compare, shortCircuit, bad, CaseLabel, value, range, badLabel, Stmt, assign, if, case, for, loop, exit, continue, return, badStmt, Block, done, _then_, Arms, noArms, arm, badArm}
+use Rattle.definition.specs.Tree.{Source, Expr, const, bool, read, binary, unary, compare, shortCircuit, bad, CaseLabel, value, range, badLabel, Stmt, assign, if, case, for, loop, exit, continue, return, badStmt, Block, done, _then_, Arms, noArms, arm, badArm, isDone, Shape, while, repeat, plain, shape, countsDown, bound}
 use Rattle.definition.specs.Walk.{Calls, when}
 use Rattle.definition.specs.CompileExpr.{ClassifiedCmp, constantOf, classify, emitClassifiedCmpBr}
 use Rattle.definition.specs.Expr.{emitExpr}
-use Rattle.definition.specs.Stmt.{LoopLabels, Loops, labels, jumpTo, exitOf, nextOf, continues, continuesStmt, continuesArms, isDone, Shape, while, repeat, plain, shape, branchUnlessBy, branchUnless, elsePart, testAgainst, testLabel, testLabels, armBody, emitArm, loopBody, countsDown, bound, endTestBy, emitFor, whileBy, emitWhile, repeatBy, emitRepeat, emitPlain, emitLoop, sourceOf, recordPosition, emitStmt, emitBlock, emitRest, emitArms, emitStmts}
+use Rattle.definition.specs.Stmt.{LoopLabels, Loops, labels, jumpTo, exitOf, nextOf, continues, continuesStmt, continuesArms, branchUnlessBy, branchUnless, elsePart, testAgainst, testLabel, testLabels, armBody, emitArm, loopBody, endTestBy, emitFor, whileBy, emitWhile, repeatBy, emitRepeat, emitPlain, emitLoop, sourceOf, recordPosition, emitStmt, emitBlock, emitRest, emitArms, emitStmts}
 use Rattle.definition.specs.Claims.{left, right}
 use Rattle.field.proofs.Results.{never}
 use Rattle.runs.proofs.Heights.{Binds, sooner, further, binds, inside, Sound, With, wider, _⨾_, opens, leaves, silent, loads, stores, pushes, pools, emits, returns, binding, resets, places, refuses, jumps, unless, compares}
@@ -189,7 +190,7 @@ module _ {Λ : ℕ → ℕ} where
     unfolding emitFor size needs effect flow traits traitsOf shift
     for-sound v step from to o = expr-sound from 0 ⨾ stores v ⨾ opens (λ head. inside _ λ end. sooner _ (binds head)) λ head ph.
         opens (λ end. further _ (further _ (further _ (further _ (further _ (further _ (further _ (further _ (binds end))))))))) λ end pe.
-        binding head ph ⨾ endTest-sound (constantOf to) (bound (countsDown step)) v to end pe (left refl)
+        binding head ph ⨾ endTest-sound (constantOf to) (bound (countsDown width step)) v to end pe (left refl)
         ⨾ loopBody-sound i end b body loops pe (left refl) bs (open-wider (λ l x. right (right x)) (λ j q. q) o)
         ⨾ loads v ⨾ pushes step ⨾ emits (role.arithmetic Add) refl refl (omega arith) ⨾ stores v ⨾ jumps head ph (right (left refl)) ⨾ binding end pe
 

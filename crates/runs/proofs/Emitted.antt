@@ -422,7 +422,7 @@ created-holds (resetStackDepth x ∷ cs) n Λ f = (tt, created-holds cs n Λ f)
 created-holds (setPosition x ∷ cs) n Λ f = (tt, created-holds cs n Λ f)
 created-holds (refused x ∷ cs) n Λ f = (tt, created-holds cs n Λ f)
 
-program-holds : (b : Block) → Holds (created (emitStmts b 0 .1)) 0 (emitStmts b 0 .1)
+pub program-holds : (b : Block) → Holds (created (emitStmts b 0 .1)) 0 (emitStmts b 0 .1)
 program-holds b = let cs : List Call = emitStmts b 0 .1 in created-holds cs 0 (created cs) (λ l. ap (created cs) (let z : 0 + l ≡ l = omega arith in z))
 
 -- a program's calls are safe from height 0 to height 0

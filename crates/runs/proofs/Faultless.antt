@@ -6,13 +6,13 @@ use mathlib.Core.Bool.{Bool, true, false}
 use mathlib.Core.Option.{Option, some, none}
 use native.Mathlib.Omega.{arith}
 use Rattle.definition.specs.Opcode.{AndThen, OrElse, CompareOp}
-use Rattle.definition.specs.Tree.{Source, Fault, Expr, const, bool, read, binary, unary, compare, shortCircuit, bad, CaseLabel, value, range, badLabel, Stmt, assign, if, case, for, loop, exit, continue, return, badStmt, Block, done, _then_, Arms, noArms, arm, badArm}
+use Rattle.definition.specs.Tree.{Source, Fault, Expr, const, bool, read, binary, unary, compare, shortCircuit, bad, CaseLabel, value, range, badLabel, Stmt, assign, if, case, for, loop, exit, continue, return, badStmt, Block, done, _then_, Arms, noArms, arm, badArm, isDone, onlyIf, exitWhen, exitUnless, repeatOr, whileOr, Shape, while, repeat, plain, shape}
 use Rattle.definition.specs.Program.{orElse, faultOfExpr, faultOfLabels, faultOfStmt, faultOfBlock, faultOfArms}
 use Rattle.definition.specs.Emit.{Call, createLabel, bindLabel, loadVariable, storeVariable, loadConstant, addConstant, emitOpcode, emitJmp, emitJmpIfNot, emitCmpBr, resetStackDepth, setPosition, refused}
 use Rattle.definition.specs.Walk.{Calls, after, _>>=_, _>>_, say, nothing, newLabel, when}
 use Rattle.definition.specs.CompileExpr.{ClassifiedCmp, constantOf, classify, emitClassifiedCmpBr}
 use Rattle.definition.specs.Expr.{emitExpr}
-use Rattle.definition.specs.Stmt.{Loops, jumpTo, continues, isDone, onlyIf, exitWhen, exitUnless, repeatOr, whileOr, Shape, while, repeat, plain, shape, branchUnlessBy, branchUnless, elsePart, testAgainst, testLabel, testLabels, armBody, emitArm, loopBody, endTestBy, emitFor, whileBy, emitWhile, repeatBy, emitRepeat, emitPlain, emitLoop, sourceOf, recordPosition, emitStmt, emitBlock, emitRest, emitArms, emitStmts}
+use Rattle.definition.specs.Stmt.{Loops, jumpTo, continues, branchUnlessBy, branchUnless, elsePart, testAgainst, testLabel, testLabels, armBody, emitArm, loopBody, endTestBy, emitFor, whileBy, emitWhile, repeatBy, emitRepeat, emitPlain, emitLoop, sourceOf, recordPosition, emitStmt, emitBlock, emitRest, emitArms, emitStmts}
 use Rattle.definition.specs.Claims.{Each, empty, _also_}
 use Rattle.field.proofs.Results.{never}
 use Rattle.field.proofs.Refusals.{Number}

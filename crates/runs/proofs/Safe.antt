@@ -57,7 +57,7 @@ compiled place sheet rules program f q =
     }
 
 -- an output starts with what it holds
-lent : (room : ℕ) (xs : List ℕ) → take (length xs) (filled room xs) ≡ xs
+pub lent : (room : ℕ) (xs : List ℕ) → take (length xs) (filled room xs) ≡ xs
 unfolding filled
 lent room xs = take-append-seam xs (zeros (room - length xs))
 
@@ -105,18 +105,18 @@ module _ {sheet rules program : List ℕ} {f : FinalizedFunction} (made : Compil
 
 module _ (room : Room) (sheet rules program : List ℕ) (a : Answer) (k : Compiles room sheet rules program a) (z : a .number ≡ 0) where
   -- what the call gave back
-  given-back : (f : FinalizedFunction) × (compileInto (k .place) room sheet rules program ≡ ok f)
+  pub given-back : (f : FinalizedFunction) × (compileInto (k .place) room sheet rules program ≡ ok f)
   given-back = finished room _ (call-numbered (k .place) room sheet rules program) (sym (ap (λ (x : Answer). x .number) (k .is)) ∙ z)
 
-  abbrev f : FinalizedFunction
-  f = given-back .0
+  abbrev pub given : FinalizedFunction
+  given = given-back .0
 
-  is-answer : a ≡ answer room (ok f)
+  pub is-answer : a ≡ answer room (ok given)
   is-answer = k .is ∙ ap (λ x. answer room x) (given-back .1)
 
-  made : Compiled sheet rules program f
+  pub made : Compiled sheet rules program given
   unfolding compileInto
-  made = compiled (k .place) sheet rules program f (ok-demand _ _ _ _ f (given-back .1) .1)
+  made = compiled (k .place) sheet rules program given (ok-demand _ _ _ _ given (given-back .1) .1)
 
   -- Demand 3, of whatever a call that refuses nothing gave back.
   pub compiled-safe : Safe sheet rules program a

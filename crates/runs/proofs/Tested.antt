@@ -4,12 +4,13 @@ use mathlib.Core.Path.{_≡_, refl, sym, _∙_, ap, subst}
 use mathlib.Core.List.{List, [], _∷_, _++_, append-assoc}
 use mathlib.Core.Bool.{Bool, true, false}
 use mathlib.Core.Option.{Option, some, none}
+use Rattle.definition.specs.Limits.{width}
 use Rattle.definition.specs.Opcode.{CompareOp, commute}
-use Rattle.definition.specs.Tree.{Expr, read, compare, Stmt, Program}
+use Rattle.definition.specs.Tree.{Expr, read, compare, Stmt, Program, countsDown, bound}
 use Rattle.definition.specs.Emit.{Call, emitCmpBr}
 use Rattle.definition.specs.Walk.{Calls, after, _>>=_, _>>_, say, newLabel}
 use Rattle.definition.specs.CompileExpr.{ClassifiedCmp, readOf, constantOf, zip, orClassified, classify, emitClassifiedCmpBr}
-use Rattle.definition.specs.Stmt.{Loops, branchUnlessBy, branchUnless, countsDown, bound, endTestBy, emitFor, whileBy, emitWhile, repeatBy, emitRepeat, emitLoop, continues, emitStmt, emitBlock, emitRest, emitStmts}
+use Rattle.definition.specs.Stmt.{Loops, branchUnlessBy, branchUnless, endTestBy, emitFor, whileBy, emitWhile, repeatBy, emitRepeat, emitLoop, continues, emitStmt, emitBlock, emitRest, emitStmts}
 use Rattle.definition.specs.For.{Emits}
 use Rattle.definition.specs.Fused.{Tests, ofIf, ofWhile, ofRepeat, ofFor, FusedBranch, BranchOf}
 use Rattle.field.proofs.Results.{never, some-is}
@@ -102,7 +103,7 @@ stmt-has f (ofRepeat {i = i} {b = b} {k = k} {c = c} p) e loops =
     subst (λ x. Has f false (emitLoop x i (continues i b) (λ o. emitBlock b o) (λ o. emitRest b o) (λ o. emitBlock k o) loops)) (sym p)
     (inside f false _ λ head. inside f false _ λ end. sooner f false _ (repeat-has f i c (continues i b) (λ o. emitBlock b o) loops (classify c) head end e))
 stmt-has f (ofFor {v = v} {step = step} {to = to}) e loops = later f false _ (later f false _ (inside f false _ λ head. inside f false _ λ end.
-    later f false _ (sooner f false _ (end-constant f (bound (countsDown step)) v to (constantOf to) refl e end))))
+    later f false _ (sooner f false _ (end-constant f (bound (countsDown width step)) v to (constantOf to) refl e end))))
 
 -- A test that is fused, of a statement that the program emits, is a fused branch among that statement's calls.
 pub tested : (p : Program) {t : Stmt} (o : Emits p t) {c : Expr} {on : Bool} → Tests t c on → (f : ClassifiedCmp) → classify c ≡ some f → (b : FusedBranch (emitStmts (p .body) 0 .1)) × BranchOf p o c on b

@@ -12,7 +12,8 @@ use Rattle.definition.specs.Opcode.{Role, dup, pop, loadVar, storeVar, loadCons
 use Rattle.definition.specs.Rules.{hasRole}
 use Rattle.definition.specs.Runs.{target, offCode, open-Runs}
 use Rattle.definition.specs.Runs as runs
-use Rattle.definition.specs.Machine.{Image, State, Step, goes, finishes, stops, breaks, calculate, calculated, leadsTo, branchIf, compares, truth, execute, executeIf, isStart, roleAt, step, andThen, afterSteps, inRuns, outcomeOf, decided, decidedIn, stepInRuns, open-Machine}
+use Rattle.definition.specs.Iec.{calculate, truth}
+use Rattle.definition.specs.Machine.{Image, State, Step, goes, finishes, stops, breaks, calculated, leadsTo, branchIf, compares, execute, executeIf, isStart, roleAt, step, andThen, afterSteps, inRuns, outcomeOf, decided, decidedIn, stepInRuns, open-Machine}
 
 -- a run that has what its role needs, and the outcome of a branch, goes on behind the instruction or where it leads
 enough : (r : Role) (code : List ℕ) (p h : ℕ) (os : List Bool) → needs r ≤ h → runs.outOfOutcomes (flow r) os ≡ false

@@ -6,15 +6,16 @@ use mathlib.Core.List.{List, [], _∷_}
 use Prim.Native.Nat.{ℕ, zero, suc, _+_, _-_, _≤_, _<_}
 use native.Mathlib.Numerals.{sub-one}
 use native.Mathlib.Omega.{arith}
+use Rattle.definition.specs.Limits.{width}
 use Rattle.definition.specs.Opcode.{Sheet, CompareOp, Add}
 use Rattle.definition.specs.Opcode as role
-use Rattle.definition.specs.Tree.{Expr, Block, done, _then_, Pos}
+use Rattle.definition.specs.Tree.{Expr, Block, done, _then_, Pos, isDone, countsDown, bound}
 use Rattle.definition.specs.Program as def
 use Rattle.definition.specs.Program.{Line, is, I, F, L, StmtLine, lineAt, nextLine, stmtForms, stmtOf, blockOf}
 use Rattle.definition.specs.CompileExpr.{ClassifiedCmp, constantOf, classify, emitClassifiedCmpBr}
 use Rattle.definition.specs.Emit.{bindLabel, loadVariable, loadConstant, storeVariable, emitOpcode, emitJmp, emitJmpIfNot}
 use Rattle.definition.specs.Expr.{emitExpr}
-use Rattle.definition.specs.Stmt.{continues, continuesStmt, isDone, branchUnless, branchUnlessBy, elsePart, countsDown, bound, endTestBy, emitFor, emitStmt, emitBlock}
+use Rattle.definition.specs.Stmt.{continues, continuesStmt, branchUnless, branchUnlessBy, elsePart, endTestBy, emitFor, emitStmt, emitBlock}
 use Rattle.program.specs.declared.Cursor.{Cursor}
 use Rattle.program.specs.Walk.{cursorOf, Near, Skipped}
 use Rattle.program.proofs.Laws.{stmt-is}
@@ -169,7 +170,7 @@ module _ (s : Sheet) (ctx : Context) (text : List ℕ) (i v step n : ℕ) {d : d
   pub for-done : {e e₂ e₃ e₄ e₅ : Emitter} {code book pool k₂ b₂ b₃ b₄ b₅ ls ls₇ : List ℕ} {head end : ℕ} {w₁ w₆ w₇ w₈ : World} {c₁ c₆ c₇ : Cursor}
       → WentExpr s 0 (exprIn ctx text (cursorOf c)) text (world e code book pool) w₁ c₁ → Coded (call s (storeVariable v)) (w₁ .e) (w₁ .code) (w₁ .book) e₂ k₂ b₂
       → Created e₂ b₂ e₃ b₃ head → Created e₃ b₃ e₄ b₄ end → Booked (bindLabel head) e₄ b₄ e₅ b₅
-      → Went s (endTestBy (constantOf (exprIn ctx text (cursorOf to) .0)) (bound (countsDown step)) v (exprIn ctx text (cursorOf to) .0) end) text (exprIn ctx text (cursorOf to) .1) (world e₅ k₂ b₅ (w₁ .pool)) w₆ c₆
+      → Went s (endTestBy (constantOf (exprIn ctx text (cursorOf to) .0)) (bound (countsDown width step)) v (exprIn ctx text (cursorOf to) .0) end) text (exprIn ctx text (cursorOf to) .1) (world e₅ k₂ b₅ (w₁ .pool)) w₆ c₆
       → RanBody s ctx text i end n (cursorOf c₆) w₆ w₇ ls ls₇ c₇
       → Filled (run s (forEnd v step head end)) w₇ w₈
       → RanFor s ctx text i v step n d (world e code book pool) w₈ ls ls₇ c₇

@@ -9,7 +9,7 @@ use native.Mathlib.Numerals.{add-one}
 use native.Mathlib.Omega.{arith}
 use lib.Dec.{eqb}
 use Rattle.definition.specs.Opcode.{Sheet}
-use Rattle.definition.specs.Tree.{Expr, Stmt, Block, done, _then_}
+use Rattle.definition.specs.Tree.{Expr, Stmt, Block, done, _then_, shape, while, repeat, plain}
 use Rattle.definition.specs.Program as def
 use Rattle.definition.specs.Program.{nextLine, stmtAt, blockOf}
 use Rattle.definition.specs.CompileExpr.{ClassifiedCmp, classify, emitClassifiedCmpBr}
@@ -17,7 +17,7 @@ use Rattle.definition.specs.Emit.{bindLabel, addConstant, emitJmp, emitJmpIfNot
 use Rattle.definition.specs.Walk.{Calls, say}
 use Rattle.definition.specs.Walk as walk
 use Rattle.definition.specs.Expr.{emitExpr}
-use Rattle.definition.specs.Stmt.{Loops, continues, branchUnless, branchUnlessBy, loopBody, whileBy, emitWhile, repeatBy, emitRepeat, emitPlain, emitLoop, shape, while, repeat, plain, emitBlock, emitRest}
+use Rattle.definition.specs.Stmt.{Loops, continues, branchUnless, branchUnlessBy, loopBody, whileBy, emitWhile, repeatBy, emitRepeat, emitPlain, emitLoop, emitBlock, emitRest}
 use Rattle.program.specs.declared.Cursor.{Cursor}
 use Rattle.program.specs.Walk.{cursorOf, Near, Skipped}
 use Rattle.program_shape.specs.Shape.{blockAt, Shaped}

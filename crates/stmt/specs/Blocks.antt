@@ -6,13 +6,13 @@ use mathlib.Core.List.{List, [], _∷_}
 use Prim.Native.Nat.{ℕ}
 use Rattle.definition.specs.Opcode.{Sheet}
 use Rattle.definition.specs.Opcode as role
-use Rattle.definition.specs.Tree.{Source, Expr, Block, done, _then_, Arms, CaseLabel}
+use Rattle.definition.specs.Tree.{Source, Expr, Block, done, _then_, Arms, CaseLabel, isDone, shape}
 use Rattle.definition.specs.Program as def
 use Rattle.definition.specs.Program.{Line, is, not, A, I, S, F, L, X, N, R, armsAt, stmtAt}
 use Rattle.definition.specs.Expr.{emitExpr}
 use Rattle.definition.specs.Emit.{storeVariable, emitOpcode, bindLabel}
 use Rattle.definition.specs.Walk.{Calls, _>>=_, _>>_, say, nothing, newLabel}
-use Rattle.definition.specs.Stmt.{Loops, continues, isDone, branchUnless, elsePart, emitStmt, emitBlock, emitRest, emitLoop, recordPosition, sourceOf, shape, emitArms}
+use Rattle.definition.specs.Stmt.{Loops, continues, branchUnless, elsePart, emitStmt, emitBlock, emitRest, emitLoop, recordPosition, sourceOf, emitArms}
 use Rattle.emit.specs.declared.Emitter.{Emitter}
 use Rattle.emit.specs.View.{World, world}
 use Rattle.emit.specs.Steps.{run, Ready, Fine, Filled}

@@ -6,11 +6,11 @@ use mathlib.Core.List.{List}
 use Prim.Native.Nat.{ℕ, _-_}
 use lib.Dec.{eqb}
 use Rattle.definition.specs.Opcode.{Sheet}
-use Rattle.definition.specs.Tree.{Expr, Block, Arms, CaseLabel}
+use Rattle.definition.specs.Tree.{Expr, Block, Arms, CaseLabel, isDone}
 use Rattle.definition.specs.Program as def
 use Rattle.definition.specs.Program.{labelsAt}
 use Rattle.definition.specs.Walk.{Calls}
-use Rattle.definition.specs.Stmt.{Loops, continues, continuesStmt, continuesArms, isDone, elsePart, loopBody, emitFor, emitWhile, emitRepeat, emitPlain, emitStmt, emitBlock, emitArm, emitArms}
+use Rattle.definition.specs.Stmt.{Loops, continues, continuesStmt, continuesArms, elsePart, loopBody, emitFor, emitWhile, emitRepeat, emitPlain, emitStmt, emitBlock, emitArm, emitArms}
 use Rattle.program.specs.declared.Cursor.{Cursor}
 use Rattle.program.specs.Walk.{Skipped}
 use Rattle.emit.specs.View.{World}

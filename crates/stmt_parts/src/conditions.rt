@@ -2,9 +2,10 @@
 ghost use mathlib.Core.Path.{_≡_};
 ghost use mathlib.Core.Option.{none};
 ghost use Prim.Native.Nat.{_≤_};
-ghost use Rattle.definition.specs.Limits.{maxNesting};
+ghost use Rattle.definition.specs.Limits.{maxNesting, width};
 ghost use Rattle.definition.specs.CompileExpr.{constantOf, classify};
-ghost use Rattle.definition.specs.Stmt.{branchUnless, endTestBy, bound, countsDown};
+ghost use Rattle.definition.specs.Tree.{bound, countsDown};
+ghost use Rattle.definition.specs.Stmt.{branchUnless, endTestBy};
 ghost use Rattle.opcode.specs.Table.{sheetIn};
 ghost use Rattle.opcode.specs.View.{compareView};
 ghost use Rattle.program.specs.Walk.{cursorOf, Near};
@@ -80,7 +81,7 @@ pub fn branch_unless(
 
 // What a FOR's control must be within: a step below 0 counts down.
 fn within(step: Constant) -> CompareOp
-    ensures { λ r. ⌜ compareView r ≡ bound (countsDown step) ⌝ }
+    ensures { λ r. ⌜ compareView r ≡ bound (countsDown width step) ⌝ }
 {
     if step >= NEGATIVE {
         CompareOp::Ge
@@ -108,7 +109,7 @@ pub fn end_test(
     requires { ⌜ Ready (world e (now code) (now book) (now pool)) ⌝ }
     requires { ⌜ ctx .left ≤ maxNesting ⌝ }
     requires { ⌜ Sided (exprIn ctx (now text) (cursorOf c) .0) seen ⌝ }
-    ensures { λ r. ⌜ Went (sheetIn (now (sheet .entry))) (endTestBy (constantOf (exprIn ctx (now (text .entry)) (cursorOf c) .0)) (bound (countsDown step)) v (exprIn ctx (now (text .entry)) (cursorOf c) .0) (end .0)) (now (text .entry)) (exprIn ctx (now (text .entry)) (cursorOf c) .1) (world e (now (code .entry)) (now (book .entry)) (now (pool .entry))) (world (r .emitter) (now (code .exit)) (now (book .exit)) (now (pool .exit))) (r .cursor) ⌝ }
+    ensures { λ r. ⌜ Went (sheetIn (now (sheet .entry))) (endTestBy (constantOf (exprIn ctx (now (text .entry)) (cursorOf c) .0)) (bound (countsDown width step)) v (exprIn ctx (now (text .entry)) (cursorOf c) .0) (end .0)) (now (text .entry)) (exprIn ctx (now (text .entry)) (cursorOf c) .1) (world e (now (code .entry)) (now (book .entry)) (now (pool .entry))) (world (r .emitter) (now (code .exit)) (now (book .exit)) (now (pool .exit))) (r .cursor) ⌝ }
 {
     let op = within(step);
     match seen {

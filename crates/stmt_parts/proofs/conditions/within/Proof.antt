@@ -1,5 +1,5 @@
 -- Made by `answers` from crates/stmt_parts/answers/conditions/within.txt: edit that file, not this one.
-use Rattle.definition.specs.Stmt.{bound, countsDown}
+use Rattle.definition.specs.Tree.{bound, countsDown}
 use borrow.Author.Tests.{le-leb, lt-leb}
 use Rattle.stmt_parts.proofs.conditions.within.Statement.{statement}
 use Rattle.stmt_parts.proofs.conditions.within.Tie as tie
