@@ -17,7 +17,7 @@ use Rattle.definition.specs.Emit as def
 use Rattle.definition.specs.Stmt.{emitStmts}
 use Rattle.definition.specs.Compile as compile
 use Rattle.definition.specs.Compile.{FinalizedFunction, finalizeFunction, emitProgram, compileProgram, compileFiles, compileInto, Room, roomy, answer, Free, Compiles}
-use Rattle.definition.specs.Claims.{Safe}
+use Rattle.definition.specs.Claims.{Safe, Faithful}
 use Rattle.opcode.specs.declared.sheet.SheetRead.{SheetRead}
 use Rattle.opcode.specs.declared.sheet.SheetRead.the-variants as sheets
 use Rattle.opcode.specs.Table.{Good, sheetIn}
@@ -41,6 +41,7 @@ use Rattle.store.specs.Fill.{fitted}
 use Rattle.store.proofs.Fills.{fitted-is, front, length-filled}
 use Rattle.optimize.proofs.Entry.{place-by, rules-read, rules-bad}
 use Rattle.runs.proofs.Safe.{compiled-safe}
+use Rattle.meaning.proofs.Faithful.{compiled-faithful}
 use Rattle.compile.specs.declared.call.Outcome.{Outcome}
 use Rattle.compile.specs.declared.call.Outcome.the-variants.{Refused, Finished}
 use Rattle.compile.specs.View.{Patchable}
@@ -159,6 +160,6 @@ module _ (sheet rules program : List ℕ) (r : Room) {a : compile.Answer} where
 pub sheet-good : (sheet table : List ℕ) (f : SheetRead) → Reads sheet table (answerOf f) → f ≡ sheets.Accepted → Good (sheetIn table)
 sheet-good sheet table f h e = let d : Accepts sheet table = rw e at h in good sheet (sheetIn table) (d .is)
 
--- what the call answers, and demand 3 of it
-pub answered : {r : Room} {sheet rules program : List ℕ} {a : compile.Answer} → Compiles r sheet rules program a → Compiles r sheet rules program a × (a .number ≡ 0 → Safe sheet rules program a)
-answered {r} {sheet} {rules} {program} {a} k = (k, λ z. compiled-safe r sheet rules program a k z)
+-- what the call answers, demand 3 of it and, for an empty rule file, that it does what the statements say
+pub answered : {r : Room} {sheet rules program : List ℕ} {a : compile.Answer} → Compiles r sheet rules program a → Compiles r sheet rules program a × ((a .number ≡ 0 → Safe sheet rules program a) × (a .number ≡ 0 → length rules ≡ 0 → Faithful sheet program a))
+answered {r} {sheet} {rules} {program} {a} k = (k, (λ z. compiled-safe r sheet rules program a k z, λ z e. compiled-faithful r sheet rules program a k z e))

@@ -3,7 +3,7 @@
 ghost use mathlib.Core.Path.{_≡_};
 ghost use lib.ListN.{length};
 ghost use Rattle.definition.specs.Compile.{compileProgram, Compiles};
-ghost use Rattle.definition.specs.Claims.{Safe};
+ghost use Rattle.definition.specs.Claims.{Safe, Faithful};
 ghost use Rattle.opcode.specs.Table.{IsTable, Good, sheetIn};
 ghost use Rattle.rules.specs.View.{rulesIn};
 ghost use Rattle.line_map.specs.View.{posView};
@@ -184,6 +184,7 @@ pub fn compile(
 ) -> Answer
     ensures { λ r. ⌜ Compiles (room (now (code .entry)) (now (constants .entry)) (now (lines .entry))) (now (sheet .entry)) (now (rules .entry)) (now (program .entry)) (answerView r (now (code .exit)) (now (constants .exit)) (now (lines .exit))) ⌝ }
     ensures { λ r. ⌜ (r .number ≡ 0 → Safe (now (sheet .entry)) (now (rules .entry)) (now (program .entry)) (answerView r (now (code .exit)) (now (constants .exit)) (now (lines .exit)))) ⌝ }
+    ensures { λ r. ⌜ (r .number ≡ 0 → length (now (rules .entry)) ≡ 0 → Faithful (now (sheet .entry)) (now (program .entry)) (answerView r (now (code .exit)) (now (constants .exit)) (now (lines .exit)))) ⌝ }
 {
     if !call::roomy(code.len(), constants.len(), lines.len()) {
         return call::refuse(OUTPUT_SHORT, 0, code, constants, lines);

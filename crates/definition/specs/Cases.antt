@@ -1,6 +1,6 @@
--- Document 01's cases a to k, from the text of the three files on, as entries of one list that is computed; and what the listing prints for
--- its example.
-use Prim.Native.Nat.{ℕ}
+-- Document 01's cases a to k, from the text of the three files on, as entries of one list that is computed; what the listing prints for its example; and
+-- what small programs mean, from their text on.
+use Prim.Native.Nat.{ℕ, _-_, _^_}
 use Prim.Native.String.{String}
 use Prim.Native.String.{[] as []ˢ, _∷_ as _∷ˢ_}
 use Prim.Native.Char.{code}
@@ -8,14 +8,16 @@ use mathlib.Core.Path.{_≡_, refl}
 use mathlib.Core.List.{List, [], _∷_, _++_}
 use mathlib.Core.Bool.{Bool, true, false, _&&_}
 use lib.Dec.{eqb}
+use Rattle.definition.specs.Limits.{width}
 use Rattle.definition.specs.Res.{Res, ok, refuse, open-Res}
 use Rattle.definition.specs.Field.{open-Field}
 use Rattle.definition.specs.Opcode.{open-Opcode}
-use Rattle.definition.specs.Iec.{open-Iec}
+use Rattle.definition.specs.Iec.{Values, open-Iec}
 use Rattle.definition.specs.Sheet.{open-Sheet}
-use Rattle.definition.specs.Tree.{open-Tree}
+use Rattle.definition.specs.Tree.{Program, open-Tree}
+use Rattle.definition.specs.Meaning.{Answer, ends, exits, continues, returns, stops, spent, runBlock, open-Meaning}
 use Rattle.definition.specs.Rules.{open-Rules}
-use Rattle.definition.specs.Program.{open-Program}
+use Rattle.definition.specs.Program.{readProgram, open-Program}
 use Rattle.definition.specs.Emit.{open-Emit}
 use Rattle.definition.specs.Walk.{open-Walk}
 use Rattle.definition.specs.CompileExpr.{open-CompileExpr}
@@ -35,7 +37,7 @@ use Rattle.definition.specs.Passes.{open-Passes}
 
 -- `unfolding open-Definition` names every definition of the crate
 unfoldable pub open-Definition : Unit {0}
-unfolding open-Res open-Field open-Opcode open-Iec open-Sheet open-Rules open-Tree open-Program open-Emit open-Walk open-CompileExpr open-Expr open-Stmt open-Rewrite open-Optimize open-Lent open-Compile open-Alone open-Runs open-Machine open-For open-Count open-Listing open-Passes
+unfolding open-Res open-Field open-Opcode open-Iec open-Sheet open-Rules open-Tree open-Meaning open-Program open-Emit open-Walk open-CompileExpr open-Expr open-Stmt open-Rewrite open-Optimize open-Lent open-Compile open-Alone open-Runs open-Machine open-For open-Count open-Listing open-Passes
 open-Definition = tt
 
 unfoldable pub bytes : String → List ℕ
@@ -167,3 +169,78 @@ cases-right = refl
 pub listing-right : text (listed 0 (plainSheet ++ bytes "0\nP,1,1,1,1\nA,1,1,0\nK,7\n")) ≡ bytes "0,6,1,1,1\nk,7\nl,0,1,1\nb,0,5,0,0\nb,3,4,0,0\n"
 unfolding open-Definition bytes plainSheet
 listing-right = refl
+
+-- ---- what statements mean (document 02, L13)
+
+-- a program, its fuel, v0 and v1 at first (others hold 0), and what it comes to: see `shown`
+pub record Meant : Type 0 where
+  pub program : String
+  pub fuel : ℕ
+  pub v0 : ℕ
+  pub v1 : ℕ
+  pub comes : List ℕ
+
+-- how statements come out, and v0 and v1 then
+unfoldable pub shown : Answer → List ℕ
+shown (ends σ) = 0 ∷ σ 0 ∷ σ 1 ∷ []
+shown (returns σ) = 1 ∷ σ 0 ∷ σ 1 ∷ []
+shown (stops σ) = 2 ∷ σ 0 ∷ σ 1 ∷ []
+shown spent = 3 ∷ []
+shown (exits i σ) = 4 ∷ []
+shown (continues i σ) = 5 ∷ []
+
+unfoldable pub minus : ℕ → ℕ
+minus n = 2 ^ width - n
+
+unfoldable pub meanings : List Meant
+meanings =
+    -- H: the right side's own value, unless the left side decides; then the right side is not worked out
+    record { program = "P,1,1,0,0\nA,0,0,0\nH,0\nK,1\nK,5\n"; fuel = 0; v0 = 9; v1 = 9; comes = 0 ∷ 5 ∷ 9 ∷ [] }
+    ∷ record { program = "P,1,1,0,0\nA,0,0,0\nH,1\nK,0\nK,5\n"; fuel = 0; v0 = 9; v1 = 9; comes = 0 ∷ 5 ∷ 9 ∷ [] }
+    ∷ record { program = "P,1,1,0,0\nA,0,0,0\nH,1\nK,5\nK,7\n"; fuel = 0; v0 = 9; v1 = 9; comes = 0 ∷ 1 ∷ 9 ∷ [] }
+    ∷ record { program = "P,2,1,0,0\nA,0,0,0\nH,0\nK,0\nO,3\nK,1\nD,1\n"; fuel = 0; v0 = 9; v1 = 0; comes = 0 ∷ 0 ∷ 0 ∷ [] }
+    -- division drops the fraction, modulo has the dividend's sign; the minimum by -1; a zero divisor
+    ∷ record { program = "P,1,1,0,0\nA,0,0,0\nO,3\nK,-7\nK,2\n"; fuel = 0; v0 = 9; v1 = 9; comes = 0 ∷ minus 3 ∷ 9 ∷ [] }
+    ∷ record { program = "P,1,1,0,0\nA,0,0,0\nO,4\nK,-7\nK,2\n"; fuel = 0; v0 = 9; v1 = 9; comes = 0 ∷ minus 1 ∷ 9 ∷ [] }
+    ∷ record { program = "P,1,1,0,0\nA,0,0,0\nO,4\nK,7\nK,-2\n"; fuel = 0; v0 = 9; v1 = 9; comes = 0 ∷ 1 ∷ 9 ∷ [] }
+    ∷ record { program = "P,1,1,0,0\nA,0,0,0\nO,3\nK,-2147483648\nK,-1\n"; fuel = 0; v0 = 9; v1 = 9; comes = 0 ∷ 2 ^ (width - 1) ∷ 9 ∷ [] }
+    ∷ record { program = "P,1,1,0,0\nA,0,0,0\nO,4\nK,-2147483648\nK,-1\n"; fuel = 0; v0 = 9; v1 = 9; comes = 0 ∷ 0 ∷ 9 ∷ [] }
+    ∷ record { program = "P,2,1,0,0\nA,0,0,0\nO,4\nK,1\nD,1\n"; fuel = 0; v0 = 9; v1 = 0; comes = 2 ∷ 9 ∷ 0 ∷ [] }
+    -- a bool operation gives 0 or 1
+    ∷ record { program = "P,1,1,0,0\nA,0,0,0\nO,5\nK,2\nK,4\n"; fuel = 0; v0 = 9; v1 = 9; comes = 0 ∷ 1 ∷ 9 ∷ [] }
+    -- FOR v0 := 1 TO v1 DO v1 := v1 - 1: two passes, since the end is worked out afresh; with fuel for one way back it is out of fuel
+    ∷ record { program = "P,2,1,0,0\nF,0,0,0,0,1,1\nK,1\nD,1\nA,0,0,1\nO,1\nD,1\nK,1\n"; fuel = 2; v0 = 9; v1 = 4; comes = 0 ∷ 3 ∷ 2 ∷ [] }
+    ∷ record { program = "P,2,1,0,0\nF,0,0,0,0,1,1\nK,1\nD,1\nA,0,0,1\nO,1\nD,1\nK,1\n"; fuel = 1; v0 = 9; v1 = 4; comes = 3 ∷ [] }
+    -- FOR v0 := 5 TO 1 / v1: stops behind the first store
+    ∷ record { program = "P,2,1,0,0\nF,0,0,0,0,1,0\nK,5\nO,3\nK,1\nD,1\n"; fuel = 0; v0 = 9; v1 = 0; comes = 2 ∷ 5 ∷ 0 ∷ [] }
+    -- step 0 counts up: FOR v0 := 1 TO 0 BY 0 makes no pass. A negative step counts down
+    ∷ record { program = "P,1,1,0,0\nF,0,0,0,0,0,0\nK,1\nK,0\n"; fuel = 9; v0 = 9; v1 = 9; comes = 0 ∷ 1 ∷ 9 ∷ [] }
+    ∷ record { program = "P,1,1,0,0\nF,0,0,0,0,-1,0\nK,2\nK,1\n"; fuel = 2; v0 = 9; v1 = 9; comes = 0 ∷ 0 ∷ 9 ∷ [] }
+    -- the X in `continuing` leaves the loop around; the one of a REPEAT its own loop
+    ∷ record { program = "P,2,1,0,0\nL,0,0,1,3,0\nL,0,0,1,0,1\nX,0,0,1\nA,0,0,1\nK,1\nR,0,0\n"; fuel = 3; v0 = 9; v1 = 7; comes = 0 ∷ 9 ∷ 7 ∷ [] }
+    ∷ record { program = "P,2,1,0,0\nL,0,0,1,3,0\nL,0,0,1,0,1\nI,0,0,1,0\nB,1\nX,0,0,1\nA,0,0,1\nK,1\nR,0,0\n"; fuel = 3; v0 = 9; v1 = 7; comes = 1 ∷ 9 ∷ 1 ∷ [] }
+    -- WHILE v0 > 0 DO v0 := v0 - 1
+    ∷ record { program = "P,1,1,0,0\nL,0,0,0,2,0\nI,0,0,0,1\nC,4\nD,0\nK,0\nX,0,0,0\nA,0,0,0\nO,1\nD,0\nK,1\n"; fuel = 3; v0 = 3; v1 = 7; comes = 0 ∷ 0 ∷ 7 ∷ [] }
+    ∷ record { program = "P,1,1,0,0\nL,0,0,0,2,0\nI,0,0,0,1\nC,4\nD,0\nK,0\nX,0,0,0\nA,0,0,0\nO,1\nD,0\nK,1\n"; fuel = 2; v0 = 3; v1 = 7; comes = 3 ∷ [] }
+    -- CONTINUE leads to a REPEAT's test: REPEAT v0 := v0 - 1; CONTINUE; v1 := 1 UNTIL v0 = 0
+    ∷ record { program = "P,2,1,0,0\nL,0,0,0,3,1\nA,0,0,0\nO,1\nD,0\nK,1\nN,0,0,0\nA,0,0,1\nK,1\nI,0,0,1,0\nC,0\nD,0\nK,0\nX,0,0,0\n"; fuel = 9; v0 = 3; v1 = 7; comes = 0 ∷ 0 ∷ 7 ∷ [] }
+    -- CASE v0 OF (no label): v1 := 1; 5..1: v1 := 2; 1, 2..4: v1 := 3; 3: v1 := 4 ELSE v1 := 5
+    ∷ record { program = "P,2,1,0,0\nS,0,0,4,1\nD,0\nM,0,1\nA,0,0,1\nK,1\nM,1,1\nG,5,1\nA,0,0,1\nK,2\nM,2,1\nQ,1\nG,2,4\nA,0,0,1\nK,3\nM,1,1\nQ,3\nA,0,0,1\nK,4\nA,0,0,1\nK,5\n"; fuel = 0; v0 = 3; v1 = 7; comes = 0 ∷ 3 ∷ 3 ∷ [] }
+    -- an empty loop
+    ∷ record { program = "P,0,1,0,0\nL,0,0,0,0,0\n"; fuel = 20; v0 = 3; v1 = 7; comes = 3 ∷ [] }
+    ∷ []
+
+unfoldable pub firstly : ℕ → ℕ → Values
+firstly a b = λ v. elim (eqb v 0) [ true ↦ a | false ↦ elim (eqb v 1) [ true ↦ b | false ↦ 0 ] ]
+
+unfoldable pub isMeant : Meant → Res Program → Bool
+isMeant m (refuse n p) = false
+isMeant m (ok p) = same (shown (runBlock width (p .body) (m .fuel) (firstly (m .v0) (m .v1)))) (m .comes)
+
+unfoldable pub allMeant : List Meant → Bool
+allMeant [] = true
+allMeant (m ∷ ms) = isMeant m (readProgram (bytes (m .program))) && allMeant ms
+
+pub meanings-right : allMeant meanings ≡ true
+unfolding open-Definition bytes same minus shown meanings firstly isMeant allMeant
+meanings-right = refl

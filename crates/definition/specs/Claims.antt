@@ -1,4 +1,5 @@
--- What demand 3 claims of finished code, in document 01's words: how a run may stand, and where the branches are and lead.
+-- What is claimed of finished code: demand 3 in document 01's words (how a run may stand, and where the branches are and lead), and document 02's L13 (it does
+-- what the statements say).
 use Prim.Native.Nat.{ℕ, _+_, _≤_, _<_}
 use mathlib.Core.Path.{_≡_}
 use mathlib.Core.List.{List, [], _∷_, map}
@@ -11,7 +12,8 @@ use Rattle.definition.specs.Field.{has}
 use Rattle.definition.specs.Opcode.{Role, Sheet, roleOf, size, Flow, onward, away, either, stop, flow}
 use Rattle.definition.specs.Sheet.{readSheet}
 use Rattle.definition.specs.Rules.{Rule, matches, readRules}
-use Rattle.definition.specs.Tree.{Program}
+use Rattle.definition.specs.Iec.{Values}
+use Rattle.definition.specs.Tree.{Block, Program}
 use Rattle.definition.specs.Program.{readProgram}
 use Rattle.definition.specs.Rewrite.{Bytes, opcodeOf, decode, startsFrom, OffsetMap, movedTo, applyPeephole}
 use Rattle.definition.specs.Optimize.{Pipeline, run, identity}
@@ -21,6 +23,8 @@ use Rattle.definition.specs.Compile.{jumpTargets, emitProgram, Answer}
 use Rattle.definition.specs.Runs.{State, Break, finishes, breaks, Stand, start, target}
 use Rattle.definition.specs.Runs as runs
 use Rattle.definition.specs.Machine.{Image}
+use Rattle.definition.specs.Machine as machine
+use Rattle.definition.specs.Meaning.{ends, exits, continues, returns, stops, spent, runBlock}
 use Rattle.definition.specs.Fused.{FusedBranch, Decides}
 use Rattle.definition.specs.For.{placeAfter}
 
@@ -141,6 +145,49 @@ pub record Safe (sheet rules program : List ℕ) (a : Answer) : Type 0 where
   pub fits : a .codeLength ≤ maxCode
   pub safe : SafeCode s rs tree e (take (a .codeLength) (a .code)) (take (a .constantCount) (a .constants)) (a .depth)
 
+-- ---- what the statements say (document 02, L13)
+
+-- where a run with values begins
+unfoldable pub begin : Values → machine.State
+begin σ = record { place = 0; stack = []; variables = σ }
+
+-- the run from σ goes on to a state whose step is z, with the variables τ
+pub record Until (m : Image) (z : machine.Step) (σ τ : Values) : Type 0 where
+  pub steps : ℕ
+  pub last : machine.State
+  pub there : machine.afterSteps m steps (begin σ) ≡ some last
+  pub is : machine.step m last ≡ z
+  pub values : last .variables ≡ τ
+
+pub record Finishes (m : Image) (σ τ : Values) : Type 0 where
+  pub run : Until m machine.finishes σ τ
+  pub empty : run .last .stack ≡ []
+
+-- "from any starting values, running the code gives each variable the value the statements give it". The statements' answers: f is their fuel
+pub record DoesAsSaid (m : Image) (b : Block) (σ : Values) : Type 0 where
+  -- they end at τ, or return there: so does the code, with nothing on its stack
+  pub ends : (f : ℕ) (τ : Values) → runBlock (m .width) b f σ ≡ ends τ → Finishes m σ τ
+  pub returns : (f : ℕ) (τ : Values) → runBlock (m .width) b f σ ≡ returns τ → Finishes m σ τ
+  -- "a zero divisor .. stops both sides at the same variables"
+  pub stops : (f : ℕ) (τ : Values) → runBlock (m .width) b f σ ≡ stops τ → Until m machine.stops σ τ
+  -- "if the statements never end, neither does the code"
+  pub endless : ((f : ℕ) → runBlock (m .width) b f σ ≡ spent) → (n : ℕ) → (y : machine.State) × (machine.afterSteps m n (begin σ) ≡ some y)
+  -- and they come to nothing else: no EXIT and no CONTINUE leads out of them
+  pub exitsNever : (f i : ℕ) (τ : Values) → runBlock (m .width) b f σ ≡ exits i τ → ⊥
+  pub continuesNever : (f i : ℕ) (τ : Values) → runBlock (m .width) b f σ ≡ continues i τ → ⊥
+
+-- the code and the constants that a call's outputs hold
+unfoldable pub imageIn : Sheet → Answer → Image
+imageIn s a = record { width = width; sheet = s; bytecode = take (a .codeLength) (a .code); constants = take (a .constantCount) (a .constants) }
+
+-- "for programs with an empty rule file": what a call that answers number 0 read, and what its code does, from any starting values
+pub record Faithful (sheet program : List ℕ) (a : Answer) : Type 0 where
+  pub s : Sheet
+  pub tree : Program
+  pub sheetRead : readSheet sheet ≡ some s
+  pub programRead : readProgram program ≡ ok tree
+  pub does : (σ : Values) → DoesAsSaid (imageIn s a) (tree .body) σ
+
 -- ---- heights by place: no claim of document 01
 
 -- Each place of some code has one height, `heightAt`: a run that stands there, over whatever outcomes and after however many steps, has it
@@ -155,5 +202,5 @@ pub record OneHeight (s : Sheet) (code : List ℕ) (depth : ℕ) : Type 0 where
 
 -- `unfolding open-Claims` names all of this module's definitions at once
 unfoldable pub open-Claims : Unit {0}
-unfolding branches isBranch branchesFrom branchPlaces unmoved passMap inTurn
+unfolding branches isBranch branchesFrom branchPlaces unmoved passMap inTurn begin imageIn
 open-Claims = tt

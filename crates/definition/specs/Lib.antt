@@ -6,6 +6,7 @@ pub mod Iec
 pub mod Sheet
 pub mod Rules
 pub mod Tree
+pub mod Meaning
 pub mod Program
 pub mod Emit
 pub mod Walk

@@ -1,8 +1,9 @@
 // The library for the phone, the rig and the log reader (`rt staticlib mezhukan`, for a program in C or Rust to link): the call, and rewriting called alone.
 ghost use mathlib.Core.Path.{_≡_};
+ghost use lib.ListN.{length};
 ghost use Rattle.definition.specs.Compile.{Compiles};
 ghost use Rattle.definition.specs.Alone.{Rewrites};
-ghost use Rattle.definition.specs.Claims.{Safe};
+ghost use Rattle.definition.specs.Claims.{Safe, Faithful};
 ghost use Rattle.compile.specs.Call as call;
 ghost use Rattle.optimize.specs.View as alone;
 ghost use Rattle.mezhukan.specs.Exported.{compiled, rewritten};
@@ -27,6 +28,7 @@ pub extern "C" fn mezhukan_compile(
     ensures { λ r. ⌜ Compiles (call.room (now (code .entry)) (now (constants .entry)) (now (lines .entry))) (now (sheet .entry)) (now (rules .entry)) (now (program .entry)) (compiled (now (answer .exit)) (now (code .exit)) (now (constants .exit)) (now (lines .exit))) ⌝ }
     ensures { λ r. ⌜ r ≡ compiled (now (answer .exit)) (now (code .exit)) (now (constants .exit)) (now (lines .exit)) .number ⌝ }
     ensures { λ r. ⌜ (r ≡ 0 → Safe (now (sheet .entry)) (now (rules .entry)) (now (program .entry)) (compiled (now (answer .exit)) (now (code .exit)) (now (constants .exit)) (now (lines .exit)))) ⌝ }
+    ensures { λ r. ⌜ (r ≡ 0 → length (now (rules .entry)) ≡ 0 → Faithful (now (sheet .entry)) (now (program .entry)) (compiled (now (answer .exit)) (now (code .exit)) (now (constants .exit)) (now (lines .exit)))) ⌝ }
 {
     let a = compile::entry::compile(sheet, rules, program, code, constants, lines);
     *answer = [
