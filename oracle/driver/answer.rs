@@ -4,11 +4,14 @@ use oracle::alone::{self, Unread};
 use oracle::listing::{self, Fault};
 use oracle::reader::{self, Refusal};
 
-/// Which of the two programs an input is for.
+use crate::runs;
+
+/// What an input is for: one of our two programs, or the interpreter.
 #[derive(Clone, Copy)]
 pub enum Program {
     Listing,
     Passes,
+    Meaning,
 }
 
 /// The answer, or what went wrong in the published code.
@@ -20,7 +23,7 @@ const UNPARSED: &str = "unparsed\n";
 /// Whether the published code gave an answer: else the plain reader did.
 pub fn is_from_rust(program: Program, answer: &str) -> bool {
     match program {
-        Program::Listing => answer != UNPARSED,
+        Program::Listing | Program::Meaning => answer != UNPARSED,
         Program::Passes => answer.starts_with("0,"),
     }
 }
@@ -30,7 +33,13 @@ pub fn answer(program: Program, input: &[u8], reading: bool) -> Answer {
     match program {
         Program::Listing => listed(input, reading),
         Program::Passes => passed(input),
+        Program::Meaning => runs::answer(input, reading),
     }
+}
+
+/// The numbers of a printed line behind so many fields of it.
+pub fn fields<T: std::str::FromStr>(line: &str, skipped: usize) -> Vec<T> {
+    line.trim_end().split(',').skip(skipped).filter_map(|field| field.parse().ok()).collect()
 }
 
 fn refused(refusal: Refusal) -> String {

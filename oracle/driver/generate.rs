@@ -11,11 +11,13 @@ pub enum Kind {
     Short,
     /// The passes called alone, at random.
     Passes,
+    /// Programs without rules at random, with starting values.
+    Meaning,
 }
 
 impl Kind {
     pub fn of(name: &str) -> Option<Kind> {
-        [Kind::Programs, Kind::Short, Kind::Passes].into_iter().find(|kind| kind.name() == name)
+        [Kind::Programs, Kind::Short, Kind::Passes, Kind::Meaning].into_iter().find(|kind| kind.name() == name)
     }
 
     pub fn name(self) -> &'static str {
@@ -23,6 +25,7 @@ impl Kind {
             Kind::Programs => "programs",
             Kind::Short => "short",
             Kind::Passes => "passes",
+            Kind::Meaning => "meaning",
         }
     }
 
@@ -30,6 +33,7 @@ impl Kind {
         match self {
             Kind::Programs | Kind::Short => Program::Listing,
             Kind::Passes => Program::Passes,
+            Kind::Meaning => Program::Meaning,
         }
     }
 
@@ -39,6 +43,7 @@ impl Kind {
         match self {
             Kind::Programs => Box::new(seeds.map(|seed| (seed, programs::input(seed)))),
             Kind::Passes => Box::new(seeds.map(|seed| (seed, passes::input(seed)))),
+            Kind::Meaning => Box::new(seeds.map(|seed| (seed, programs::valued(seed)))),
             Kind::Short => Box::new(seeds.zip(short::inputs().into_iter().skip(from as usize))),
         }
     }

@@ -5,11 +5,14 @@ mod compare;
 mod generate;
 mod head;
 mod limits;
+mod machine;
+mod meaning;
 #[cfg(feature = "ours")]
 mod ours;
 mod passes;
 mod programs;
 mod random;
+mod runs;
 mod short;
 
 use std::hint::black_box;
@@ -18,17 +21,20 @@ use std::path::Path;
 use std::process::ExitCode;
 use std::time::Instant;
 
+#[cfg(feature = "ours")]
+use answer::fields;
 use answer::{answer, Answer, Program};
 use compare::Compared;
 use generate::Kind;
 
 const USE: &str = "use: oracle [--reader] [--fold-constants] COMMAND
-  listing | passes                     one input, one answer
-  batch listing|passes                 a line ==== ends each input, and each answer
-  generate programs|short|passes FROM TO   the inputs of these seeds, as a batch
-  answers programs|short|passes FROM TO    their answers, as a batch
-  compare programs|short|passes FROM TO FOLDER PROGRAM [WORD..]   a program held against the oracle
+  listing | passes | meaning           one input, one answer
+  batch listing|passes|meaning         a line ==== ends each input, and each answer
+  generate KIND FROM TO                the inputs of these seeds, as a batch
+  answers KIND FROM TO                 their answers, as a batch
+  compare KIND FROM TO FOLDER PROGRAM [WORD..]   a program held against the oracle
   bench listing|passes RUNS            ns for a run of the published code on one input
+KIND: programs, short or passes; or meaning, whose inputs have a line of starting values on top: PROGRAM's listing is run on them
 --reader: the plain reader's refusals by number and place (NOT from the Rust), instead of `unparsed`
 --fold-constants: constant loads folded, as published";
 
@@ -67,7 +73,7 @@ fn run() -> Result<(), String> {
             compare(self::kind(kind)?, seed(from)?, seed(to)?, Path::new(folder), &command)
         }
         ["bench", name, runs] => bench(program(name)?, seed(runs)?),
-        ["listing" | "passes"] => write(answer(program(words[0])?, &input()?, reading)?.as_bytes()),
+        ["listing" | "passes" | "meaning"] => write(answer(program(words[0])?, &input()?, reading)?.as_bytes()),
         _ => Err(unknown("command", &words.join(" "))),
     }
 }
@@ -80,6 +86,7 @@ fn program(name: &str) -> Result<Program, String> {
     match name {
         "listing" => Ok(Program::Listing),
         "passes" => Ok(Program::Passes),
+        "meaning" => Ok(Program::Meaning),
         _ => Err(unknown("program", name)),
     }
 }
@@ -141,12 +148,11 @@ fn answers(kind: Kind, from: u64, to: u64, reading: bool) -> Result<(), String> 
 }
 
 fn compare(kind: Kind, from: u64, to: u64, folder: &Path, command: &[String]) -> Result<(), String> {
-    let Compared { rust, plain, differences } = compare::compare(kind, from, to, folder, command)?;
-    let name = kind.name();
-    write(
-        format!("{name}: {rust} compared with the Rust, {plain} with the plain reader, {differences} differences\n")
-            .as_bytes(),
-    )?;
+    let Compared { counts, differences } = match kind {
+        Kind::Meaning => runs::compare(from, to, folder, command)?,
+        _ => compare::compare(kind, from, to, folder, command)?,
+    };
+    write(format!("{}: {counts}, {differences} differences\n", kind.name()).as_bytes())?;
     match differences {
         0 => Ok(()),
         _ => Err(format!("{differences} differences in {}", folder.display())),
@@ -174,6 +180,7 @@ fn bench(program: Program, runs: u64) -> Result<(), String> {
             let whole = time(runs, || drop(black_box(read().map(|input| oracle::listing::compile(&input)))));
             format!("compile,{compile}\nread and compile,{whole}\n{}", our_call(&text, runs, compile, whole)?)
         }
+        Program::Meaning => return Err(unknown("program to time", "meaning")),
         Program::Passes => {
             let request = oracle::alone::read(&text).map_err(|_| "a bad input cannot be timed")?;
             let rewritten = oracle::alone::rewrite(&request);
@@ -192,7 +199,7 @@ fn our_call(text: &[u8], runs: u64, compile: u128, whole: u128) -> Result<String
     let number = call.run();
     let printed = answer(Program::Listing, text, true)?;
     let (code, head): (Vec<&str>, Vec<&str>) = printed.split_inclusive('\n').partition(|line| line.starts_with('b'));
-    let bytes: Vec<u8> = code.into_iter().flat_map(instruction).collect();
+    let bytes: Vec<u8> = code.into_iter().flat_map(|line| fields::<u8>(line, 2)).collect();
     if number != 0 || head.concat() != call.head() || bytes != call.code() {
         return Err("our call differs: nothing was timed".to_string());
     }
@@ -206,7 +213,8 @@ fn our_rewriting(text: &[u8], runs: u64, optimize: u128) -> Result<String, Strin
     let mut call = ours::Rewrite::of(text);
     let number = call.run();
     let printed = answer(Program::Passes, text, true)?;
-    let mut bytes: Vec<u8> = printed.lines().filter(|line| line.starts_with('b')).flat_map(instruction).collect();
+    let mut bytes: Vec<u8> =
+        printed.lines().filter(|line| line.starts_with('b')).flat_map(|line| fields(line, 2)).collect();
     bytes.resize(call.bytes.len(), 0);
     if number != 0 || bytes != call.bytes {
         return Err("our rewriting differs: nothing was timed".to_string());
@@ -218,12 +226,6 @@ fn our_rewriting(text: &[u8], runs: u64, optimize: u128) -> Result<String, Strin
 #[cfg(feature = "ours")]
 fn ratio(ours: u128, theirs: u128) -> String {
     format!("{:.2}", ours as f64 / theirs.max(1) as f64)
-}
-
-/// The bytes of a printed instruction.
-#[cfg(feature = "ours")]
-fn instruction(line: &str) -> Vec<u8> {
-    line.trim_end().split(',').skip(2).filter_map(|byte| byte.parse().ok()).collect()
 }
 
 #[cfg(not(feature = "ours"))]

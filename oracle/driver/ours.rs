@@ -3,6 +3,8 @@
 use oracle::limits::{CODE, CONSTANTS, ENTRIES, LABELS};
 use oracle::reader::split_line;
 
+use crate::answer::fields;
+
 extern "C" {
     #[allow(improper_ctypes)]
     fn mezhukan_compile(
@@ -27,10 +29,6 @@ extern "C" {
         entries: &mut [u16],
         answer: &mut [u64; 5],
     ) -> u8;
-}
-
-fn numbers<T: std::str::FromStr>(line: &str) -> Vec<T> {
-    line.split(',').filter_map(|field| field.parse().ok()).collect()
 }
 
 /// The sheet file, the rule file and what follows them, of an input that the oracle's reader accepts.
@@ -109,9 +107,9 @@ impl Rewrite {
         let (sheet, rules, rest) = files(text);
         let rest = String::from_utf8_lossy(rest);
         let mut lines = rest.lines();
-        let code = numbers(lines.next().unwrap_or(""));
-        let protected = numbers(lines.next().unwrap_or(""));
-        let lines = lines.flat_map(numbers::<u16>).collect();
+        let code = fields(lines.next().unwrap_or(""), 0);
+        let protected = fields(lines.next().unwrap_or(""), 0);
+        let lines = lines.flat_map(|line| fields::<u16>(line, 0)).collect();
         let (bytes, offsets, entries) = (vec![0; CODE], vec![0; LABELS], vec![0; 3 * ENTRIES]);
         Rewrite { sheet, rules, code, protected, lines, bytes, offsets, entries, answer: [0; 5] }
     }

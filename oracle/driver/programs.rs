@@ -57,10 +57,24 @@ pub fn input(seed: u64) -> Vec<u8> {
     }
 }
 
+/// A program of this seed without rules, under a line of starting values.
+pub fn valued(seed: u64) -> Vec<u8> {
+    let random = &mut Random::new(seed);
+    let style = [MIXED, LOOPS, CASES, COUNTS, FOLDS, SUMS][seed as usize % 6];
+    let values: Vec<i32> = (0..style.variables).map(|_| value(random)).collect();
+    let sheet = head::sheet(random);
+    let lines = program(random, style);
+    let text = format!("{}\n{}", head::joined(&values), head::head(&sheet, &[]));
+    with_lines(text, &lines)
+}
+
 fn with_head(random: &mut Random, program: impl FnOnce(&mut Random) -> Vec<String>) -> Vec<u8> {
     let (sheet, rules) = (head::sheet(random), head::rules(random));
-    let mut text = head::head(&sheet, &rules);
-    program(random).iter().for_each(|line| text.extend([line.as_str(), "\n"]));
+    with_lines(head::head(&sheet, &rules), &program(random))
+}
+
+fn with_lines(mut text: String, lines: &[String]) -> Vec<u8> {
+    lines.iter().for_each(|line| text.extend([line.as_str(), "\n"]));
     text.into_bytes()
 }
 
@@ -93,6 +107,10 @@ enum Miss {
     Pieces,
     Continuing,
     Place,
+}
+
+fn value(random: &mut Random) -> i32 {
+    random.pick(&[0, 1, 1, 2, 3, 5, -1, -7, 100, i32::MAX, i32::MIN])
 }
 
 struct Writer<'r> {
@@ -133,7 +151,7 @@ impl Writer<'_> {
     }
 
     fn value(&mut self) -> i32 {
-        self.random.pick(&[0, 1, 1, 2, 3, 5, -1, -7, 100, i32::MAX, i32::MIN])
+        value(self.random)
     }
 
     fn statement(&mut self, depth: usize) {

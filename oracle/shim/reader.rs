@@ -24,6 +24,7 @@ impl Refusal {
 }
 
 pub struct Program {
+    pub variables: usize,
     pub header: SourceSpan,
     pub statements: Vec<Stmt>,
 }
@@ -237,7 +238,7 @@ fn read_program(text: &[u8]) -> Result<Program, Refusal> {
     if reader.next < reader.lines.len() {
         return Err(Refusal::at(6, reader.next + 1));
     }
-    Ok(Program { header: header.span(2), statements })
+    Ok(Program { variables: header.count(0), header: header.span(2), statements })
 }
 
 impl Reader<'_> {
