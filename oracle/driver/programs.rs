@@ -1,6 +1,7 @@
 //! Whole programs at random: the listing program's inputs.
 
 use oracle::limits::PROGRAM_BYTES;
+use oracle::{listing, reader};
 
 use crate::head;
 use crate::limits;
@@ -10,6 +11,8 @@ use crate::random::Random;
 #[derive(Clone, Copy)]
 struct Style {
     statements: &'static [(usize, u8)],
+    /// What stands where no block fits any more.
+    leaves: &'static [u8],
     /// How deep statements and expressions go, how many lines about there are, how many variables and loop numbers.
     depth: usize,
     lines: usize,
@@ -17,6 +20,11 @@ struct Style {
     loops: usize,
     /// In a hundred: an EXIT or CONTINUE of a loop that is not open.
     astray: usize,
+    /// The operations on two values, and a FOR's steps.
+    operations: &'static [u8],
+    steps: &'static [i32],
+    /// In a hundred: a loop that counts to an end, so that it ends after a few passes or runs on.
+    counting: usize,
 }
 
 const MIXED: Style = Style {
@@ -26,6 +34,10 @@ const MIXED: Style = Style {
     variables: 3,
     loops: 2,
     astray: 0,
+    leaves: b"AAAXNR",
+    operations: &[0, 1, 2, 3, 4, 5, 6, 7],
+    steps: &[1, 1, 2, -1, -3, 0, i32::MAX, i32::MIN],
+    counting: 0,
 };
 const LOOPS: Style = Style { statements: &[(2, b'A'), (1, b'I'), (1, b'F'), (6, b'L'), (2, b'X'), (2, b'N')], ..MIXED };
 const CASES: Style = Style { statements: &[(2, b'A'), (5, b'S'), (1, b'L'), (1, b'X'), (1, b'N')], ..MIXED };
@@ -35,6 +47,25 @@ const FOLDS: Style =
 const SUMS: Style = Style { statements: &[(4, b'A'), (1, b'I')], depth: 10, lines: 90, ..MIXED };
 const LARGE: Style = Style { lines: 700, depth: 9, ..MIXED };
 const ASTRAY: Style = Style { astray: 8, lines: 30, ..LOOPS };
+
+/// What a program that is to be run is made of: few endless loops and RETURNs, so that much of it is reached.
+const RUN: Style = Style {
+    statements: &[(10, b'A'), (5, b'I'), (4, b'S'), (5, b'F'), (6, b'L'), (4, b'X'), (4, b'N'), (1, b'R')],
+    leaves: b"AAAAAAAAXXNNR",
+    lines: 25,
+    operations: &[0, 1, 2, 3, 3, 3, 4, 4, 4, 5, 6, 7],
+    steps: &[1, 1, 1, 1, 2, 2, 3, -1, -1, -1, -1, -2, -2, -3, 0, i32::MAX, i32::MIN],
+    counting: 75,
+    ..MIXED
+};
+const RUNS: [Style; 6] = [
+    RUN,
+    Style { statements: LOOPS.statements, ..RUN },
+    Style { statements: &[(3, b'A'), (4, b'S'), (2, b'F'), (1, b'L'), (1, b'X'), (1, b'N')], ..RUN },
+    Style { statements: COUNTS.statements, ..RUN },
+    Style { statements: FOLDS.statements, depth: 4, ..RUN },
+    Style { statements: &[(4, b'A'), (1, b'I'), (1, b'F'), (1, b'L')], depth: 8, ..RUN },
+];
 
 /// The input of this seed.
 pub fn input(seed: u64) -> Vec<u8> {
@@ -60,12 +91,18 @@ pub fn input(seed: u64) -> Vec<u8> {
 /// A program of this seed without rules, under a line of starting values.
 pub fn valued(seed: u64) -> Vec<u8> {
     let random = &mut Random::new(seed);
-    let style = [MIXED, LOOPS, CASES, COUNTS, FOLDS, SUMS][seed as usize % 6];
-    let values: Vec<i32> = (0..style.variables).map(|_| value(random)).collect();
-    let sheet = head::sheet(random);
-    let lines = program(random, style);
-    let text = format!("{}\n{}", head::joined(&values), head::head(&sheet, &[]));
-    with_lines(text, &lines)
+    let style = Style { variables: random.pick(&[1, 2, 3, 4, 5, 6]), ..RUNS[seed as usize % RUNS.len()] };
+    let values: Vec<i32> = (0..style.variables).map(|_| near(random)).collect();
+    let head = head::head(&head::sheet(random), &[]);
+    // An EXIT that just misses a REPEAT's shape is often refused: a second try leaves few.
+    let accepted = |text: &[u8]| reader::read(text).is_ok_and(|input| listing::compile(&input).is_ok());
+    let mut text = Vec::new();
+    for _ in 0..2 {
+        if !accepted(&text) {
+            text = with_lines(head.clone(), &program(random, style));
+        }
+    }
+    [head::joined(&values).as_bytes(), b"\n", &text].concat()
 }
 
 fn with_head(random: &mut Random, program: impl FnOnce(&mut Random) -> Vec<String>) -> Vec<u8> {
@@ -113,6 +150,13 @@ fn value(random: &mut Random) -> i32 {
     random.pick(&[0, 1, 1, 2, 3, 5, -1, -7, 100, i32::MAX, i32::MIN])
 }
 
+/// Mostly small, so that few passes lead from one to another.
+fn near(random: &mut Random) -> i32 {
+    let small = random.pick(&[0, 0, 1, 1, 2, 2, 3, 4, 5, 6, 7, -1, -1, -2, -3]);
+    let extreme = random.pick(&[100, -100, i32::MAX, i32::MAX - 1, i32::MIN, i32::MIN + 1]);
+    random.weigh(&[(9, small), (1, extreme)])
+}
+
 struct Writer<'r> {
     random: &'r mut Random,
     style: Style,
@@ -156,7 +200,7 @@ impl Writer<'_> {
 
     fn statement(&mut self, depth: usize) {
         let leaf = depth >= self.style.depth || self.left() == 0;
-        let kind = if leaf { self.random.pick(b"AAAXNR") } else { self.random.weigh(self.style.statements) };
+        let kind = if leaf { self.random.pick(self.style.leaves) } else { self.random.weigh(self.style.statements) };
         match kind {
             b'A' => self.assign(depth),
             b'I' => self.choice(depth),
@@ -250,13 +294,34 @@ impl Writer<'_> {
 
     fn count(&mut self, depth: usize) {
         let (position, id, variable, body) = (self.position(), self.loop_number(), self.variable(), self.few());
-        let step = self.random.pick(&[1, 1, 2, -1, -3, 0, i32::MAX, i32::MIN]);
+        let step = self.random.pick(self.style.steps);
         self.line(format!("F,{position},{id},{variable},{step},{body}"));
-        self.bound(depth + 1);
-        self.bound(depth + 1);
+        self.bounds(depth + 1, step);
         self.open.push(id);
         self.block(body, depth + 1);
         self.open.pop();
+    }
+
+    /// A FOR's start and end. A FOR that counts has a start and an end between which it does so.
+    fn bounds(&mut self, depth: usize, step: i32) {
+        if !self.counts() {
+            self.bound(depth);
+            return self.bound(depth);
+        }
+        let (one, other) = (near(self.random), near(self.random));
+        let (low, high) = (one.min(other), one.max(other));
+        let (from, to) = if step < 0 { (high, low) } else { (low, high) };
+        self.line(format!("K,{from}"));
+        if self.random.percent(50) {
+            self.line(format!("K,{to}"));
+        } else {
+            let (operation, variable) = (self.random.below(2), self.variable());
+            self.line(format!("O,{operation}\nD,{variable}\nK,{to}"));
+        }
+    }
+
+    fn counts(&mut self) -> bool {
+        self.style.counting > 0 && self.random.percent(self.style.counting)
     }
 
     /// A FOR's start or end.
@@ -273,8 +338,46 @@ impl Writer<'_> {
         self.random.below(self.style.loops)
     }
 
+    /// A WHILE or a REPEAT of a comparison with a constant, whose body ends in counting the variable compared.
+    fn counting(&mut self, depth: usize) {
+        let (position, id, body, variable) = (self.position(), self.loop_number(), self.few(), self.variable());
+        let (heads, step) = (self.random.percent(50), self.random.pick(&[1, 1, 2, 3, -1, -1, -2]));
+        let condition = self.end_of_counting(variable, step, heads);
+        self.line(format!("L,{position},{id},{},{}", body + 1 + usize::from(heads), usize::from(!heads)));
+        self.open.push(id);
+        if heads {
+            self.line(format!("I,{position},0,1\n{condition}\nX,{position},{id}"));
+        }
+        self.block(body, depth + 1);
+        self.line(format!("A,{position},{variable}\nO,0\nD,{variable}\nK,{step}"));
+        self.open.pop();
+        if !heads {
+            self.line(format!("I,{position},1,0\n{condition}\nX,{position},{id}"));
+        }
+    }
+
+    /// A comparison that holds up to a WHILE's end, or from a REPEAT's on; now and then any other. The constant is on either side.
+    fn end_of_counting(&mut self, variable: usize, step: i32, heads: bool) -> String {
+        let comparisons: [usize; 3] = match (step > 0, heads) {
+            (true, true) => [2, 3, 1],
+            (true, false) => [5, 4, 0],
+            (false, true) => [4, 5, 1],
+            (false, false) => [3, 2, 0],
+        };
+        let (fitting, any, end) = (self.random.pick(&comparisons), self.random.below(6), near(self.random));
+        let comparison = self.random.weigh(&[(5, fitting), (1, any)]);
+        if self.random.percent(50) {
+            return format!("C,{comparison}\nD,{variable}\nK,{end}");
+        }
+        let mirrored = [0, 1, 4, 5, 2, 3][comparison];
+        format!("C,{mirrored}\nK,{end}\nD,{variable}")
+    }
+
     /// A loop. Most have the shape of a WHILE or a REPEAT, or nearly.
     fn repeats(&mut self, depth: usize) {
+        if self.counts() {
+            return self.counting(depth);
+        }
         let (position, id, body, continuing) = (self.position(), self.loop_number(), self.few(), self.few());
         let miss = self.random.weigh(&[(6, Miss::Nothing), (3, Miss::Pieces), (1, Miss::Continuing), (1, Miss::Place)]);
         let (head, tail) =
@@ -361,14 +464,14 @@ impl Writer<'_> {
     fn expression(&mut self, depth: usize) {
         let leaf = depth >= self.style.depth || self.left() == 0;
         let kind = if leaf { self.random.pick(b"KDDB") } else { self.random.pick(b"KKDDDDBOOOUCHH") };
-        let (choices, sides) = match kind {
-            b'O' => (8, 2),
-            b'U' => (2, 1),
-            b'C' => (6, 2),
-            b'H' => (2, 2),
+        let (choices, sides): (&[u8], _) = match kind {
+            b'O' => (self.style.operations, 2),
+            b'U' => (&[0, 1], 1),
+            b'C' => (&[0, 1, 2, 3, 4, 5], 2),
+            b'H' => (&[0, 1], 2),
             _ => return self.operand(kind),
         };
-        let choice = self.random.below(choices);
+        let choice = self.random.pick(choices);
         self.line(format!("{},{choice}", kind as char));
         (0..sides).for_each(|_| self.expression(depth + 1));
     }
