@@ -338,22 +338,38 @@ impl Writer<'_> {
         self.random.below(self.style.loops)
     }
 
-    /// A WHILE or a REPEAT of a comparison with a constant, whose body ends in counting the variable compared.
+    /// A loop over a comparison with a constant and the counting of the variable compared: a WHILE or a REPEAT, or one that counts in `continuing`.
     fn counting(&mut self, depth: usize) {
         let (position, id, body, variable) = (self.position(), self.loop_number(), self.few(), self.variable());
-        let (heads, step) = (self.random.percent(50), self.random.pick(&[1, 1, 2, 3, -1, -1, -2]));
-        let condition = self.end_of_counting(variable, step, heads);
-        self.line(format!("L,{position},{id},{},{}", body + 1 + usize::from(heads), usize::from(!heads)));
+        let (shape, step) = (self.random.pick(b"WRC"), self.random.pick(&[1, 1, 2, 3, -1, -1, -2]));
+        let condition = self.end_of_counting(variable, step, shape != b'R');
+        let count = format!("A,{position},{variable}\nO,0\nD,{variable}\nK,{step}");
+        let (inner, outer) = match shape {
+            b'W' => (body + 2, 0),
+            b'R' => (body + 1, 1),
+            _ => (body + 1, 2),
+        };
+        self.line(format!("L,{position},{id},{inner},{outer}"));
         self.open.push(id);
-        if heads {
+        if shape != b'R' {
             self.line(format!("I,{position},0,1\n{condition}\nX,{position},{id}"));
         }
         self.block(body, depth + 1);
-        self.line(format!("A,{position},{variable}\nO,0\nD,{variable}\nK,{step}"));
+        self.line(count);
         self.open.pop();
-        if !heads {
-            self.line(format!("I,{position},1,0\n{condition}\nX,{position},{id}"));
+        match shape {
+            b'W' => {}
+            b'R' => self.line(format!("I,{position},1,0\n{condition}\nX,{position},{id}")),
+            _ => self.jump_if(depth + 1),
         }
+    }
+
+    /// An IF that leaves or continues a loop around, where there is one.
+    fn jump_if(&mut self, depth: usize) {
+        let (position, letter) = (self.position(), self.random.pick(b"XN"));
+        self.line(format!("I,{position},1,0"));
+        self.condition(depth + 1);
+        self.jump(depth + 1, letter);
     }
 
     /// A comparison that holds up to a WHILE's end, or from a REPEAT's on; now and then any other. The constant is on either side.

@@ -58,7 +58,10 @@ fn held(start: &[Word], text: &[u8], listing: &str) -> Result<Held, String> {
     let Some(input) = reader::read(text).ok().filter(|_| is_accepted(&expected)) else {
         return Ok(if listing == expected { Ok(None) } else { Err(expected) });
     };
-    let meant = interpreted(&input, start)?;
+    let meant = match interpreted(&input, start) {
+        Ok(meant) => meant,
+        Err(message) => return Ok(Err(message)),
+    };
     let finished = Finished::of(&input.sheet, listing);
     let agreed = finished.and_then(|finished| agrees(&meant, &mut Machine::new(&finished, start.to_vec())));
     Ok(match agreed {
