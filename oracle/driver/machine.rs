@@ -28,7 +28,7 @@ impl<'s> Finished<'s> {
     pub fn of(sheet: &'s Sheet, listing: &str) -> Result<Self, Broken> {
         let of = |letter: char| listing.lines().filter(move |line| line.starts_with(letter));
         let [0, length, depth, count, _] = fields(listing.lines().next().unwrap_or(""), 0)[..] else {
-            return Err("the listing has no first line");
+            return Err("the listing is a refusal");
         };
         let code: Vec<u8> = of('b').flat_map(|line| fields::<u8>(line, 2)).collect();
         let constants: Vec<Word> = of('k').flat_map(|line| fields(line, 1)).collect();

@@ -146,10 +146,6 @@ enum Miss {
     Place,
 }
 
-fn value(random: &mut Random) -> i32 {
-    random.pick(&[0, 1, 1, 2, 3, 5, -1, -7, 100, i32::MAX, i32::MIN])
-}
-
 /// Mostly small, so that few passes lead from one to another.
 fn near(random: &mut Random) -> i32 {
     let small = random.pick(&[0, 0, 1, 1, 2, 2, 3, 4, 5, 6, 7, -1, -1, -2, -3]);
@@ -195,7 +191,7 @@ impl Writer<'_> {
     }
 
     fn value(&mut self) -> i32 {
-        value(self.random)
+        self.random.pick(&[0, 1, 1, 2, 3, 5, -1, -7, 100, i32::MAX, i32::MIN])
     }
 
     fn statement(&mut self, depth: usize) {

@@ -77,10 +77,11 @@ fn agrees(meant: &Meant, machine: &mut Machine) -> Result<bool, Broken> {
     let bound = STEPS * (meant.work + 1);
     let stores = if meant.outcome == Outcome::Running { meant.stores } else { u64::MAX };
     let outcome = machine.run(bound, stores)?;
-    let same = meant.variables.iter().copied().eq(machine.variables.iter().copied().map(Value::from));
+    let variables = machine.variables.iter().copied().map(Value::from);
+    let same = outcome == meant.outcome && meant.variables.iter().copied().eq(variables);
     match meant.outcome {
         Outcome::Running => Ok(same && machine.stores == stores && machine.run(BUDGET, u64::MAX)? == Outcome::Running),
-        _ => Ok(same && outcome == meant.outcome),
+        _ => Ok(same),
     }
 }
 
