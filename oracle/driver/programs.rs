@@ -485,6 +485,10 @@ impl Writer<'_> {
         };
         let choice = self.random.pick(choices);
         self.line(format!("{},{choice}", kind as char));
+        if kind == b'O' && self.style.counting > 0 && self.random.percent(4) {
+            // The only quotient that wraps.
+            return self.line(format!("K,{}\nK,-1", i32::MIN));
+        }
         (0..sides).for_each(|_| self.expression(depth + 1));
     }
 }
