@@ -334,12 +334,13 @@ impl Writer<'_> {
         self.random.below(self.style.loops)
     }
 
-    /// A loop over a comparison with a constant and the counting of the variable compared: a WHILE or a REPEAT, or one that counts in `continuing`.
+    /// A loop over a comparison with a constant and the counting of the variable compared: a WHILE or a REPEAT, or nearly, or one that counts in
+    /// `continuing`.
     fn counting(&mut self, depth: usize) {
         let (position, id, body, variable) = (self.position(), self.loop_number(), self.few(), self.variable());
         let (shape, step) = (self.random.pick(b"WRC"), self.random.pick(&[1, 1, 2, 3, -1, -1, -2]));
         let condition = self.end_of_counting(variable, step, shape != b'R');
-        let count = format!("A,{position},{variable}\nO,0\nD,{variable}\nK,{step}");
+        let miss = self.random.weigh(&[(3, Miss::Nothing), (1, Miss::Pieces)]);
         let (inner, outer) = match shape {
             b'W' => (body + 2, 0),
             b'R' => (body + 1, 1),
@@ -348,14 +349,16 @@ impl Writer<'_> {
         self.line(format!("L,{position},{id},{inner},{outer}"));
         self.open.push(id);
         if shape != b'R' {
-            self.line(format!("I,{position},0,1\n{condition}\nX,{position},{id}"));
+            self.exit_if(depth + 1, id, miss, true, Some(&condition));
         }
         self.block(body, depth + 1);
-        self.line(count);
+        self.line(format!("A,{position},{variable}\nO,0\nD,{variable}\nK,{step}"));
         self.open.pop();
         match shape {
             b'W' => {}
-            b'R' => self.line(format!("I,{position},1,0\n{condition}\nX,{position},{id}")),
+            // What is nearly a REPEAT jumps out of the loop around, which must have its number.
+            b'R' if self.open.contains(&id) => self.exit_if(depth + 1, id, miss, false, Some(&condition)),
+            b'R' => self.exit_if(depth + 1, id, Miss::Nothing, false, Some(&condition)),
             _ => self.jump_if(depth + 1),
         }
     }
@@ -401,18 +404,18 @@ impl Writer<'_> {
         self.open.push(id);
         self.block(before, depth + 1);
         if head {
-            self.exit_if(depth + 1, id, miss, true);
+            self.exit_if(depth + 1, id, miss, true, None);
         }
         self.block(body - before, depth + 1);
         self.open.pop();
         self.block(continuing, depth + 1);
         if tail {
-            self.exit_if(depth + 1, id, miss, false);
+            self.exit_if(depth + 1, id, miss, false, None);
         }
     }
 
-    /// The IF at a WHILE's head or a REPEAT's tail.
-    fn exit_if(&mut self, depth: usize, id: usize, miss: Miss, heads: bool) {
+    /// The IF at a WHILE's head or a REPEAT's tail, with a condition that is given or any.
+    fn exit_if(&mut self, depth: usize, id: usize, miss: Miss, heads: bool, condition: Option<&str>) {
         let pieces: [&[Piece]; 6] =
             [&[], &[Piece::Exit], &[Piece::ExitOther], &[Piece::Continue], &[Piece::Exit, Piece::Any], &[Piece::Any]];
         let (mut empty, mut jump) = (pieces[0], pieces[1]);
@@ -423,7 +426,10 @@ impl Writer<'_> {
         let (then, other) = if heads { (empty, jump) } else { (jump, empty) };
         let position = self.position();
         self.line(format!("I,{position},{},{}", then.len(), other.len()));
-        self.condition(depth + 1);
+        match condition {
+            Some(condition) => self.line(condition.to_string()),
+            None => self.condition(depth + 1),
+        }
         then.iter().chain(other).for_each(|piece| self.piece(*piece, depth + 1, id));
     }
 
