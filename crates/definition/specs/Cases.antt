@@ -180,7 +180,7 @@ pub record Meant : Type 0 where
   pub v1 : ℕ
   pub comes : List ℕ
 
--- how statements come out, and v0 and v1 then
+-- how statements come out: 0 they end, 1 they return, 2 a zero divisor stops them, 3 they are out of fuel; and v0 and v1 then
 unfoldable pub shown : Answer → List ℕ
 shown (ends σ) = 0 ∷ σ 0 ∷ σ 1 ∷ []
 shown (returns σ) = 1 ∷ σ 0 ∷ σ 1 ∷ []

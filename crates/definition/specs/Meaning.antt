@@ -130,7 +130,8 @@ unfoldable pub within : ℕ → CompareOp → ℕ → Option ℕ → Values → 
 within w c x none σ = leaves (stops σ)
 within w c x (some y) σ = elim (compared w c x y) [ true ↦ again σ | false ↦ leaves (ends σ) ]
 
--- a turn of loop i, by its shape. A REPEAT's EXIT stands in `continuing`, outside the loop, and leaves it all the same; any other EXIT there is of a loop around.
+-- a turn of loop i, by its shape. A WHILE needs no rule of its own: its body begins with its test. A REPEAT's EXIT stands in `continuing`, outside the loop, and leaves it all
+-- the same; any other EXIT there is of a loop around.
 unfoldable pub loopTurn : ℕ → Shape → ℕ → (ℕ → Values → Answer) → (ℕ → Values → Answer) → ℕ → Values → Turn
 loopTurn w (while c) i body continuing f σ = thenTurn (caught i (body f σ)) λ τ. turnOf (continuing f τ)
 loopTurn w (repeat c) i body continuing f σ = thenTurn (caught i (body f σ)) λ τ. until (valueOf w τ c) τ
