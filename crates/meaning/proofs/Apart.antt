@@ -1,7 +1,7 @@
 -- A run with values ends once: that it finishes, that it stops at a zero divisor and that it goes on for ever exclude each other.
 use Prim.Native.Nat.{ℕ, suc, zero}
 use mathlib.Core.Path.{_≡_, refl, sym, _∙_, ap, subst}
-use mathlib.Core.Option.{Option, some, none}
+use mathlib.Core.Option.{some, none}
 use Rattle.definition.specs.Iec.{Values}
 use Rattle.definition.specs.Machine.{Image, State, Step, goes, finishes, stops, breaks, step, andThen, afterSteps}
 use Rattle.definition.specs.Claims.{begin, Until}

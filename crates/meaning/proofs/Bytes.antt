@@ -27,7 +27,7 @@ use Rattle.counting.proofs.Finished.{finalBytes, finalRows}
 use Rattle.counting.proofs.Placed.{Placed, placed, operand-at, target-at, final-joined}
 use Rattle.counting.proofs.LaidOut.{sixteen, variable-read}
 use Rattle.counting.proofs.LaidOut.{code-length}
-use Rattle.meaning.proofs.Calls.{State, Step, goes, finishes, stops, breaks, here, at, behind, chosen-not, popOne, popTwo, calculated, operated, chosen, called, stepAt, step, isBranch, branchAt, Reach, still, onward, Halt, Finish, Lasts, enough, along, over}
+use Rattle.meaning.proofs.Calls.{State, Step, goes, finishes, stops, breaks, here, at, behind, chosen-not, popOne, popTwo, on-one, on-two, calculated, operated, chosen, called, stepAt, step, isBranch, branchAt, Reach, still, onward, Halt, Finish, Lasts, enough, along, over}
 use Rattle.meaning.proofs.Lays.{creating, pooling, resetting, setting, Is, Lays, ended, quiet, binding, row}
 
 pub data Run (m : Image) : machine.State → machine.State → Type 0 where
@@ -64,14 +64,24 @@ module _ {m : Image} where
 -- the calls' code, its rows, and finished code m
 module _ (s : Sheet) (known : Reads s) (goodSheet : Good s) (goal : ℕ → ℕ) (labels : List (Option ℕ)) (rows : List Row) (sized : Sized s rows) (short : length (codeOf s rows) ≤ maxCode)
     (m : Image) (sheet : s ≡ m .sheet) (code : m .bytecode ≡ joined (finalRows s goal 0 rows)) (calls : List Call) where
-  -- a run of the calls that stands before Q is one of the bytes that stands at p
-  pub record Stand (Q : List Call) (p : ℕ) : Type 0 where
+  -- at place p the calls Q are left, and the rows B
+  pub record Front (Q : List Call) (p : ℕ) (B : List Row) : Type 0 where
     pub pre : List Call
     pub split : calls ≡ pre ++ Q
     pub A : List Row
-    pub B : List Row
     pub cut : rows ≡ A ++ B
     pub place : p ≡ length (codeOf s A)
+
+  past : (c : Call) (Q : List Call) (p : ℕ) (B : List Row) → Front (c ∷ Q) p B → Front Q p B
+  past c Q p B x = record { pre = x .pre ++ (c ∷ []); split = x .split ∙ sym (append-assoc (x .pre) (c ∷ []) Q); A = x .A; cut = x .cut; place = x .place }
+
+  past-row : (Q : List Call) (p : ℕ) (r : Row) (B : List Row) → Front Q p (r ∷ B) → Front Q (p + length (bytesOf s r)) B
+  past-row Q p r B x = record { pre = x .pre; split = x .split; A = x .A ++ (r ∷ []); cut = x .cut ∙ sym (append-assoc (x .A) (r ∷ []) B); place = ap (λ q. q + length (bytesOf s r)) (x .place) ∙ sym (code-length s (x .A) r) }
+
+  -- a run of the calls that stands before Q is one of the bytes that stands at p
+  pub record Stand (Q : List Call) (p : ℕ) : Type 0 where
+    pub B : List Row
+    pub front : Front Q p B
     pub n : ℕ
     pub lays : Lays s (m .constants) labels n p Q B
 
@@ -102,33 +112,28 @@ module _ (s : Sheet) (known : Reads s) (goodSheet : Good s) (goal : ℕ → ℕ)
     code-long : length (m .bytecode) ≡ length (codeOf s rows)
     code-long = ap length code ∙ final-joined s goal 0 rows
 
-    -- a row, where it stands
-    module _ (c : Call) (Q : List Call) (p : ℕ) (pre : List Call) (split : calls ≡ pre ++ (c ∷ Q)) (A : List Row) (r : Row) (B : List Row) (cut : rows ≡ A ++ (r ∷ B)) (place : p ≡ length (codeOf s A))
-        (n : ℕ) (rest : Lays s (m .constants) labels n (p + length (bytesOf s r)) Q B) where
+    -- row r is that of call c, at place p
+    record At (c : Call) (Q : List Call) (p : ℕ) (r : Row) : Type 0 where
+      B : List Row
+      front : Front (c ∷ Q) p (r ∷ B)
+      n : ℕ
+      rest : Lays s (m .constants) labels n (p + length (bytesOf s r)) Q B
+
+    module _ (c : Call) (Q : List Call) (p : ℕ) (r : Row) (x : At c Q p r) where
       stands : Placed m p (r .role) (finalBytes s goal p r)
-      stands = placed s known goal rows sized m sheet code A r B p cut place
+      stands = placed s known goal rows sized m sheet code (x .front .A) r (x .B) p (x .front .cut) (x .front .place)
 
       after-it : Stand Q (p + length (bytesOf s r))
-      unfolding codeOf
-      after-it = record {
-        pre = pre ++ (c ∷ []);
-        split = split ∙ sym (append-assoc pre (c ∷ []) Q);
-        A = A ++ (r ∷ []);
-        B = B;
-        cut = cut ∙ sym (append-assoc A (r ∷ []) B);
-        place = ap (λ x. x + length (bytesOf s r)) place ∙ sym (code-length s A r);
-        n = n;
-        lays = rest;
-      }
+      after-it = record { B = x .B; front = past-row Q p r (x .B) (past c Q p (r ∷ x .B) (x .front)); n = x .n; lays = x .rest }
 
       -- code is short, up to wherever a run stands
       stand-short : (Q′ : List Call) (q : ℕ) → Stand Q′ q → q ≤ maxCode
-      stand-short Q′ q x =
-          let a : length (codeOf s rows) ≡ length (codeOf s (x .A)) + length (codeOf s (x .B)) = ap (λ y. length (codeOf s y)) (x .cut) ∙ (ap length (code-append s (x .A) (x .B)) ∙ length-append (codeOf s (x .A)) (codeOf s (x .B))) in
-          let b = x .place in
+      stand-short Q′ q y =
+          let a : length (codeOf s rows) ≡ length (codeOf s (y .front .A)) + length (codeOf s (y .B)) = ap (λ z. length (codeOf s z)) (y .front .cut) ∙ (ap length (code-append s (y .front .A) (y .B)) ∙ length-append (codeOf s (y .front .A)) (codeOf s (y .B))) in
+          let b = y .front .place in
           omega arith
 
-      pub step-is : (y : Row) → r ≡ y → (st : List ℕ) (σ : Values) → machine.step m (standing p st σ) ≡ machine.execute (y .role) m p st σ
+      step-is : (y : Row) → r ≡ y → (st : List ℕ) (σ : Values) → machine.step m (standing p st σ) ≡ machine.execute (y .role) m p st σ
       step-is y i st σ = step-at m (record { place = p; stack = st; variables = σ }) (y .role) (subst (λ x. Placed m p (x .role) (finalBytes s goal p x)) i stands .stands)
 
       stands-as : (y : Row) → r ≡ y → Placed m p (y .role) (finalBytes s goal p y)
@@ -175,21 +180,21 @@ module _ (s : Sheet) (known : Reads s) (goodSheet : Good s) (goal : ℕ → ℕ)
       tested : (l z : ℕ) (t : Bool) (st : List ℕ) (σ : Values) (st₀ : List ℕ) → Stand Q z → Lands l → machine.step m (standing p st₀ σ) ≡ machine.branchIf t (m .bytecode) z st σ → ((q : ℕ) → goal l ≡ q → q ≤ maxCode → target (m .bytecode) z ≡ some q)
           → Next true (standing p st₀ σ) (here (chosen t (behind l calls) Q) st σ)
       unfolding Moves here chosen machine.branchIf machine.leadsTo machine.at
-      tested l z true st σ st₀ on x e g = record {
-        place = x .place;
-        stand = x .stand;
-        moves = record { then = standing (x .place) st σ; goes = e ∙ ap (λ t. machine.leadsTo t st σ) (g (x .place) (x .is) (stand-short _ _ (x .stand))); there = stay };
+      tested l z true st σ st₀ on y e g = record {
+        place = y .place;
+        stand = y .stand;
+        moves = record { then = standing (y .place) st σ; goes = e ∙ ap (λ t. machine.leadsTo t st σ) (g (y .place) (y .is) (stand-short _ _ (y .stand))); there = stay };
       }
-      tested l z false st σ st₀ on x e g = record { place = z; stand = on; moves = record { then = standing z st σ; goes = e; there = stay } }
+      tested l z false st σ st₀ on y e g = record { place = z; stand = on; moves = record { then = standing z st σ; goes = e; there = stay } }
 
       jump-sim : (l : ℕ) → c ≡ emitJmp l → r ≡ rowOf jmp [] (some l) → (st : List ℕ) (σ : Values) → Next true (standing p st σ) (here (behind l calls) st σ)
       unfolding aim chosen machine.branchIf machine.execute size traits traitsOf bytesOf operandOf unpatched rowOf le16
-      jump-sim l ci i st σ = tested l (p + 3) true st σ st (after-as _ i) (lands l c pre Q split (ap aim ci)) (step-is _ i st σ) (λ q g h. target-of jmp l q (stands-as _ i) g h (within-as _ i))
+      jump-sim l ci i st σ = tested l (p + 3) true st σ st (after-as _ i) (lands l c (x .front .pre) Q (x .front .split) (ap aim ci)) (step-is _ i st σ) (λ q g h. target-of jmp l q (stands-as _ i) g h (within-as _ i))
 
       unless-sim : (l : ℕ) → c ≡ emitJmpIfNot l → r ≡ rowOf jmpIfNot [] (some l) → (a : ℕ) (st : List ℕ) (σ : Values) → Next true (standing p (a ∷ st) σ) (here (chosen (truth a) Q (behind l calls)) st σ)
       unfolding aim machine.execute machine.popOne size traits traitsOf bytesOf operandOf unpatched rowOf le16
       unless-sim l ci i a st σ = subst (λ x. Next true (standing p (a ∷ st) σ) (here x st σ)) (chosen-not (truth a) (behind l calls) Q)
-          (tested l (p + 3) (not (truth a)) st σ (a ∷ st) (after-as _ i) (lands l c pre Q split (ap aim ci)) (step-is _ i (a ∷ st) σ) (λ q g h. target-of jmpIfNot l q (stands-as _ i) g h (within-as _ i)))
+          (tested l (p + 3) (not (truth a)) st σ (a ∷ st) (after-as _ i) (lands l c (x .front .pre) Q (x .front .split) (ap aim ci)) (step-is _ i (a ∷ st) σ) (λ q g h. target-of jmpIfNot l q (stands-as _ i) g h (within-as _ i)))
 
       module _ (o : CompareOp) (v k j l : ℕ) (ci : c ≡ emitCmpBr o v k l) (i : r ≡ rowOf cmpBr (comparisonByte s o ∷ le16 v ++ le16 j) (some l)) (g : getD (m .constants) j 0 ≡ k) where
         cmp-target : (t : ℕ) → goal l ≡ t → t ≤ maxCode → p + 8 ≤ maxCode → target (m .bytecode) (p + 8) ≡ some t
@@ -220,7 +225,7 @@ module _ (s : Sheet) (known : Reads s) (goodSheet : Good s) (goal : ℕ → ℕ)
 
         cmp-sim : (st : List ℕ) (σ : Values) → Next true (standing p st σ) (here (chosen (compared w o (σ v) k) (behind l calls) Q) st σ)
         unfolding aim machine.execute size traits traitsOf bytesOf operandOf unpatched rowOf le16
-        cmp-sim st σ = tested l (p + 8) (compared w o (σ v) k) st σ st (after-as _ i) (lands l c pre Q split (ap aim ci)) (step-is _ i st σ ∙ ap (λ b. machine.branchIf b (m .bytecode) (p + 8) st σ) (compares-is σ))
+        cmp-sim st σ = tested l (p + 8) (compared w o (σ v) k) st σ st (after-as _ i) (lands l c (x .front .pre) Q (x .front .split) (ap aim ci)) (step-is _ i st σ ∙ ap (λ b. machine.branchIf b (m .bytecode) (p + 8) st σ) (compares-is σ))
             (λ q g h. cmp-target q g h (within-as _ i))
 
       -- an instruction of one byte goes on behind it
@@ -228,94 +233,84 @@ module _ (s : Sheet) (known : Reads s) (goodSheet : Good s) (goal : ℕ → ℕ)
       unfolding Moves here bytesOf operandOf unpatched rowOf
       moved o i st₀ st σ e = record { place = p + 1; stand = after-as _ i; moves = further e stay }
 
-      op-sim : (o : Role) → r ≡ rowOf o [] none → (st : List ℕ) (σ : Values) → Simulated false (operated w o Q st σ) (standing p st σ)
-      unfolding operated popOne popTwo calculated at Simulated Moves here machine.execute machine.popOne machine.popTwo machine.calculated machine.at size traits traitsOf bytesOf operandOf unpatched rowOf
-      op-sim dup i [] σ = tt
-      op-sim dup i (a ∷ st) σ = moved _ i _ _ σ (step-is _ i (a ∷ st) σ)
-      op-sim pop i [] σ = tt
-      op-sim pop i (a ∷ st) σ = moved _ i _ _ σ (step-is _ i (a ∷ st) σ)
+      abbrev Sim : Values → Step → List ℕ → Type 0
+      Sim σ z st = Simulated false z (standing p st σ)
+
+      op-sim : (o : Role) → r ≡ rowOf o [] none → (st : List ℕ) (σ : Values) → Sim σ (operated w o Q st σ) st
+      unfolding operated popOne popTwo calculated at Simulated machine.execute machine.popOne machine.popTwo machine.calculated machine.at size traits traitsOf bytesOf operandOf unpatched rowOf
+      op-sim dup i st σ = on-one (Sim σ) st _ (λ s. tt) (λ a r. moved _ i _ _ σ (step-is _ i _ σ))
+      op-sim pop i st σ = on-one (Sim σ) st _ (λ s. tt) (λ a r. moved _ i _ _ σ (step-is _ i _ σ))
       op-sim loadVar i st σ = tt
       op-sim storeVar i st σ = tt
       op-sim loadConst i st σ = tt
-      op-sim loadTrue i st σ = moved _ i _ _ σ (step-is _ i st σ)
-      op-sim loadFalse i st σ = moved _ i _ _ σ (step-is _ i st σ)
-      op-sim (arithmetic o) i [] σ = tt
-      op-sim (arithmetic o) i (b ∷ []) σ = tt
-      op-sim (arithmetic o) i (b ∷ a ∷ st) σ = go (calculate w o a b) refl
+      op-sim loadTrue i st σ = moved _ i _ _ σ (step-is _ i _ σ)
+      op-sim loadFalse i st σ = moved _ i _ _ σ (step-is _ i _ σ)
+      op-sim (arithmetic o) i st σ = on-two (Sim σ) st _ (λ s. tt) (λ a b r. go a b r (calculate w o a b) refl)
         where
-          go : (x : Option ℕ) → calculate w o a b ≡ x → Simulated false (calculated x Q st σ) (standing p (b ∷ a ∷ st) σ)
-          go none e = step-is _ i (b ∷ a ∷ st) σ ∙ ap (λ x. machine.calculated x (p + 1) st σ) e
-          go (some x) e = moved _ i _ _ σ (step-is _ i (b ∷ a ∷ st) σ ∙ ap (λ x. machine.calculated x (p + 1) st σ) e)
-      op-sim (logic o) i [] σ = tt
-      op-sim (logic o) i (b ∷ []) σ = tt
-      op-sim (logic o) i (b ∷ a ∷ st) σ = moved _ i _ _ σ (step-is _ i (b ∷ a ∷ st) σ)
-      op-sim neg i [] σ = tt
-      op-sim neg i (a ∷ st) σ = moved _ i _ _ σ (step-is _ i (a ∷ st) σ)
-      op-sim boolNot i [] σ = tt
-      op-sim boolNot i (a ∷ st) σ = moved _ i _ _ σ (step-is _ i (a ∷ st) σ)
-      op-sim (compare q) i [] σ = tt
-      op-sim (compare q) i (b ∷ []) σ = tt
-      op-sim (compare q) i (b ∷ a ∷ st) σ = moved _ i _ _ σ (step-is _ i (b ∷ a ∷ st) σ)
+          go : (a b : ℕ) (r : List ℕ) (x : Option ℕ) → calculate w o a b ≡ x → Sim σ (calculated x Q r σ) (b ∷ a ∷ r)
+          go a b r none e = step-is _ i (b ∷ a ∷ r) σ ∙ ap (λ x. machine.calculated x (p + 1) r σ) e
+          go a b r (some x) e = moved _ i _ _ σ (step-is _ i (b ∷ a ∷ r) σ ∙ ap (λ x. machine.calculated x (p + 1) r σ) e)
+      op-sim (logic o) i st σ = on-two (Sim σ) st _ (λ s. tt) (λ a b r. moved _ i _ _ σ (step-is _ i _ σ))
+      op-sim neg i st σ = on-one (Sim σ) st _ (λ s. tt) (λ a r. moved _ i _ _ σ (step-is _ i _ σ))
+      op-sim boolNot i st σ = on-one (Sim σ) st _ (λ s. tt) (λ a r. moved _ i _ _ σ (step-is _ i _ σ))
+      op-sim (compare q) i st σ = on-two (Sim σ) st _ (λ s. tt) (λ a b r. moved _ i _ _ σ (step-is _ i _ σ))
       op-sim jmp i st σ = tt
       op-sim jmpIfNot i st σ = tt
       op-sim cmpBr i st σ = tt
       op-sim ret i st σ = step-is _ i st σ
 
-    row-sim : (c : Call) (Q : List Call) (p : ℕ) (pre : List Call) (split : calls ≡ pre ++ (c ∷ Q)) (A : List Row) (r : Row) (B : List Row) (cut : rows ≡ A ++ (r ∷ B)) (place : p ≡ length (codeOf s A))
-        (n : ℕ) (rest : Lays s (m .constants) labels n (p + length (bytesOf s r)) Q B) → Is s (m .constants) c r → (st : List ℕ) (σ : Values) → Simulated (isBranch c) (called calls w c Q st σ) (standing p st σ)
+    row-sim : (c : Call) (Q : List Call) (p : ℕ) (r : Row) → At c Q p r → Is s (m .constants) c r → (st : List ℕ) (σ : Values) → Simulated (isBranch c) (called calls w c Q st σ) (standing p st σ)
     unfolding Is isBranch aim called popOne at Simulated
-    row-sim (createLabel h) Q p pre split A r B cut place n rest i st σ = absurd i
-    row-sim (bindLabel l) Q p pre split A r B cut place n rest i st σ = absurd i
-    row-sim (loadVariable v) Q p pre split A r B cut place n rest i st σ = load-sim (loadVariable v) Q p pre split A r B cut place n rest v i st σ
-    row-sim (storeVariable v) Q p pre split A r B cut place n rest i [] σ = tt
-    row-sim (storeVariable v) Q p pre split A r B cut place n rest i (a ∷ st) σ = store-sim (storeVariable v) Q p pre split A r B cut place n rest v i a st σ
-    row-sim (loadConstant k) Q p pre split A r B cut place n rest i st σ = const-sim (loadConstant k) Q p pre split A r B cut place n rest k (i .0) (i .1) (i .2) st σ
-    row-sim (addConstant k) Q p pre split A r B cut place n rest i st σ = absurd i
-    row-sim (emitOpcode o) Q p pre split A r B cut place n rest i st σ = op-sim (emitOpcode o) Q p pre split A r B cut place n rest o i st σ
-    row-sim (emitJmp l) Q p pre split A r B cut place n rest i st σ = jump-sim (emitJmp l) Q p pre split A r B cut place n rest l refl i st σ
-    row-sim (emitJmpIfNot l) Q p pre split A r B cut place n rest i [] σ = tt
-    row-sim (emitJmpIfNot l) Q p pre split A r B cut place n rest i (a ∷ st) σ = unless-sim (emitJmpIfNot l) Q p pre split A r B cut place n rest l refl i a st σ
-    row-sim (emitCmpBr o v k l) Q p pre split A r B cut place n rest i st σ = cmp-sim (emitCmpBr o v k l) Q p pre split A r B cut place n rest o v k (i .0) l refl (i .1) (i .2) st σ
-    row-sim (resetStackDepth h) Q p pre split A r B cut place n rest i st σ = absurd i
-    row-sim (setPosition q) Q p pre split A r B cut place n rest i st σ = absurd i
-    row-sim (refused f) Q p pre split A r B cut place n rest i st σ = absurd i
+    row-sim (createLabel h) Q p r x i st σ = absurd i
+    row-sim (bindLabel l) Q p r x i st σ = absurd i
+    row-sim (loadVariable v) Q p r x i st σ = load-sim (loadVariable v) Q p r x v i st σ
+    row-sim (storeVariable v) Q p r x i [] σ = tt
+    row-sim (storeVariable v) Q p r x i (a ∷ st) σ = store-sim (storeVariable v) Q p r x v i a st σ
+    row-sim (loadConstant k) Q p r x i st σ = const-sim (loadConstant k) Q p r x k (i .0) (i .1) (i .2) st σ
+    row-sim (addConstant k) Q p r x i st σ = absurd i
+    row-sim (emitOpcode o) Q p r x i st σ = op-sim (emitOpcode o) Q p r x o i st σ
+    row-sim (emitJmp l) Q p r x i st σ = jump-sim (emitJmp l) Q p r x l refl i st σ
+    row-sim (emitJmpIfNot l) Q p r x i [] σ = tt
+    row-sim (emitJmpIfNot l) Q p r x i (a ∷ st) σ = unless-sim (emitJmpIfNot l) Q p r x l refl i a st σ
+    row-sim (emitCmpBr o v k l) Q p r x i st σ = cmp-sim (emitCmpBr o v k l) Q p r x o v k (i .0) l refl (i .1) (i .2) st σ
+    row-sim (resetStackDepth h) Q p r x i st σ = absurd i
+    row-sim (setPosition q) Q p r x i st σ = absurd i
+    row-sim (refused f) Q p r x i st σ = absurd i
 
     -- one call more that has no row
-    silent-stand : (c : Call) (Q : List Call) (p : ℕ) (pre : List Call) → calls ≡ pre ++ (c ∷ Q) → (A B : List Row) → rows ≡ A ++ B → p ≡ length (codeOf s A) → (n : ℕ) → Lays s (m .constants) labels n p Q B
-        → (st : List ℕ) (σ : Values) → Next false (standing p st σ) (here Q st σ)
+    silent-stand : (c : Call) (Q : List Call) (p : ℕ) (B : List Row) → Front (c ∷ Q) p B → (n : ℕ) → Lays s (m .constants) labels n p Q B → (st : List ℕ) (σ : Values) → Next false (standing p st σ) (here Q st σ)
     unfolding Moves here
-    silent-stand c Q p pre split A B cut place n x st σ = record {
-      place = p;
-      stand = record { pre = pre ++ (c ∷ []); split = split ∙ sym (append-assoc pre (c ∷ []) Q); A = A; B = B; cut = cut; place = place; n = n; lays = x };
-      moves = stay;
-    }
+    silent-stand c Q p B x n l st σ = record { place = p; stand = record { B = B; front = past c Q p B x; n = n; lays = l }; moves = stay }
 
-    at-end : (A : List Row) (p : ℕ) → rows ≡ A ++ [] → p ≡ length (codeOf s A) → (st : List ℕ) (σ : Values) → machine.step m (standing p st σ) ≡ machine.finishes
+    at-end : (p : ℕ) → Front [] p [] → (st : List ℕ) (σ : Values) → machine.step m (standing p st σ) ≡ machine.finishes
     unfolding machine.step
-    at-end A p cut place st σ =
-        let e : p ≡ length (m .bytecode) = place ∙ (ap (λ x. length (codeOf s x)) (sym (append-nil A)) ∙ (ap (λ x. length (codeOf s x)) (sym cut) ∙ sym code-long)) in
+    at-end p x st σ =
+        let e : p ≡ length (m .bytecode) = x .place ∙ (ap (λ y. length (codeOf s y)) (sym (append-nil (x .A))) ∙ (ap (λ y. length (codeOf s y)) (sym (x .cut)) ∙ sym code-long)) in
         ap (λ (b : Bool). elim b [ true ↦ machine.finishes | false ↦ elim (machine.isStart m p) [ true ↦ machine.executeIf (machine.roleAt m p) m (record { place = p; stack = st; variables = σ }) | false ↦ machine.breaks offCode ] ]) (eq-eqb p (length (m .bytecode)) e)
 
-    sim-lays : (Q : List Call) (p : ℕ) (pre : List Call) → calls ≡ pre ++ Q → (A B : List Row) → rows ≡ A ++ B → p ≡ length (codeOf s A) → (n : ℕ) → Lays s (m .constants) labels n p Q B
-        → (st : List ℕ) (σ : Values) → Simulated (branchAt Q) (stepAt calls w Q st σ) (standing p st σ)
+    sim-lays : (Q : List Call) (p : ℕ) (B : List Row) → Front Q p B → (n : ℕ) → Lays s (m .constants) labels n p Q B → (st : List ℕ) (σ : Values) → Simulated (branchAt Q) (stepAt calls w Q st σ) (standing p st σ)
     unfolding branchAt stepAt called isBranch aim Simulated at
-    sim-lays Q p pre split A B cut place n ended st σ = at-end A p cut place st σ
-    sim-lays Q p pre split A B cut place n (quiet {cs = cs} (creating {h = h}) x) st σ = silent-stand (createLabel h) cs p pre split A B cut place _ x st σ
-    sim-lays Q p pre split A B cut place n (binding {l = l} {cs = cs} f x) st σ = silent-stand (bindLabel l) cs p pre split A B cut place _ x st σ
-    sim-lays Q p pre split A B cut place n (quiet {cs = cs} (pooling {k = k}) x) st σ = silent-stand (addConstant k) cs p pre split A B cut place _ x st σ
-    sim-lays Q p pre split A B cut place n (quiet {cs = cs} (resetting {h = h}) x) st σ = silent-stand (resetStackDepth h) cs p pre split A B cut place _ x st σ
-    sim-lays Q p pre split A B cut place n (quiet {cs = cs} (setting {q = q}) x) st σ = silent-stand (setPosition q) cs p pre split A B cut place _ x st σ
-    sim-lays Q p pre split A B cut place n (row {c = c} {r = r} {cs = cs} {rows = rs} i x) st σ = row-sim c cs p pre split A r rs cut place _ x i st σ
+    sim-lays Q p B x n ended st σ = at-end p x st σ
+    sim-lays Q p B x n (quiet {cs = cs} (creating {h = h}) l) st σ = silent-stand (createLabel h) cs p B x _ l st σ
+    sim-lays Q p B x n (binding {l = k} {cs = cs} f l) st σ = silent-stand (bindLabel k) cs p B x _ l st σ
+    sim-lays Q p B x n (quiet {cs = cs} (pooling {k = k}) l) st σ = silent-stand (addConstant k) cs p B x _ l st σ
+    sim-lays Q p B x n (quiet {cs = cs} (resetting {h = h}) l) st σ = silent-stand (resetStackDepth h) cs p B x _ l st σ
+    sim-lays Q p B x n (quiet {cs = cs} (setting {q = q}) l) st σ = silent-stand (setPosition q) cs p B x _ l st σ
+    sim-lays Q p B x n (row {c = c} {r = r} {cs = cs} {rows = rs} i l) st σ = row-sim c cs p r (record { B = rs; front = x; n = _; rest = l }) i st σ
 
     -- ---- runs
 
     sim-step : (x : State) (p : ℕ) → Stand (x .rest) p → Simulated (branchAt (x .rest)) (step calls w x) (standing p (x .stack) (x .values))
     unfolding step
-    sim-step x p d = sim-lays (x .rest) p (d .pre) (d .split) (d .A) (d .B) (d .cut) (d .place) (d .n) (d .lays) (x .stack) (x .values)
+    sim-step x p d = sim-lays (x .rest) p (d .B) (d .front) (d .n) (d .lays) (x .stack) (x .values)
+
+    -- whatever the calls' step is
+    sim-as : (x : State) {z : Step} (p : ℕ) → Stand (x .rest) p → step calls w x ≡ z → Simulated (branchAt (x .rest)) z (standing p (x .stack) (x .values))
+    sim-as x p d e = subst (λ z. Simulated (branchAt (x .rest)) z (standing p (x .stack) (x .values))) e (sim-step x p d)
 
     next-of : (x y : State) (p : ℕ) → Stand (x .rest) p → step calls w x ≡ goes y → Next (branchAt (x .rest)) (standing p (x .stack) (x .values)) y
     unfolding Simulated
-    next-of x y p d e = subst (λ z. Simulated (branchAt (x .rest)) z (standing p (x .stack) (x .values))) e (sim-step x p d)
+    next-of x y p d e = sim-as x p d e
 
     moves-run : (b : Bool) (x y : machine.State) → Moves b x y → Run m x y
     unfolding Moves
@@ -351,7 +346,7 @@ module _ (s : Sheet) (known : Reads s) (goodSheet : Good s) (goal : ℕ → ℕ)
     unfolding Simulated
     stops-run x σ h p d =
         let r = reach-run x (h .last) (h .there) p d in
-        record { last = standing (r .place) (h .last .stack) (h .last .values); there = r .there; values = h .values; is = subst (λ z. Simulated (branchAt (h .last .rest)) z (standing (r .place) (h .last .stack) (h .last .values))) (h .is) (sim-step (h .last) (r .place) (r .stand)) }
+        record { last = standing (r .place) (h .last .stack) (h .last .values); there = r .there; values = h .values; is = sim-as (h .last) (r .place) (r .stand) (h .is) }
 
     pub record Done (x : machine.State) (σ : Values) : Type 0 where
       pub ended : Ended m machine.finishes x σ
@@ -362,6 +357,6 @@ module _ (s : Sheet) (known : Reads s) (goodSheet : Good s) (goal : ℕ → ℕ)
     finish-run x σ h p d =
         let r = reach-run x (h .last) (h .there) p d in
         record {
-          ended = record { last = standing (r .place) (h .last .stack) (h .last .values); there = r .there; values = h .values; is = subst (λ z. Simulated (branchAt (h .last .rest)) z (standing (r .place) (h .last .stack) (h .last .values))) (h .is) (sim-step (h .last) (r .place) (r .stand)) };
+          ended = record { last = standing (r .place) (h .last .stack) (h .last .values); there = r .there; values = h .values; is = sim-as (h .last) (r .place) (r .stand) (h .is) };
           empty = h .empty;
         }

@@ -58,6 +58,18 @@ popTwo [] k = breaks
 popTwo (b ∷ []) k = breaks
 popTwo (b ∷ a ∷ st) k = k a b st
 
+-- what holds of a machine that breaks, and of one that goes on with the values it pops
+pub on-one : (F : Step → List ℕ → Type 0) (st : List ℕ) (k : ℕ → List ℕ → Step) → ((s : List ℕ) → F breaks s) → ((a : ℕ) (r : List ℕ) → F (k a r) (a ∷ r)) → F (popOne st k) st
+unfolding popOne
+on-one F [] k e f = e []
+on-one F (a ∷ r) k e f = f a r
+
+pub on-two : (F : Step → List ℕ → Type 0) (st : List ℕ) (k : ℕ → ℕ → List ℕ → Step) → ((s : List ℕ) → F breaks s) → ((a b : ℕ) (r : List ℕ) → F (k a b r) (b ∷ a ∷ r)) → F (popTwo st k) st
+unfolding popTwo
+on-two F [] k e f = e []
+on-two F (b ∷ []) k e f = e (b ∷ [])
+on-two F (b ∷ a ∷ r) k e f = f a b r
+
 unfoldable pub calculated : Option ℕ → List Call → List ℕ → Values → Step
 calculated none r st σ = stops
 calculated (some a) r st σ = at r (a ∷ st) σ

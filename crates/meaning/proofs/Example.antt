@@ -1,11 +1,10 @@
 -- The theorem applied, from the text of the files on, to a program with an IF, a CASE, a REPEAT, a FOR and a division whose divisor is a starting value. No
 -- premise of it is empty.
 use Prim.Native.Nat.{ℕ, _*_}
-use mathlib.Core.Path.{_≡_, refl, sym, _∙_, ap, subst}
-use mathlib.Core.List.{List, [], _∷_}
+use mathlib.Core.Path.{_≡_, refl, sym, _∙_, ap}
+use mathlib.Core.List.{List, []}
 use mathlib.Core.Bool.{Bool, true, false}
 use mathlib.Core.Option.{Option, some, none}
-use lib.Dec.{eqb}
 use lib.Signed.{quotZ}
 use borrow.Author.Tests.{eq-eqb, ne-eqb}
 use Rattle.definition.specs.Limits.{maxCode, maxConstants, maxLines, entrySize, width}

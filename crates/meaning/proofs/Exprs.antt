@@ -1,6 +1,6 @@
 -- Running an expression's calls pushes its value, or stops where its meaning does; and the tests that are branches.
 use Prim.Native.Nat.{ℕ, suc}
-use mathlib.Core.Path.{_≡_, refl, ap}
+use mathlib.Core.Path.{_≡_, refl, sym, ap, subst}
 use mathlib.Core.List.{List, _∷_}
 use mathlib.Core.Bool.{Bool, true, false}
 use mathlib.Core.Option.{Option, some, none}
@@ -40,12 +40,16 @@ module _ {code : List Call} {w : ℕ} (good : Good code) where
   unary-does role.Neg a st σ = says (emitOpcode role.neg) (λ r. refl)
   unary-does role.BoolNot a st σ = says (emitOpcode role.boolNot) (λ r. refl)
 
-  -- a value, and then a part that goes on with it
+  -- a value, and then a part that goes on with it; z is where both come to
+  pub on-value : {m k : Calls} {st : List ℕ} {σ : Values} (z : Option ℕ → End) (x : Option ℕ) → z none ≡ stopped σ → Does code w m st σ (valued st σ x) → ((y : ℕ) → Does code w k (y ∷ st) σ (z (some y))) → Does code w (m >> k) st σ (z x)
+  unfolding valued Away
+  on-value {m} {k} {st} {σ} z none e p q = subst (λ r. Does code w (m >> k) st σ r) (sym e) (cut k tt p)
+  on-value z (some y) e p q = p ⨾ q y
+
   with-value : {m k : Calls} {st : List ℕ} {σ : Values} (st₂ : List ℕ) (z : ℕ → Option ℕ) (x : Option ℕ) → Does code w m st σ (valued st σ x) → ((y : ℕ) → Does code w k (y ∷ st) σ (valued st₂ σ (z y)))
       → Does code w (m >> k) st σ (valued st₂ σ (withValue x z))
-  unfolding valued withValue Away
-  with-value {k = k} st₂ z none p q = cut k tt p
-  with-value st₂ z (some y) p q = p ⨾ q y
+  unfolding valued withValue
+  with-value {σ = σ} st₂ z x p q = on-value (λ y. valued st₂ σ (withValue y z)) x refl p q
 
   -- branches on the top value
   pub branch-on : (x : ℕ) (l : ℕ) (st : List ℕ) (σ : Values) → truth x ≡ true → Does code w (say (emitJmpIfNot l)) (x ∷ st) σ (through st σ)

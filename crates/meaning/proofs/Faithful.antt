@@ -1,6 +1,6 @@
 -- Code does what the statements say: of whatever a call with an empty rule file gave back.
 use Prim.Native.Nat.{ℕ}
-use mathlib.Core.Path.{_≡_, refl, sym, _∙_, ap, subst}
+use mathlib.Core.Path.{_≡_, sym, _∙_, ap, subst}
 use mathlib.Core.List.{List, [], _∷_}
 use native.Mathlib.Omega.{arith}
 use lib.ListN.{length, take}
@@ -8,10 +8,9 @@ use Rattle.definition.specs.Limits.{width}
 use Rattle.definition.specs.Res.{ok}
 use Rattle.definition.specs.Opcode.{Sheet}
 use Rattle.definition.specs.Rules.{Rule, readRules}
-use Rattle.definition.specs.Iec.{Values}
 use Rattle.definition.specs.Lent.{filled}
 use Rattle.definition.specs.Compile.{FinalizedFunction, finalizeFunction, emitProgram, Room, Answer, answer, Compiles}
-use Rattle.definition.specs.Machine.{Image, imageOf}
+use Rattle.definition.specs.Machine.{imageOf}
 use Rattle.definition.specs.Claims.{DoesAsSaid, imageIn, Faithful}
 use Rattle.opcode.proofs.Faults.{good}
 use Rattle.rules.proofs.File.{no-rules}

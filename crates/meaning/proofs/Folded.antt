@@ -15,7 +15,7 @@ use Rattle.definition.specs.Count.{oneIf}
 use Rattle.field.proofs.Results.{never}
 use Rattle.counting.proofs.Once.{isBind}
 use Rattle.runs.proofs.Heights.{aim}
-use Rattle.meaning.proofs.Calls.{State, Step, goes, finishes, stops, breaks, here, at, behind, behind-past, popOne, popTwo, calculated, operated, chosen, called, stepAt, step, isBranch, branchAt, Reach, still, onward, Jump, Halt, Finish, Lasts, enough, along, over, reach-then, jump-reach, reach-lasts, jump-lasts}
+use Rattle.meaning.proofs.Calls.{State, Step, goes, finishes, stops, breaks, here, at, behind, behind-past, popOne, popTwo, on-one, on-two, calculated, operated, chosen, called, stepAt, step, isBranch, branchAt, Reach, still, onward, Jump, Halt, Finish, Lasts, enough, along, over, reach-then, jump-reach, reach-lasts, jump-lasts}
 
 -- is the next instruction a load of v, with no label bound before it?
 unfoldable pub pends : ℕ → List Call → Bool
@@ -162,34 +162,27 @@ module _ (code : List Call) (w : ℕ) where
   moved x′ cs st σ e = record { tracker = other; stack = st; moves = onward e still; match = refl }
 
   -- an instruction of one byte
-  op-sim : (r : Role) (cs : List Call) (st : List ℕ) (σ : Values) → Simulated false (operated w r cs st σ) (here (emitOpcode r ∷ fold other cs) st σ)
-  unfolding operated popOne popTwo calculated at Simulated Moves Match step stepAt called here
-  op-sim dup cs [] σ = tt
-  op-sim dup cs (a ∷ st) σ = moved _ cs _ σ refl
-  op-sim pop cs [] σ = tt
-  op-sim pop cs (a ∷ st) σ = moved _ cs _ σ refl
+  abbrev Sim : Role → List Call → Values → Step → List ℕ → Type 0
+  Sim r cs σ z st = Simulated false z (here (emitOpcode r ∷ fold other cs) st σ)
+
+  op-sim : (r : Role) (cs : List Call) (st : List ℕ) (σ : Values) → Sim r cs σ (operated w r cs st σ) st
+  unfolding operated popOne popTwo calculated at Simulated step stepAt called here
+  op-sim dup cs st σ = on-one (Sim dup cs σ) st _ (λ s. tt) (λ a r. moved _ cs _ σ refl)
+  op-sim pop cs st σ = on-one (Sim pop cs σ) st _ (λ s. tt) (λ a r. moved _ cs _ σ refl)
   op-sim loadVar cs st σ = tt
   op-sim storeVar cs st σ = tt
   op-sim loadConst cs st σ = tt
   op-sim loadTrue cs st σ = moved _ cs _ σ refl
   op-sim loadFalse cs st σ = moved _ cs _ σ refl
-  op-sim (arithmetic o) cs [] σ = tt
-  op-sim (arithmetic o) cs (b ∷ []) σ = tt
-  op-sim (arithmetic o) cs (b ∷ a ∷ st) σ = go (calculate w o a b) refl
+  op-sim (arithmetic o) cs st σ = on-two (Sim (arithmetic o) cs σ) st _ (λ s. tt) (λ a b r. go a b r (calculate w o a b) refl)
     where
-      go : (x : Option ℕ) → calculate w o a b ≡ x → Simulated false (calculated x cs st σ) (here (emitOpcode (arithmetic o) ∷ fold other cs) (b ∷ a ∷ st) σ)
-      go none e = ap (λ x. calculated x (fold other cs) st σ) e
-      go (some x) e = moved _ cs _ σ (ap (λ x. calculated x (fold other cs) st σ) e)
-  op-sim (logic o) cs [] σ = tt
-  op-sim (logic o) cs (b ∷ []) σ = tt
-  op-sim (logic o) cs (b ∷ a ∷ st) σ = moved _ cs _ σ refl
-  op-sim neg cs [] σ = tt
-  op-sim neg cs (a ∷ st) σ = moved _ cs _ σ refl
-  op-sim boolNot cs [] σ = tt
-  op-sim boolNot cs (a ∷ st) σ = moved _ cs _ σ refl
-  op-sim (compare c) cs [] σ = tt
-  op-sim (compare c) cs (b ∷ []) σ = tt
-  op-sim (compare c) cs (b ∷ a ∷ st) σ = moved _ cs _ σ refl
+      go : (a b : ℕ) (r : List ℕ) (x : Option ℕ) → calculate w o a b ≡ x → Sim (arithmetic o) cs σ (calculated x cs r σ) (b ∷ a ∷ r)
+      go a b r none e = ap (λ x. calculated x (fold other cs) r σ) e
+      go a b r (some x) e = moved _ cs _ σ (ap (λ x. calculated x (fold other cs) r σ) e)
+  op-sim (logic o) cs st σ = on-two (Sim (logic o) cs σ) st _ (λ s. tt) (λ a b r. moved _ cs _ σ refl)
+  op-sim neg cs st σ = on-one (Sim neg cs σ) st _ (λ s. tt) (λ a r. moved _ cs _ σ refl)
+  op-sim boolNot cs st σ = on-one (Sim boolNot cs σ) st _ (λ s. tt) (λ a r. moved _ cs _ σ refl)
+  op-sim (compare c) cs st σ = on-two (Sim (compare c) cs σ) st _ (λ s. tt) (λ a b r. moved _ cs _ σ refl)
   op-sim jmp cs st σ = tt
   op-sim jmpIfNot cs st σ = tt
   op-sim cmpBr cs st σ = tt
@@ -245,44 +238,35 @@ module _ (code : List Call) (w : ℕ) where
 
   -- ---- one call
 
+  -- one that is no instruction, and a branch
+  stays : (t : Last) (c : Call) (cs : List Call) (st : List ℕ) (σ : Values) (st′ : List ℕ) → step code′ w (here (c ∷ fold t cs) st′ σ) ≡ at (fold t cs) st′ σ → ((v : ℕ) → pends v (c ∷ cs) ≡ pends v cs) → Match t (c ∷ cs) st σ st′
+      → Next false (here (c ∷ fold t cs) st′ σ) (here cs st σ)
+  unfolding Moves here at
+  stays t c cs st σ st′ e n m = record { tracker = t; stack = st′; moves = onward e still; match = quiet t c cs st σ st′ n m }
+
+  branches : (c : Call) (cs y : List Call) (st : List ℕ) (σ : Values) (st₁ st₂ : List ℕ) → isBranch c ≡ true → step code′ w (here (c ∷ fold other cs) st₁ σ) ≡ at (fold other y) st₂ σ → st₂ ≡ st → Next true (here (c ∷ fold other cs) st₁ σ) (here y st σ)
+  unfolding Moves Match here at branchAt
+  branches c cs y st σ st₁ st₂ b e m = record { tracker = other; stack = st₂; moves = record { from = here (c ∷ fold other cs) st₁ σ; there = still; branch = b; goes = e }; match = m }
+
   sim : (c : Call) (cs : List Call) (t : Last) (st : List ℕ) (σ : Values) (st′ : List ℕ) → Match t (c ∷ cs) st σ st′ → Simulated (isBranch c) (called code w c cs st σ) (here (fold t (c ∷ cs)) st′ σ)
   unfolding called Simulated isBranch aim pends fold Moves Match popOne step stepAt at here branchAt
-  sim (createLabel h) cs t st σ st′ m = record { tracker = t; stack = st′; moves = onward refl still; match = quiet t (createLabel h) cs st σ st′ (λ v. refl) m }
+  sim (createLabel h) cs t st σ st′ m = stays t (createLabel h) cs st σ st′ refl (λ v. refl) m
   sim (bindLabel l) cs t st σ st′ m = record { tracker = other; stack = st′; moves = onward refl still; match = straight t (bindLabel l ∷ cs) st σ st′ (λ v. refl) m }
   sim (loadVariable v) cs t st σ st′ m = loads t v cs st σ st′ m
   sim (storeVariable v) cs t [] σ st′ m = tt
   sim (storeVariable v) cs t (a ∷ st) σ st′ m =
       subst (λ x. Next false (here (fold t (storeVariable v ∷ cs)) x σ) (here cs st (iec.stored σ v a))) (sym (straight t (storeVariable v ∷ cs) (a ∷ st) σ st′ (λ u. refl) m)) (stores t v a cs st σ)
   sim (loadConstant k) cs t st σ st′ m = record { tracker = other; stack = k ∷ st′; moves = onward refl still; match = ap (λ x. k ∷ x) (straight t (loadConstant k ∷ cs) st σ st′ (λ v. refl) m) }
-  sim (addConstant k) cs t st σ st′ m = record { tracker = t; stack = st′; moves = onward refl still; match = quiet t (addConstant k) cs st σ st′ (λ v. refl) m }
+  sim (addConstant k) cs t st σ st′ m = stays t (addConstant k) cs st σ st′ refl (λ v. refl) m
   sim (emitOpcode r) cs t st σ st′ m =
       subst (λ x. Simulated false (operated w r cs st σ) (here (emitOpcode r ∷ fold other cs) x σ)) (sym (straight t (emitOpcode r ∷ cs) st σ st′ (λ v. refl) m)) (op-sim r cs st σ)
-  sim (emitJmp l) cs t st σ st′ m = record {
-    tracker = other;
-    stack = st′;
-    moves = record { from = here (emitJmp l ∷ fold other cs) st′ σ; there = still; branch = refl; goes = ap (λ x. at x st′ σ) (behind-fold l other code) };
-    match = straight t (emitJmp l ∷ cs) st σ st′ (λ v. refl) m;
-  }
+  sim (emitJmp l) cs t st σ st′ m = branches (emitJmp l) cs _ st σ st′ st′ refl (ap (λ x. at x st′ σ) (behind-fold l other code)) (straight t (emitJmp l ∷ cs) st σ st′ (λ v. refl) m)
   sim (emitJmpIfNot l) cs t [] σ st′ m = tt
-  sim (emitJmpIfNot l) cs t (a ∷ st) σ st′ m = record {
-    tracker = other;
-    stack = st;
-    moves = record {
-      from = here (emitJmpIfNot l ∷ fold other cs) st′ σ;
-      there = still;
-      branch = refl;
-      goes = ap (λ x. popOne x λ b rest. at (chosen (truth b) (fold other cs) (behind l code′)) rest σ) (straight t (emitJmpIfNot l ∷ cs) (a ∷ st) σ st′ (λ v. refl) m) ∙ ap (λ x. at x st σ) (chosen-fold (truth a) cs (behind l code) refl (behind-fold l other code));
-    };
-    match = refl;
-  }
-  sim (emitCmpBr c u k l) cs t st σ st′ m = record {
-    tracker = other;
-    stack = st′;
-    moves = record { from = here (emitCmpBr c u k l ∷ fold other cs) st′ σ; there = still; branch = refl; goes = ap (λ x. at x st′ σ) (chosen-fold (compared w c (σ u) k) (behind l code) cs (behind-fold l other code) refl) };
-    match = straight t (emitCmpBr c u k l ∷ cs) st σ st′ (λ v. refl) m;
-  }
-  sim (resetStackDepth h) cs t st σ st′ m = record { tracker = t; stack = st′; moves = onward refl still; match = quiet t (resetStackDepth h) cs st σ st′ (λ v. refl) m }
-  sim (setPosition p) cs t st σ st′ m = record { tracker = t; stack = st′; moves = onward refl still; match = quiet t (setPosition p) cs st σ st′ (λ v. refl) m }
+  sim (emitJmpIfNot l) cs t (a ∷ st) σ st′ m = branches (emitJmpIfNot l) cs _ st σ st′ st refl
+      (ap (λ x. popOne x λ b rest. at (chosen (truth b) (fold other cs) (behind l code′)) rest σ) (straight t (emitJmpIfNot l ∷ cs) (a ∷ st) σ st′ (λ v. refl) m) ∙ ap (λ x. at x st σ) (chosen-fold (truth a) cs (behind l code) refl (behind-fold l other code))) refl
+  sim (emitCmpBr c u k l) cs t st σ st′ m = branches (emitCmpBr c u k l) cs _ st σ st′ st′ refl (ap (λ x. at x st′ σ) (chosen-fold (compared w c (σ u) k) (behind l code) cs (behind-fold l other code) refl)) (straight t (emitCmpBr c u k l ∷ cs) st σ st′ (λ v. refl) m)
+  sim (resetStackDepth h) cs t st σ st′ m = stays t (resetStackDepth h) cs st σ st′ refl (λ v. refl) m
+  sim (setPosition p) cs t st σ st′ m = stays t (setPosition p) cs st σ st′ refl (λ v. refl) m
   sim (refused f) cs t st σ st′ m = tt
 
   -- ---- runs
@@ -304,9 +288,13 @@ module _ (code : List Call) (w : ℕ) where
   unfolding step twin
   sim-step x a = sim-at (x .rest) (a .tracker) (x .stack) (x .values) (a .stack) (a .match)
 
+  -- whatever the step is
+  sim-as : (x : State) {z : Step} (a : Twin x) → step code w x ≡ z → Simulated (branchAt (x .rest)) z (twin x a)
+  sim-as x a e = subst (λ s. Simulated (branchAt (x .rest)) s (twin x a)) e (sim-step x a)
+
   next-of : (x y : State) (a : Twin x) → step code w x ≡ goes y → Next (branchAt (x .rest)) (twin x a) y
   unfolding Simulated
-  next-of x y a e = subst (λ s. Simulated (branchAt (x .rest)) s (twin x a)) e (sim-step x a)
+  next-of x y a e = sim-as x a e
 
   twin-of : (b : Bool) (x′ y : State) → Next b x′ y → Twin y
   twin-of b x′ y n = record { tracker = n .tracker; stack = n .stack; match = n .match }
@@ -338,7 +326,7 @@ module _ (code : List Call) (w : ℕ) where
   unfolding twin Simulated here
   stops-sim x σ h a =
       let r = reach-sim x (h .last) (h .there) a in
-      record { last = twin (h .last) (r .0); there = r .1; values = h .values; is = subst (λ s. Simulated (branchAt (h .last .rest)) s (twin (h .last) (r .0))) (h .is) (sim-step (h .last) (r .0)) }
+      record { last = twin (h .last) (r .0); there = r .1; values = h .values; is = sim-as (h .last) (r .0) (h .is) }
 
   -- where a run finishes no load is pending
   finish-straight : (r : List Call) (st : List ℕ) (σ : Values) → stepAt code w r st σ ≡ finishes → (v : ℕ) → pends v r ≡ false
@@ -368,7 +356,7 @@ module _ (code : List Call) (w : ℕ) where
         there = r .1;
         values = h .values;
         empty = straight (b .tracker) (h .last .rest) (h .last .stack) (h .last .values) (b .stack) (finish-straight (h .last .rest) (h .last .stack) (h .last .values) (h .is)) (b .match) ∙ h .empty;
-        is = subst (λ s. Simulated (branchAt (h .last .rest)) s (twin (h .last) b)) (h .is) (sim-step (h .last) b);
+        is = sim-as (h .last) b (h .is);
       }
 
   -- from the start

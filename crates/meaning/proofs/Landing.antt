@@ -10,27 +10,24 @@ use Rattle.definition.specs.Emit.{Call, bindLabel, emitOpcode}
 use Rattle.definition.specs.Walk.{Calls, _>>=_, _>>_, say, newLabel}
 use Rattle.definition.specs.CompileExpr.{classify}
 use Rattle.definition.specs.Expr.{emitExpr}
-use Rattle.definition.specs.Stmt.{LoopLabels, Loops, labels, branchUnlessBy, branchUnless, elsePart, testLabel, testLabels, armBody, emitArm}
+use Rattle.definition.specs.Stmt.{Loops, labels, exitOf, nextOf, branchUnlessBy, branchUnless, elsePart, testLabel, testLabels, armBody, emitArm}
 use Rattle.definition.specs.Iec.{truth, Values}
 use Rattle.definition.specs.Meaning.{orLater, valueOf, Answer, ends, exits, continues, returns, stops, spent, andThen, onValue, fits, fitsOne}
 use Rattle.meaning.proofs.Calls.{popOne, operated, called}
 use Rattle.meaning.proofs.Walks.{End, through, to, leads, finished, stopped, on, impossible, Away, Good, Does, From, _⨾_, cut, opens, silent, from-later, from-inside, chain, says, from-here, from-last, landed}
-use Rattle.meaning.proofs.Exprs.{valued, expr-does, jumps, binding, resets}
+use Rattle.meaning.proofs.Exprs.{valued, on-value, expr-does, jumps, binding, resets}
 use Rattle.meaning.proofs.Tests.{testedBy, tested, unless-does, labelled, listed, label-does, labels-does}
 
-unfoldable pub exitEnd : Option LoopLabels → Values → End
-exitEnd none σ = impossible
-exitEnd (some o) σ = to (o .exit) [] σ
-
-unfoldable pub nextEnd : Option LoopLabels → Values → End
-nextEnd none σ = impossible
-nextEnd (some o) σ = to (o .next) [] σ
+-- at a label, if there is one
+unfoldable pub labelEnd : Option ℕ → Values → End
+labelEnd none σ = impossible
+labelEnd (some l) σ = to l [] σ
 
 -- z says where a statement that ends comes to; an EXIT and a CONTINUE come to their open loop's labels
 unfoldable pub landing : (Values → End) → Loops → ℕ → Answer → End
 landing z loops f (ends σ) = z σ
-landing z loops f (exits i σ) = exitEnd (labels i loops) σ
-landing z loops f (continues i σ) = nextEnd (labels i loops) σ
+landing z loops f (exits i σ) = labelEnd (exitOf (labels i loops)) σ
+landing z loops f (continues i σ) = labelEnd (nextOf (labels i loops)) σ
 landing z loops f (returns σ) = finished σ
 landing z loops f (stops σ) = stopped σ
 landing z loops f spent = on f
@@ -45,22 +42,17 @@ at l σ = to l [] σ
 abbrev pub near : ℕ → Values → End
 near l σ = leads l [] σ
 
-pub exit-away : (o : Option LoopLabels) (σ : Values) → Away (exitEnd o σ)
-unfolding exitEnd Away
-exit-away none σ = tt
-exit-away (some o) σ = tt
-
-pub next-away : (o : Option LoopLabels) (σ : Values) → Away (nextEnd o σ)
-unfolding nextEnd Away
-next-away none σ = tt
-next-away (some o) σ = tt
+pub label-away : (l : Option ℕ) (σ : Values) → Away (labelEnd l σ)
+unfolding labelEnd Away
+label-away none σ = tt
+label-away (some l) σ = tt
 
 -- whatever is said of where a statement ends: an end comes from z to y, and the other answers lead away from both
 pub landing-by : (loops : Loops) (f : ℕ) (F G : End → Type 0) (z y : Values → End) (a : Answer) → ((σ : Values) → F (z σ) → G (y σ)) → ((x : End) → Away x → F x → G x) → F (landing z loops f a) → G (landing y loops f a)
 unfolding landing Away
 landing-by loops f F G z y (ends σ) e k p = e σ p
-landing-by loops f F G z y (exits i σ) e k p = k _ (exit-away (labels i loops) σ) p
-landing-by loops f F G z y (continues i σ) e k p = k _ (next-away (labels i loops) σ) p
+landing-by loops f F G z y (exits i σ) e k p = k _ (label-away _ σ) p
+landing-by loops f F G z y (continues i σ) e k p = k _ (label-away _ σ) p
 landing-by loops f F G z y (returns σ) e k p = k _ tt p
 landing-by loops f F G z y (stops σ) e k p = k _ tt p
 landing-by loops f F G z y spent e k p = k _ tt p
@@ -166,14 +158,9 @@ module _ {code : List Call} {w : ℕ} (good : Good code) (loops : Loops) (f : �
   pub case-does : (e : Expr) (A : ℕ → Calls) (B : Calls) (σ : Values) (r : ℕ → Option Answer) (b : Answer) → ((x end : ℕ) → Does code w (A end) (x ∷ []) σ (armsEnd end loops f x σ (r x))) → Does code w B [] σ (landing onward loops f b)
       → Does code w (emitExpr e 0 >> (newLabel 0 >>= λ end. A end >> (say (emitOpcode pop) >> (B >> say (bindLabel end))))) [] σ (landing onward loops f (onValue (valueOf w σ e) σ λ x. elim (r x) [ some a ↦ a | none ↦ b ]))
   unfolding onValue valued landing armsEnd Away
-  case-does e A B σ r b p q = go (valueOf w σ e) (expr-does good e 0 [] σ)
+  case-does e A B σ r b p q = on-value good (λ v. landing onward loops f (onValue v σ λ x. elim (r x) [ some a ↦ a | none ↦ b ])) (valueOf w σ e) refl (expr-does good e 0 [] σ) (λ x. opens 0 (λ end. by x end (r x) (p x end)))
     where
       by : (x end : ℕ) (t : Option Answer) → Does code w (A end) (x ∷ []) σ (armsEnd end loops f x σ t)
           → Does code w (A end >> (say (emitOpcode pop) >> (B >> say (bindLabel end)))) (x ∷ []) σ (landing onward loops f (elim t [ some a ↦ a | none ↦ b ]))
       by x end none d = d ⨾ pops x σ ⨾ followed onward b q (λ τ. binding good end [] τ)
       by x end (some a) d = rejoined (x ∷ []) end onward a (cut _ (landing-away end loops f a) d) (λ τ. from-later _ (from-later _ (from-later _ (from-last good))))
-
-      go : (v : Option ℕ) → Does code w (emitExpr e 0) [] σ (valued [] σ v)
-          → Does code w (emitExpr e 0 >> (newLabel 0 >>= λ end. A end >> (say (emitOpcode pop) >> (B >> say (bindLabel end))))) [] σ (landing onward loops f (onValue v σ λ x. elim (r x) [ some a ↦ a | none ↦ b ]))
-      go none d = cut _ tt d
-      go (some x) d = d ⨾ opens 0 (λ end. by x end (r x) (p x end))

@@ -7,13 +7,12 @@ use mathlib.Core.Option.{Option, some, none}
 use lib.Dec.{eqb}
 use Rattle.definition.specs.Limits.{width}
 use Rattle.definition.specs.Opcode.{CompareOp, Add, arithmetic}
-use Rattle.definition.specs.Opcode as role
 use Rattle.definition.specs.Tree.{Expr, countsDown, bound}
 use Rattle.definition.specs.Emit.{Call, bindLabel, loadVariable, storeVariable, loadConstant, addConstant, emitOpcode, emitJmp, emitJmpIfNot}
 use Rattle.definition.specs.Walk.{Calls, _>>=_, _>>_, say, newLabel, when}
 use Rattle.definition.specs.CompileExpr.{ClassifiedCmp, classify, constantOf, emitClassifiedCmpBr}
 use Rattle.definition.specs.Expr.{emitExpr}
-use Rattle.definition.specs.Stmt.{LoopLabels, Loops, labels, branchUnlessBy, loopBody, endTestBy, emitFor, whileBy, emitWhile, repeatBy, emitRepeat, emitPlain}
+use Rattle.definition.specs.Stmt.{LoopLabels, Loops, labels, exitOf, nextOf, branchUnlessBy, loopBody, endTestBy, emitFor, whileBy, emitWhile, repeatBy, emitRepeat, emitPlain}
 use Rattle.definition.specs.Iec.{truth, bit, calculate, stored, Values, compared}
 use Rattle.definition.specs.Meaning.{valueOf, Answer, ends, exits, continues, returns, stops, spent, onValue, Turn, again, leaves, onTurn, thenTurn, turns, caught, turnOf, until, within, counted, forTurn}
 use Rattle.definition.specs.Claims.{left, right}
@@ -21,9 +20,9 @@ use Rattle.field.proofs.Results.{never}
 use Rattle.runs.proofs.Conditions.{asks}
 use Rattle.meaning.proofs.Calls.{popOne, popTwo, calculated, operated, called, enough, reach-then, jump-reach}
 use Rattle.meaning.proofs.Walks.{End, through, to, Away, Ends, Good, Does, From, _⨾_, cut, opens, silent, from-later, chain, from-chain, from-back, says, weaker, weaker′, from-here, from-last, entering, closing}
-use Rattle.meaning.proofs.Exprs.{valued, expr-does, jumps, binding}
+use Rattle.meaning.proofs.Exprs.{valued, on-value, expr-does, jumps, binding}
 use Rattle.meaning.proofs.Tests.{constant-value, fused-value, truth-bit, testedBy, tested, unless-fused, when-fused, branch-does, unless-does, comparing}
-use Rattle.meaning.proofs.Landing.{exitEnd, nextEnd, landing, onward, at, near, exit-away, next-away, landing-by, landing-away}
+use Rattle.meaning.proofs.Landing.{labelEnd, landing, onward, at, near, label-away, landing-by, landing-away}
 
 -- an answer that is no CONTINUE of loop i
 unfoldable pub Never : ℕ → Answer → Type 0
@@ -67,22 +66,22 @@ module _ {code : List Call} {w : ℕ} (good : Good code) (loops : Loops) where
 
   pub body-does : (i end : ℕ) (used : Bool) (body : Loops → Calls) (f : ℕ) (σ : Values) (a : Answer) → ((o : Loops) → Does code w (body o) [] σ (landing onward o f a)) → (used ≡ false → Never i a)
       → Does code w (loopBody i end used body loops) [] σ (bodyEnd end loops f (caught i a))
-  unfolding loopBody landing caught bodyEnd labels exitEnd nextEnd Never when Away
+  unfolding loopBody landing caught bodyEnd labels exitOf nextOf labelEnd Never when Away
   body-does i end used body f σ a p q = opens 0 λ next. go next a (p (record { loop = i; exit = end; next = next } ∷ loops)) q
     where
-      exiting : (next : ℕ) (τ : Values) (j : ℕ) (b : Bool) → Does code w (body (own i end next ∷ loops)) [] σ (exitEnd (elim b [ true ↦ some (own i end next) | false ↦ labels j loops ]) τ)
+      exiting : (next : ℕ) (τ : Values) (j : ℕ) (b : Bool) → Does code w (body (own i end next ∷ loops)) [] σ (labelEnd (exitOf (elim b [ true ↦ some (own i end next) | false ↦ labels j loops ])) τ)
           → Does code w (whole i end used body loops next) [] σ (bodyEnd end loops f (elim b [ true ↦ leaves (ends τ) | false ↦ leaves (exits j τ) ]))
       exiting next τ j true r = cut _ tt r
-      exiting next τ j false r = cut _ (exit-away (labels j loops) τ) r
+      exiting next τ j false r = cut _ (label-away (exitOf (labels j loops)) τ) r
 
       passed : (next : ℕ) (τ : Values) (u : Bool) → (u ≡ false → _≡_ {A = Bool} true false) → From code w next (when u (say (bindLabel next))) [] τ (through [] τ)
       passed next τ true n = from-last good
       passed next τ false n = never (let z = n refl in cc)
 
-      continuing : (next : ℕ) (τ : Values) (j : ℕ) (b : Bool) → (used ≡ false → b ≡ false) → Does code w (body (own i end next ∷ loops)) [] σ (nextEnd (elim b [ true ↦ some (own i end next) | false ↦ labels j loops ]) τ)
+      continuing : (next : ℕ) (τ : Values) (j : ℕ) (b : Bool) → (used ≡ false → b ≡ false) → Does code w (body (own i end next ∷ loops)) [] σ (labelEnd (nextOf (elim b [ true ↦ some (own i end next) | false ↦ labels j loops ])) τ)
           → Does code w (whole i end used body loops next) [] σ (bodyEnd end loops f (elim b [ true ↦ again τ | false ↦ leaves (continues j τ) ]))
       continuing next τ j true n r = chain (cut _ tt r) (from-later _ (passed next τ used n))
-      continuing next τ j false n r = cut _ (next-away (labels j loops) τ) r
+      continuing next τ j false n r = cut _ (label-away (nextOf (labels j loops)) τ) r
 
       go : (next : ℕ) (a : Answer) → Does code w (body (own i end next ∷ loops)) [] σ (landing onward (own i end next ∷ loops) f a) → (used ≡ false → Never i a) → Does code w (whole i end used body loops next) [] σ (bodyEnd end loops f (caught i a))
       go next (ends τ) r n = r ⨾ used-does used next τ
@@ -96,6 +95,10 @@ module _ {code : List Call} {w : ℕ} (good : Good code) (loops : Loops) where
 
   pub nearer : {m : Calls} {σ : Values} (f : ℕ) (end : ℕ) (a : Answer) → Does code w m [] σ (landing (at end) loops f a) → Does code w m [] σ (landing (near end) loops f a)
   nearer {m} {σ} f end a p = landing-by loops f (Does code w m [] σ) (Does code w m [] σ) (at end) (near end) a (λ τ r. weaker′ r) (λ x k r. r) p
+
+  -- a body that leaves the loop, whatever is behind it in the turn
+  left-so : {m : Calls} {σ : Values} (k : Calls) (f end : ℕ) (a : Answer) → Does code w m [] σ (landing (at end) loops f a) → Does code w (m >> k) [] σ (landing (near end) loops f a)
+  left-so k f end a p = nearer f end a (cut k (landing-away end loops f a) p)
 
   -- the loop's end is bound behind it
   pub ended : {m : Calls} {σ : Values} (f : ℕ) (end : ℕ) (a : Answer) → Does code w m [] σ (landing (near end) loops f a) → Does code w (m >> say (bindLabel end)) [] σ (landing onward loops f a)
@@ -132,7 +135,7 @@ module _ {code : List Call} {w : ℕ} (good : Good code) (loops : Loops) where
       → Does code w (m >> k) [] σ (turnEnd end head loops f (thenTurn x h))
   unfolding bodyEnd turnEnd thenTurn
   on-turn f head end (again τ) h p q = p ⨾ q τ
-  on-turn f head end (leaves a) h p q = nearer f end a (cut _ (landing-away end loops f a) p)
+  on-turn f head end (leaves a) h p q = left-so _ f end a p
 
   -- the loop's end is bound in it
   settled : {m : Calls} {σ : Values} (f : ℕ) (end : ℕ) (a : Answer) → Does code w m [] σ (landing (near end) loops f a) → ((τ : Values) → From code w end m [] τ (through [] τ)) → Does code w m [] σ (landing onward loops f a)
@@ -145,8 +148,8 @@ module _ {code : List Call} {w : ℕ} (good : Good code) (loops : Loops) where
   from-outside : {m : Calls} {σ : Values} (k : Calls) (f head end : ℕ) (a : Answer) → Does code w m [] σ (landing onward loops f a) → Does code w (m >> (say (emitJmp head) >> k)) [] σ (turnEnd end head loops f (turnOf a))
   unfolding turnOf turnEnd landing Away
   from-outside k f head end (ends τ) p = p ⨾ cut _ tt (jumps good head [] τ)
-  from-outside k f head end (exits i τ) p = cut _ (exit-away (labels i loops) τ) p
-  from-outside k f head end (continues i τ) p = cut _ (next-away (labels i loops) τ) p
+  from-outside k f head end (exits i τ) p = cut _ (label-away _ τ) p
+  from-outside k f head end (continues i τ) p = cut _ (label-away _ τ) p
   from-outside k f head end (returns τ) p = cut _ tt p
   from-outside k f head end (stops τ) p = cut _ tt p
   from-outside k f head end spent p = cut _ tt p
@@ -160,9 +163,9 @@ module _ {code : List Call} {w : ℕ} (good : Good code) (loops : Loops) where
         → (f : ℕ) (σ : Values) → Does code w (emitPlain i used body continuing loops) [] σ (landing onward loops f (turns (λ g τ. thenTurn (caught i (b g τ)) λ υ. turnOf (c g υ)) f σ))
     unfolding emitPlain
     plain-does continuing c out f σ = opens 0 λ head. opens 0 λ end.
-        settled f end (turns (λ g τ. thenTurn (caught i (b g τ)) λ υ. turnOf (c g υ)) f σ)
-        (entering good _ (turns-do _ head end (λ g τ. thenTurn (caught i (b g τ)) λ υ. turnOf (c g υ))
-        (λ g τ. from-here good (on-turn g head end (caught i (b g τ)) (λ υ. turnOf (c g υ)) (its-body end g τ) (λ υ. from-outside _ g head end (c g υ) (out g υ)))) f σ))
+        settled f end _
+        (entering good _ (turns-do _ head end _
+        (λ g τ. from-here good (on-turn g head end (caught i (b g τ)) _ (its-body end g τ) (λ υ. from-outside _ g head end (c g υ) (out g υ)))) f σ))
         (λ τ. from-later _ (from-later _ (from-later _ (from-later _ (from-last good)))))
 
     -- ---- FOR
@@ -176,16 +179,11 @@ module _ {code : List Call} {w : ℕ} (good : Good code) (loops : Loops) where
             → Does code w (emitClassifiedCmpBr (record { op = c; variable = v; constant = k }) false end) [] σ (bodyEnd end loops f (elim t [ true ↦ again σ | false ↦ leaves (ends σ) ]))
         go true p = p
         go false p = p
-    end-test none c v last end f σ e = says (loadVariable v) (λ r. refl) ⨾ go (valueOf w σ last) (expr-does good last 1 (σ v ∷ []) σ)
+    end-test none c v last end f σ e = says (loadVariable v) (λ r. refl) ⨾ on-value good (λ y. bodyEnd end loops f (within w c (σ v) y σ)) (valueOf w σ last) refl (expr-does good last 1 (σ v ∷ []) σ) (λ y. comparing good c (σ v) y [] σ ⨾ by (compared w c (σ v) y))
       where
         by : (t : Bool) → Does code w (say (emitJmpIfNot end)) (bit t ∷ []) σ (bodyEnd end loops f (elim t [ true ↦ again σ | false ↦ leaves (ends σ) ]))
         by true = branch-does good (bit true) end [] σ
         by false = branch-does good (bit false) end [] σ
-
-        go : (y : Option ℕ) → Does code w (emitExpr last 1) (σ v ∷ []) σ (valued (σ v ∷ []) σ y)
-            → Does code w (emitExpr last 1 >> (say (emitOpcode (role.compare c)) >> say (emitJmpIfNot end))) (σ v ∷ []) σ (bodyEnd end loops f (within w c (σ v) y σ))
-        go none p = cut _ tt p
-        go (some y) p = p ⨾ comparing good c (σ v) y [] σ ⨾ by (compared w c (σ v) y)
 
     counts : (k : Calls) (v step head : ℕ) (σ : Values) → Does code w (say (loadVariable v) >> (say (loadConstant step) >> (say (emitOpcode (arithmetic Add)) >> (say (storeVariable v) >> (say (emitJmp head) >> k))))) [] σ (to head [] (counted w v step σ))
     unfolding called operated popOne popTwo calculated calculate counted Away
@@ -194,7 +192,8 @@ module _ {code : List Call} {w : ℕ} (good : Good code) (loops : Loops) where
     pub for-does : width ≡ w → (v step : ℕ) (from last : Expr) (f : ℕ) (σ : Values)
         → Does code w (emitFor i v step from last used body loops) [] σ (landing onward loops f (onValue (valueOf w σ from) σ λ x. turns (forTurn w i v step last b) f (stored σ v x)))
     unfolding emitFor onValue valued landing called popOne forTurn turnEnd Away
-    for-does same v step from last f σ = go (valueOf w σ from) (expr-does good from 0 [] σ)
+    for-does same v step from last f σ = on-value good (λ x. landing onward loops f (onValue x σ λ y. turns (forTurn w i v step last b) f (stored σ v y))) (valueOf w σ from) refl (expr-does good from 0 [] σ)
+        (λ y. says (storeVariable v) (λ r. refl) ⨾ looped (stored σ v y))
       where
         looped : (τ : Values) → Does code w (newLabel 0 >>= λ head. newLabel 0 >>= λ end. say (bindLabel head) >> (endTestBy (constantOf last) (bound (countsDown width step)) v last end >> (loopBody i end used body loops >> (say (loadVariable v) >> (say (loadConstant step) >> (say (emitOpcode (arithmetic Add)) >> (say (storeVariable v) >> (say (emitJmp head) >> say (bindLabel end)))))))))
             [] τ (landing onward loops f (turns (forTurn w i v step last b) f τ))
@@ -206,10 +205,6 @@ module _ {code : List Call} {w : ℕ} (good : Good code) (loops : Loops) where
             (end-test (constantOf last) (bound (countsDown width step)) v last end g υ refl))
             (λ ρ. on-turn g head end (caught i (b g ρ)) (λ π. again (counted w v step π)) (its-body end g ρ) (λ π. counts _ v step head π)))) f τ))
             (λ υ. from-later _ (from-later _ (from-later _ (from-later _ (from-later _ (from-later _ (from-later _ (from-later _ (from-last good)))))))))
-
-        go : (x : Option ℕ) → Does code w (emitExpr from 0) [] σ (valued [] σ x) → Does code w (emitFor i v step from last used body loops) [] σ (landing onward loops f (onValue x σ λ y. turns (forTurn w i v step last b) f (stored σ v y)))
-        go none p = cut _ tt p
-        go (some y) p = p ⨾ says (storeVariable v) (λ r. refl) ⨾ looped (stored σ v y)
 
     -- ---- REPEAT
 
@@ -225,13 +220,15 @@ module _ {code : List Call} {w : ℕ} (good : Good code) (loops : Loops) where
         go none p = p
         go (some y) p = by (truth y) p
 
+    repeat-turns : (x : Option ClassifiedCmp) (c : Expr) (head end f : ℕ) (σ : Values) → classify c ≡ x
+        → Does code w (say (bindLabel head) >> (loopBody i end used body loops >> branchUnlessBy x c head)) [] σ (landing (near end) loops f (turns (λ g τ. thenTurn (caught i (b g τ)) λ υ. until (valueOf w υ c) υ) f σ))
+    repeat-turns x c head end f σ e = entering good _ (turns-do _ head end _ (λ g τ. from-here good (on-turn g head end (caught i (b g τ)) _ (its-body end g τ) (λ υ. test-turn x c head end g υ e))) f σ)
+
     repeatBy-does : (x : Option ClassifiedCmp) (c : Expr) (head end f : ℕ) (σ : Values) → classify c ≡ x
         → Does code w (repeatBy x i c head end used body loops) [] σ (landing (near end) loops f (turns (λ g τ. thenTurn (caught i (b g τ)) λ υ. until (valueOf w υ c) υ) f σ))
     unfolding repeatBy branchUnlessBy called
-    repeatBy-does (some k) c head end f σ e = says (addConstant (k .constant)) (λ r. refl) ⨾ entering good _ (turns-do _ head end (λ g τ. thenTurn (caught i (b g τ)) λ υ. until (valueOf w υ c) υ)
-        (λ g τ. from-here good (on-turn g head end (caught i (b g τ)) (λ υ. until (valueOf w υ c) υ) (its-body end g τ) (λ υ. test-turn (some k) c head end g υ e))) f σ)
-    repeatBy-does none c head end f σ e = entering good _ (turns-do _ head end (λ g τ. thenTurn (caught i (b g τ)) λ υ. until (valueOf w υ c) υ)
-        (λ g τ. from-here good (on-turn g head end (caught i (b g τ)) (λ υ. until (valueOf w υ c) υ) (its-body end g τ) (λ υ. test-turn none c head end g υ e))) f σ)
+    repeatBy-does (some k) c head end f σ e = says (addConstant (k .constant)) (λ r. refl) ⨾ repeat-turns (some k) c head end f σ e
+    repeatBy-does none c head end f σ e = repeat-turns none c head end f σ e
 
     pub repeat-does : (c : Expr) (f : ℕ) (σ : Values) → Does code w (emitRepeat i c used body loops) [] σ (landing onward loops f (turns (λ g τ. thenTurn (caught i (b g τ)) λ υ. until (valueOf w υ c) υ) f σ))
     unfolding emitRepeat
@@ -242,21 +239,18 @@ module _ {code : List Call} {w : ℕ} (good : Good code) (loops : Loops) where
     back-turn : (m : Calls) (head end f : ℕ) (σ : Values) (x : Turn) → Does code w m [] σ (bodyEnd end loops f x) → Does code w (m >> say (emitJmp head)) [] σ (turnEnd end head loops f x)
     unfolding bodyEnd turnEnd
     back-turn m head end f σ (again τ) p = p ⨾ jumps good head [] τ
-    back-turn m head end f σ (leaves a) p = nearer f end a (cut _ (landing-away end loops f a) p)
+    back-turn m head end f σ (leaves a) p = left-so _ f end a p
 
     module _ (c : Expr) (t : ℕ → Values → Turn) (is : (f : ℕ) (σ : Values) → t f σ ≡ whileTurn (valueOf w σ c) i (b f σ) σ) where
       unfused-turn : (head end f : ℕ) (σ : Values) → Does code w (emitExpr c 0 >> (say (emitJmpIfNot end) >> (loopBody i end used body loops >> say (emitJmp head)))) [] σ (turnEnd end head loops f (t f σ))
       unfolding whileTurn turnEnd landing valued testedBy Away
-      unfused-turn head end f σ = subst (λ x. Does code w (emitExpr c 0 >> (say (emitJmpIfNot end) >> (loopBody i end used body loops >> say (emitJmp head)))) [] σ (turnEnd end head loops f x)) (sym (is f σ)) (go (valueOf w σ c) (expr-does good c 0 [] σ))
+      unfused-turn head end f σ = subst (λ x. Does code w (emitExpr c 0 >> (say (emitJmpIfNot end) >> (loopBody i end used body loops >> say (emitJmp head)))) [] σ (turnEnd end head loops f x)) (sym (is f σ))
+          (on-value good (λ v. turnEnd end head loops f (whileTurn v i (b f σ) σ)) (valueOf w σ c) refl (expr-does good c 0 [] σ) (λ y. by (y ∷ []) (truth y) (branch-does good y end [] σ)))
         where
           by : (st : List ℕ) (u : Bool) → Does code w (say (emitJmpIfNot end)) st σ (testedBy end [] σ u)
               → Does code w (say (emitJmpIfNot end) >> (loopBody i end used body loops >> say (emitJmp head))) st σ (turnEnd end head loops f (elim u [ true ↦ caught i (b f σ) | false ↦ leaves (ends σ) ]))
           by st true p = p ⨾ back-turn _ head end f σ (caught i (b f σ)) (its-body end f σ)
           by st false p = weaker′ (cut _ tt p)
-
-          go : (v : Option ℕ) → Does code w (emitExpr c 0) [] σ (valued [] σ v) → Does code w (emitExpr c 0 >> (say (emitJmpIfNot end) >> (loopBody i end used body loops >> say (emitJmp head)))) [] σ (turnEnd end head loops f (whileTurn v i (b f σ) σ))
-          go none p = cut _ tt p
-          go (some y) p = p ⨾ by (y ∷ []) (truth y) (branch-does good y end [] σ)
 
       -- the fused test, at the end of each turn, and once before the first
       module _ (k : ClassifiedCmp) (fused : classify c ≡ some k) where
@@ -274,7 +268,7 @@ module _ {code : List Call} {w : ℕ} (good : Good code) (loops : Loops) where
           where
             go : (x : Turn) → Does code w (loopBody i end used body loops) [] σ (bodyEnd end loops 0 x) → From code w start (again-calls start end) [] σ (landing (near end) loops 0 (onTurn x λ τ. spent))
             go (again τ) p = record { run = λ n post pre e. enough }
-            go (leaves a) p = from-here good (nearer 0 end a (cut _ (landing-away end loops 0 a) p))
+            go (leaves a) p = from-here good (left-so _ 0 end a p)
         fused-turns start end (suc f) σ e =
             subst (λ x. From code w start (again-calls start end) [] σ (landing (near end) loops (suc f) (onTurn x λ τ. turns t f τ))) (sym (turn-is (suc f) σ true e))
             (go (caught i (b (suc f) σ)) (its-body end (suc f) σ) (λ τ q. fused-turns start end f τ q))
@@ -287,7 +281,7 @@ module _ {code : List Call} {w : ℕ} (good : Good code) (loops : Loops) where
             go : (x : Turn) → Does code w (loopBody i end used body loops) [] σ (bodyEnd end loops (suc f) x) → ((τ : Values) → asks w τ k ≡ true → From code w start (again-calls start end) [] τ (landing (near end) loops f (turns t f τ)))
                 → From code w start (again-calls start end) [] σ (landing (near end) loops (suc f) (onTurn x λ τ. turns t f τ))
             go (again τ) p r = by τ (asks w τ k) refl p (r τ) (when-fused good k start τ)
-            go (leaves a) p r = from-here good (nearer (suc f) end a (cut _ (landing-away end loops (suc f) a) p))
+            go (leaves a) p r = from-here good (left-so _ (suc f) end a p)
 
         fused-while : (end f : ℕ) (σ : Values) → Does code w (whileBy (some k) i c end used body loops) [] σ (landing (near end) loops f (turns t f σ))
         unfolding whileBy called landing testedBy Away

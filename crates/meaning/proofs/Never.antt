@@ -41,15 +41,15 @@ then-is (returns σ) k = refl
 then-is (stops σ) k = refl
 then-is spent k = refl
 
+choose : {A : Type 0} (P : A → Type 0) (b : Bool) (x y : A) → P x → P y → P (elim b [ true ↦ x | false ↦ y ])
+choose P true x y p q = p
+choose P false x y p q = q
+
 module _ (i : ℕ) where
   value-never : (v : Option ℕ) (σ : Values) (k : ℕ → Answer) → ((x : ℕ) → Never i (k x)) → Never i (onValue v σ k)
   unfolding Never onValue
   value-never none σ k q = tt
   value-never (some x) σ k q = q x
-
-  choose-never : (b : Bool) (x y : Answer) → Never i x → Never i y → Never i (elim b [ true ↦ x | false ↦ y ])
-  choose-never true x y p q = p
-  choose-never false x y p q = q
 
   else-never : (m : Option Answer) (y : Answer) → NeverMaybe i m → Never i y → Never i (elim m [ some a ↦ a | none ↦ y ])
   unfolding NeverMaybe
@@ -94,29 +94,17 @@ module _ (i : ℕ) where
   until-never : (v : Option ℕ) (σ : Values) → NeverTurn i (until v σ)
   unfolding NeverTurn until Never
   until-never none σ = tt
-  until-never (some x) σ = go (truth x)
-    where
-      go : (b : Bool) → NeverTurn i (elim b [ true ↦ leaves (ends σ) | false ↦ again σ ])
-      go true = tt
-      go false = tt
+  until-never (some x) σ = choose (NeverTurn i) (truth x) (leaves (ends σ)) (again σ) tt tt
 
   within-never : (w : ℕ) (c : CompareOp) (x : ℕ) (v : Option ℕ) (σ : Values) → NeverTurn i (within w c x v σ)
   unfolding NeverTurn within Never
   within-never w c x none σ = tt
-  within-never w c x (some y) σ = go (compared w c x y)
-    where
-      go : (b : Bool) → NeverTurn i (elim b [ true ↦ again σ | false ↦ leaves (ends σ) ])
-      go true = tt
-      go false = tt
+  within-never w c x (some y) σ = choose (NeverTurn i) (compared w c x y) (again σ) (leaves (ends σ)) tt tt
 
   caught-never : (j : ℕ) (a : Answer) → (eqb i j ≡ false → Never i a) → NeverTurn i (caught j a)
   unfolding NeverTurn caught Never
   caught-never j (ends σ) p = tt
-  caught-never j (exits k σ) p = go (eqb j k)
-    where
-      go : (b : Bool) → NeverTurn i (elim b [ true ↦ leaves (ends σ) | false ↦ leaves (exits k σ) ])
-      go true = tt
-      go false = tt
+  caught-never j (exits k σ) p = choose (NeverTurn i) (eqb j k) (leaves (ends σ)) (leaves (exits k σ)) tt tt
   caught-never j (continues k σ) p = go (eqb i j) (eqb j k) refl refl p
     where
       go : (a b : Bool) → eqb i j ≡ a → eqb j k ≡ b → (a ≡ false → eqb i k ≡ false) → NeverTurn i (elim b [ true ↦ again σ | false ↦ leaves (continues k σ) ])
@@ -140,7 +128,7 @@ mutual
   never-stmt w i (assign s v e) n f σ = value-never i (valueOf w σ e) σ _ (λ x. tt)
   never-stmt w i (if s c t e) n f σ =
       let m = or-false _ _ n in
-      value-never i (valueOf w σ c) σ _ (λ x. choose-never i (truth x) _ _ (never-block w i t (m .0) f σ) (never-block w i e (m .1) f σ))
+      value-never i (valueOf w σ c) σ _ (λ x. choose (Never i) (truth x) _ _ (never-block w i t (m .0) f σ) (never-block w i e (m .1) f σ))
   never-stmt w i (case s e xs b) n f σ =
       let m = or-false _ _ n in
       value-never i (valueOf w σ e) σ _ (λ x. else-never i (runArms w xs x f σ) _ (never-arms w i xs (m .0) x f σ) (never-block w i b (m .1) f σ))

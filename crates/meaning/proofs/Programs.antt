@@ -9,7 +9,7 @@ use Rattle.definition.specs.Res.{ok, _>>=_}
 use Rattle.definition.specs.Opcode.{Sheet}
 use Rattle.definition.specs.Tree.{Block}
 use Rattle.definition.specs.Emit.{Call, bindLabel, refused, Emitter, act, acts}
-use Rattle.definition.specs.Stmt.{labels, emitStmts}
+use Rattle.definition.specs.Stmt.{labels, exitOf, nextOf, emitStmts}
 use Rattle.definition.specs.Iec.{Values}
 use Rattle.definition.specs.Meaning.{Answer, ends, exits, continues, returns, stops, spent, runBlock}
 use Rattle.field.proofs.Results.{never}
@@ -19,7 +19,7 @@ use Rattle.counting.proofs.Emitted.{acts-append}
 use Rattle.meaning.proofs.Calls.{here, behind, behind-past, behind-found, binds-own, step, stepAt, Halt, Finish, Lasts}
 use Rattle.meaning.proofs.Calls as calls
 use Rattle.meaning.proofs.Walks.{Ends, Good}
-use Rattle.meaning.proofs.Landing.{landing, onward, exitEnd, nextEnd}
+use Rattle.meaning.proofs.Landing.{landing, onward, labelEnd}
 use Rattle.meaning.proofs.Stmts.{program-does}
 
 -- ---- a label that is bound once is found
@@ -62,7 +62,7 @@ module _ (w : ℕ) (same : width ≡ w) (b : Block) (good : Good (emitStmts b 0 
   Comes f σ spent = Lasts code w f (here code [] σ)
 
   pub program-comes : (f : ℕ) (σ : Values) → Comes f σ (runBlock w b f σ)
-  unfolding Comes Ends landing exitEnd nextEnd labels step stepAt here
+  unfolding Comes Ends landing labelEnd exitOf nextOf labels step stepAt here
   program-comes f σ = go (runBlock w b f σ) (ran f σ)
     where
       go : (a : Answer) → Ends code w (here code [] σ) [] (landing onward [] f a) → Comes f σ a

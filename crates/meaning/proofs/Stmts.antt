@@ -11,15 +11,15 @@ use Rattle.definition.specs.Tree.{Source, Expr, Stmt, assign, if, case, for, lo
 use Rattle.definition.specs.Emit.{Call, storeVariable, emitOpcode, setPosition}
 use Rattle.definition.specs.Walk.{Calls, _>>_, say}
 use Rattle.definition.specs.Expr.{emitExpr}
-use Rattle.definition.specs.Stmt.{LoopLabels, Loops, labels, jumpTo, exitOf, nextOf, emitLoop, sourceOf, recordPosition, emitStmt, emitBlock, emitRest, emitArms, emitStmts, continuesStmt}
+use Rattle.definition.specs.Stmt.{Loops, labels, jumpTo, exitOf, nextOf, emitLoop, sourceOf, recordPosition, emitStmt, emitBlock, emitRest, emitArms, emitStmts, continuesStmt}
 use Rattle.definition.specs.Stmt as emission
 use Rattle.definition.specs.Iec.{truth, stored, Values}
 use Rattle.definition.specs.Meaning.{valueOf, Answer, ends, exits, returns, stops, andThen, onValue, fitsOne, Turn, again, leaves, thenTurn, turns, caught, turnOf, loopTurn, runStmt, runBlock, runArms}
 use Rattle.field.proofs.Results.{never, some-is}
 use Rattle.meaning.proofs.Calls.{popOne, operated, called}
 use Rattle.meaning.proofs.Walks.{through, Away, Good, Does, _⨾_, cut, silent, says, finishing, refuses}
-use Rattle.meaning.proofs.Exprs.{valued, expr-does, jumps}
-use Rattle.meaning.proofs.Landing.{exitEnd, nextEnd, landing, onward, landing-away, then-does, if-does, armed, armsEnd, arm-does, case-does}
+use Rattle.meaning.proofs.Exprs.{valued, on-value, expr-does, jumps}
+use Rattle.meaning.proofs.Landing.{labelEnd, landing, onward, landing-away, then-does, if-does, armed, armsEnd, arm-does, case-does}
 use Rattle.meaning.proofs.Loops.{Never, whileTurn, plain-does, for-does, repeat-does, while-does}
 use Rattle.meaning.proofs.Never.{or-false, never-block}
 
@@ -125,21 +125,12 @@ done-law w (s then b) f σ p = never (cc)
 module _ {code : List Call} {w : ℕ} (good : Good code) (same : width ≡ w) where
   assign-does : (v : ℕ) (e : Expr) (loops : Loops) (f : ℕ) (σ : Values) → Does code w (emitExpr e 0 >> say (storeVariable v)) [] σ (landing onward loops f (onValue (valueOf w σ e) σ λ x. ends (stored σ v x)))
   unfolding onValue landing valued called popOne Away
-  assign-does v e loops f σ = go (valueOf w σ e) (expr-does good e 0 [] σ)
-    where
-      go : (x : Option ℕ) → Does code w (emitExpr e 0) [] σ (valued [] σ x) → Does code w (emitExpr e 0 >> say (storeVariable v)) [] σ (landing onward loops f (onValue x σ λ y. ends (stored σ v y)))
-      go none p = cut _ tt p
-      go (some y) p = p ⨾ says (storeVariable v) (λ r. refl)
+  assign-does v e loops f σ = on-value good (λ x. landing onward loops f (onValue x σ λ y. ends (stored σ v y))) (valueOf w σ e) refl (expr-does good e 0 [] σ) (λ y. says (storeVariable v) (λ r. refl))
 
-  exit-does : (s : Source) (o : Option LoopLabels) (σ : Values) → Does code w (jumpTo s (exitOf o)) [] σ (exitEnd o σ)
-  unfolding jumpTo exitOf exitEnd
-  exit-does s none σ = refuses good _
-  exit-does s (some o) σ = jumps good (o .exit) [] σ
-
-  continue-does : (s : Source) (o : Option LoopLabels) (σ : Values) → Does code w (jumpTo s (nextOf o)) [] σ (nextEnd o σ)
-  unfolding jumpTo nextOf nextEnd
-  continue-does s none σ = refuses good _
-  continue-does s (some o) σ = jumps good (o .next) [] σ
+  jump-does : (s : Source) (l : Option ℕ) (σ : Values) → Does code w (jumpTo s l) [] σ (labelEnd l σ)
+  unfolding jumpTo labelEnd
+  jump-does s none σ = refuses good _
+  jump-does s (some l) σ = jumps good l [] σ
 
   return-does : (σ : Values) (loops : Loops) (f : ℕ) → Does code w (say (emitOpcode ret)) [] σ (landing onward loops f (returns σ))
   unfolding called operated landing
@@ -176,8 +167,8 @@ module _ {code : List Call} {w : ℕ} (good : Good code) (same : width ≡ w) wh
     stmt-does (case s e xs b) loops f σ = case-does good loops f e (λ end. emitArms xs end loops) (emitBlock b loops) σ (λ x. runArms w xs x f σ) (runBlock w b f σ) (λ x end. arms-does xs end loops x f σ) (block-does b loops f σ)
     stmt-does (for s i v step from last b) loops f σ = for-does good loops i (emission.continues i b) (λ o. emitBlock b o) (λ g τ. runBlock w b g τ) (λ o g τ. block-does b o g τ) (λ g τ n. never-block w i b n g τ) same v step from last f σ
     stmt-does (loop s i b c) loops f σ = loop-does i b c loops (λ o g τ. block-does b o g τ) (λ o g τ. rest-does b o g τ) (λ g τ. block-does c loops g τ) (shape i b c) refl f σ
-    stmt-does (exit s i) loops f σ = exit-does s (labels i loops) σ
-    stmt-does (continue s i) loops f σ = continue-does s (labels i loops) σ
+    stmt-does (exit s i) loops f σ = jump-does s (exitOf (labels i loops)) σ
+    stmt-does (continue s i) loops f σ = jump-does s (nextOf (labels i loops)) σ
     stmt-does (return s) loops f σ = return-does σ loops f
     stmt-does (badStmt x) loops f σ = refuses good x
 

@@ -11,7 +11,6 @@ use Rattle.definition.specs.Tree.{Expr, CaseLabel, value, range, badLabel}
 use Rattle.definition.specs.Emit.{Call, bindLabel, loadConstant, emitOpcode, emitJmp, emitJmpIfNot, emitCmpBr}
 use Rattle.definition.specs.Walk.{Calls, _>>_, say}
 use Rattle.definition.specs.CompileExpr.{ClassifiedCmp, constantOf, classify, emitClassifiedCmpBr}
-use Rattle.definition.specs.Expr.{emitExpr}
 use Rattle.definition.specs.Stmt.{branchUnlessBy, testAgainst, testLabel, testLabels}
 use Rattle.definition.specs.Meaning.{withValue, valueOf, fits, orLater, fitsOne}
 use Rattle.opcode.proofs.Branches.{iec-negate, iec-commute}
@@ -19,7 +18,7 @@ use Rattle.runs.proofs.Heights.{aim}
 use Rattle.runs.proofs.Conditions.{constant-is, Sides, straight, mirrored, sides, asks}
 use Rattle.meaning.proofs.Calls.{at, behind, popOne, popTwo, operated, chosen, called, isBranch}
 use Rattle.meaning.proofs.Walks.{End, through, to, leads, stopped, Away, Good, Does, _⨾_, cut, opens, from-later, chain, says, jumping, weaker, weaker′, from-here, refuses}
-use Rattle.meaning.proofs.Exprs.{valued, expr-does, branch-on, branch-off, jumps}
+use Rattle.meaning.proofs.Exprs.{valued, on-value, expr-does, branch-on, branch-off, jumps}
 
 not-not : (b : Bool) → b ≡ not (not b)
 not-not true = refl
@@ -93,11 +92,7 @@ module _ {code : List Call} {w : ℕ} (good : Good code) where
   unfolding branchUnlessBy tested valued Away
   unless-does (some g) c l σ e = subst (λ v. Does code w (emitClassifiedCmpBr g false l) [] σ (tested l σ v)) (sym (fused-value w σ c g e))
       (subst (λ b. Does code w (emitClassifiedCmpBr g false l) [] σ (testedBy l [] σ b)) (sym (truth-bit (asks w σ g))) (unless-fused g l σ))
-  unless-does none c l σ e = go (valueOf w σ c) (expr-does good c 0 [] σ)
-    where
-      go : (v : Option ℕ) → Does code w (emitExpr c 0) [] σ (valued [] σ v) → Does code w (emitExpr c 0 >> say (emitJmpIfNot l)) [] σ (tested l σ v)
-      go none p = cut _ tt p
-      go (some y) p = p ⨾ branch-does y l [] σ
+  unless-does none c l σ e = on-value good (tested l σ) (valueOf w σ c) refl (expr-does good c 0 [] σ) (λ y. branch-does y l [] σ)
 
   -- ---- a CASE's labels, the selector x on the stack
 

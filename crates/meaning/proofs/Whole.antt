@@ -158,13 +158,13 @@ module _ (s : Sheet) (g : Good s) (p : Program) (e : Emitter) (emits : acts s (e
       let at : x .place ≡ length (codeOf s (x .front)) = let i = x .is in omega arith in
       record {
         place = x .place;
-        stand = record { pre = x .pre; split = x .split; A = x .front; B = x .back; cut = x .cut; place = at; n = x .n; lays = subst (λ ks. Lays s ks (e .labels) (x .n) (x .place) (behind l code′) (x .back)) constants-are (x .lays) };
+        stand = record { B = x .back; front = record { pre = x .pre; split = x .split; A = x .front; cut = x .cut; place = at }; n = x .n; lays = subst (λ ks. Lays s ks (e .labels) (x .n) (x .place) (behind l code′) (x .back)) constants-are (x .lays) };
         is = goal-is s known rows e (all .formed) l (x .place) (x .front) (x .back) (x .cut) (x .label) at;
       }
 
   start-stand : StandAt code′ 0
   unfolding codeOf
-  start-stand = record { pre = []; split = refl; A = []; B = rows; cut = refl; place = refl; n = 0; lays = subst (λ ks. Lays s ks (e .labels) 0 0 code′ rows) constants-are (all .lays) }
+  start-stand = record { B = rows; front = record { pre = []; split = refl; A = []; cut = refl; place = refl }; n = 0; lays = subst (λ ks. Lays s ks (e .labels) 0 0 code′ rows) constants-are (all .lays) }
 
   goodCalls : calls.Good code
   goodCalls = program-good s (p .body) (emitterAt (p .pos)) e emits
