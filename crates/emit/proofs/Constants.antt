@@ -16,10 +16,9 @@ use Rattle.definition.specs.Opcode.{Sheet, Role, CompareOp, comparisonByte, loa
 use Rattle.definition.specs.Emit as def
 use Rattle.definition.specs.Emit.{Call, LineEntry, loadConstant, addConstant, emitCmpBr, cmpBrOperandDelta, refused, act, add, added, recorded, branch, patched, pooled, pooledIf, withConstant, indexOf, le16}
 use Rattle.emit.specs.declared.Emitter.{Emitter}
-use Rattle.emit.specs.declared.Found.{Found}
 use Rattle.emit.specs.Pool.{Held, enteredAll, Appended, Keeps}
 use Rattle.emit.specs.View.{world, state, going, stageOf}
-use Rattle.emit.specs.Steps.{_>->_, Did, metAt, once, call, Fine, Bare, Pooled, Coded, Filled}
+use Rattle.emit.specs.Steps.{_>->_, Did, metAt, once, call, Fine, Ready, Bare, Pooled, Coded, Filled}
 use Rattle.emit.specs.Parts.{counted, sought, StandsAt, Seeks}
 use Rattle.emit.proofs.Kept.{tails-self, kept-self, kept-then}
 use Rattle.emit.proofs.Steps.{stays, goes, by-step, stops, then, is-refused, count-of}
@@ -92,11 +91,8 @@ module _ (pool : List ℕ) (n k : ℕ) where
 -- ---- the place of a constant
 
 module _ (k : ℕ) {e : Emitter} {pool : List ℕ} (h : Fine e) (long : Held pool) where
-  pub seek-stays : (e .refused ≡ 0 → ⊥) → Seeks k e pool (record { emitter = e; index = 0 })
-  seek-stays off = record { fine = h; kept = λ code book. kept-self (world e code book pool); did = λ code book. stays (once (sought k)) off; index = λ z. absurd (off z) }
-
   module _ {i : ℕ} (is : i ≡ indexOf k (take (e .constants) pool)) (most : i ≤ e .constants) where
-    pub seek-full : {r : Emitter} → maxConstants ≤ i → Bare (refused (record { number = constantsFull; place = 0 })) e r → Seeks k e pool (record { emitter = r; index = 0 })
+    pub seek-full : {r : Emitter} → maxConstants ≤ i → Bare (refused (record { number = constantsFull; place = 0 })) e r → Seeks k e pool r 0
     unfolding sought pooled pooledIf demand _>>_
     seek-full full b =
         let absent : e .constants ≤ i = omega (arith, h .constants) in
@@ -108,12 +104,13 @@ module _ (k : ℕ) {e : Emitter} {pool : List ℕ} (h : Fine e) (long : Held poo
           index = λ z. absurd (is-refused b z);
         }
 
-    pub seek-goes : {x : ℕ} → x ≡ i → e .refused ≡ 0 → i < maxConstants → Seeks k e pool (record { emitter = e; index = x })
+    -- refused or not
+    pub seek-goes : {x : ℕ} → x ≡ i → i < maxConstants → Seeks k e pool e x
     unfolding sought pooled pooledIf demand _>>_
-    seek-goes is-x on few = record {
+    seek-goes is-x few = record {
       fine = h;
       kept = λ code book. kept-self (world e code book pool);
-      did = λ code book. goes (sought k) (world e code book pool) (world e code book pool) on on (rw (count-of pool h long, ← is) (go (state (world e code book pool)) (ltb i (e .constants)) refl (count-of pool h long)));
+      did = λ code book. by code book (ℕ-discrete (e .refused) 0);
       index = λ z. record { is = is-x ∙ is; few = omega arith };
     }
       where
@@ -121,10 +118,14 @@ module _ (k : ℕ) {e : Emitter} {pool : List ℕ} (h : Fine e) (long : Held poo
         go x true q n = refl
         go x false q n = let absent = ltb-false i (e .constants) q in rw (n, lt-ltb (e .constants) maxConstants (omega arith))
 
+        by : (code book : List ℕ) → Dec (e .refused ≡ 0) → Did (once (sought k)) (world e code book pool) (world e code book pool)
+        by code book (yes on) = goes (sought k) (world e code book pool) (world e code book pool) on on (rw (count-of pool h long, ← is) (go (state (world e code book pool)) (ltb i (e .constants)) refl (count-of pool h long)))
+        by code book (no off) = stays (once (sought k)) off
+
 -- ---- a constant in the pool
 
 module _ (k : ℕ) {e : Emitter} {pool : List ℕ} (h : Fine e) (long : Held pool) where
-  keep-stays : (e .refused ≡ 0 → ⊥) → Pooled (addConstant k) e pool e pool
+  pub keep-stays : (e .refused ≡ 0 → ⊥) → Pooled (addConstant k) e pool e pool
   keep-stays off = record { fine = h; held = long; kept = λ code book. kept-self (world e code book pool); did = λ s code book. stays (call s (addConstant k)) off }
 
   module _ {i x : ℕ} (at : e .refused ≡ 0 → StandsAt k e pool x) (is-i : i ≡ x) where
@@ -164,32 +165,31 @@ module _ (k : ℕ) {e : Emitter} {pool : List ℕ} (h : Fine e) (long : Held poo
                 (rw (count, ← is, le-ltb _ _ absent, count, lt-ltb _ _ few, more));
           }
 
--- w being the index i as the code has it
 module _ {refused n i k : ℕ} {pool : List ℕ} where
   pub kept-off : (refused ≡ 0 → ⊥) → Keeps refused n i k pool n pool
   kept-off off = record { off = λ z. (refl, refl); has = λ few. (refl, refl); new = λ on absent. absurd (off on) }
 
-  pub kept-has : {w : ℕ} → w ≡ i → w < n → Keeps refused n i k pool n pool
-  kept-has is few = record { off = λ z. (refl, refl); has = λ few. (refl, refl); new = λ on absent. absurd (omega arith) }
+  pub kept-has : i < n → Keeps refused n i k pool n pool
+  kept-has few = record { off = λ z. (refl, refl); has = λ few. (refl, refl); new = λ on absent. absurd (omega arith) }
 
-  pub kept-new : {w : ℕ} {pool′ : List ℕ} → w ≡ i → refused ≡ 0 → n ≤ w → Appended n k pool pool′ → Keeps refused n i k pool (n + 1) pool′
-  kept-new is on absent a = record { off = λ z. absurd (z on); has = λ few. absurd (omega arith); new = λ on absent. (refl, a) }
+  pub kept-new : {pool′ : List ℕ} → refused ≡ 0 → n ≤ i → Appended n k pool pool′ → Keeps refused n i k pool (n + 1) pool′
+  kept-new on absent a = record { off = λ z. absurd (z on); has = λ few. absurd (omega arith); new = λ on absent. (refl, a) }
 
 -- the constant is kept, and the emitter counts it
-pub keeps-is : (k : ℕ) {e : Emitter} {pool pool′ : List ℕ} {i r : ℕ} → Fine e → Held pool → (e .refused ≡ 0 → StandsAt k e pool i) → Keeps (e .refused) (e .constants) i k pool r pool′
+pub keeps-is : (k : ℕ) {e : Emitter} {pool pool′ : List ℕ} {i x r : ℕ} → Fine e → Held pool → (e .refused ≡ 0 → StandsAt k e pool x) → i ≡ x → Keeps (e .refused) (e .constants) i k pool r pool′
     → Pooled (addConstant k) e pool (counted e (e .labels) (e .patches) (e .lines) r) pool′
-keeps-is k {e} {pool} {pool′} {i} {r} h long at q = go (ℕ-discrete (e .refused) 0) (ltb i (e .constants)) refl
+keeps-is k {e} {pool} {pool′} {i} {x} {r} h long at is q = go (ℕ-discrete (e .refused) 0) (ltb i (e .constants)) refl
   where
     same : (r ≡ e .constants) × (pool′ ≡ pool) → Pooled (addConstant k) e pool e pool → Pooled (addConstant k) e pool (counted e (e .labels) (e .patches) (e .lines) r) pool′
     same x p = rw (x .0, x .1) p
 
     go : Dec (e .refused ≡ 0) → (b : Bool) → ltb i (e .constants) ≡ b → Pooled (addConstant k) e pool (counted e (e .labels) (e .patches) (e .lines) r) pool′
     go (no off) b l = same (q .off off) (keep-stays k h long off)
-    go (yes on) true l = let few = ltb-true i (e .constants) l in same (q .has few) (keep-has k h long at refl few)
+    go (yes on) true l = let few = ltb-true i (e .constants) l in same (q .has few) (keep-has k h long at is few)
     go (yes on) false l =
         let absent = ltb-false i (e .constants) l in
-        let x = q .new on absent in
-        subst (λ c. Pooled (addConstant k) e pool (counted e (e .labels) (e .patches) (e .lines) c) pool′) (sym (x .0)) (keep-more k h long at refl on absent (x .1))
+        let y = q .new on absent in
+        subst (λ c. Pooled (addConstant k) e pool (counted e (e .labels) (e .patches) (e .lines) c) pool′) (sym (y .0)) (keep-more k h long at is on absent (y .1))
 
 -- its place, and then the constant
 seek-first : (s : Sheet) (k : ℕ) (x : def.Emitter) → call s (addConstant k) x ≡ once (sought k) x >-> call s (addConstant k)
@@ -200,7 +200,7 @@ seek-first s k x = go (pooled k x) refl
     go (ok y) e = rw e
     go (refuse n p) e = refl
 
-pub pool-done : {k : ℕ} {e r : Emitter} {i : Found} {pool pool′ : List ℕ} → Seeks k e pool i → Pooled (addConstant k) (i .emitter) pool r pool′ → Pooled (addConstant k) e pool r pool′
+pub pool-done : {k : ℕ} {e m r : Emitter} {i : ℕ} {pool pool′ : List ℕ} → Seeks k e pool m i → Pooled (addConstant k) m pool r pool′ → Pooled (addConstant k) e pool r pool′
 pool-done {k} q p = record { fine = p .fine; held = p .held; kept = λ code book. kept-then (q .kept code book) (p .kept code book); did = λ s code book. by-step (λ on. seek-first s k _) (then (q .did code book) (p .did s code book)) }
 
 -- ---- an instruction that names a constant: the constant's place, the instruction, the constant
@@ -262,14 +262,20 @@ module _ (s : Sheet) (k : ℕ) {f : ℕ → def.Emitter → Res def.Emitter} (al
       go true q = has q (f (indexOf k (x .constants)) x) refl
       go false q = room (ltb n maxConstants) refl q
 
-  pub constant-done : (c : Call) {e u r : Emitter} {i : Found} {code book pool code′ book′ pool′ : List ℕ} → ((x : def.Emitter) → act s c x ≡ pooled k x >>= λ y. f (indexOf k (y .constants)) y)
-      → Seeks k e pool i → Coded (once (f (i .index))) (i .emitter) code book u code′ book′ → Pooled (addConstant k) u pool r pool′ → Filled (call s c) (world e code book pool) (world r code′ book′ pool′)
+  pub constant-done : (c : Call) {e m u r : Emitter} {i : ℕ} {code book pool code′ book′ pool′ : List ℕ} → ((x : def.Emitter) → act s c x ≡ pooled k x >>= λ y. f (indexOf k (y .constants)) y)
+      → Seeks k e pool m i → Coded (once (f i)) m code book u code′ book′ → Pooled (addConstant k) u pool r pool′ → Filled (call s c) (world e code book pool) (world r code′ book′ pool′)
   unfolding once
   constant-done c {i = i} {code = code} {book = book} {pool = pool} {code′ = code′} {book′ = book′} is q a p = record {
     ready = record { fine = p .fine; room = a .room; slots = a .slots; held = p .held };
     kept = kept-then (q .kept code book) (kept-then (a .kept pool) (p .kept code′ book′));
     did = by-step (λ on. rw (is _) (behind _)) (then (then {g = λ y. once (f (indexOf k (y .constants))) y} (q .did code book) (by-step (λ on. rw (← (q .index on .is))) (a .did pool))) (p .did s code′ book′));
   }
+
+  -- there is no room for it (13)
+  pub constant-full : (c : Call) {e r : Emitter} {code book pool : List ℕ} → ((x : def.Emitter) → act s c x ≡ pooled k x >>= λ y. f (indexOf k (y .constants)) y)
+      → Ready (world e code book pool) → Seeks k e pool r 0 → (r .refused ≡ 0 → ⊥) → Filled (call s c) (world e code book pool) (world r code book pool)
+  constant-full c {e} {r} {code} {book} {pool} is h q off = constant-done c is q
+      (record { fine = q .fine; room = h .room; slots = h .slots; kept = λ pool. kept-self (world r code book pool); did = λ pool. stays (once (f 0)) off }) (keep-stays k (q .fine) (h .held) off)
 
 -- ---- instructions that do
 

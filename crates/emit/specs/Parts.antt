@@ -11,7 +11,6 @@ use Rattle.definition.specs.Emit as def
 use Rattle.definition.specs.Emit.{LineEntry, PendingPatch, add, recorded, patched, pooled, indexOf, le16}
 use Rattle.line_map.specs.declared.Pos.{Pos}
 use Rattle.emit.specs.declared.Emitter.{Emitter}
-use Rattle.emit.specs.declared.Found.{Found}
 use Rattle.emit.specs.declared.Last.{Last}
 use Rattle.emit.specs.Book.{bookSize}
 use Rattle.emit.specs.View.{world, lastView}
@@ -144,9 +143,9 @@ pub record StandsAt (k : ℕ) (e : Emitter) (pool : List ℕ) (i : ℕ) : Type 0
   pub is : i ≡ indexOf k (take (e .constants) pool)
   pub few : i < maxConstants
 
--- its place was found
-pub record Seeks (k : ℕ) (e : Emitter) (pool : List ℕ) (r : Found) : Type 0 where
-  pub fine : Fine (r .emitter)
-  pub kept : (code book : List ℕ) → Kept (world e code book pool) (world (r .emitter) code book pool)
-  pub did : (code book : List ℕ) → Did (once (sought k)) (world e code book pool) (world (r .emitter) code book pool)
-  pub index : r .emitter .refused ≡ 0 → StandsAt k (r .emitter) pool (r .index)
+-- its place i was looked for
+pub record Seeks (k : ℕ) (e : Emitter) (pool : List ℕ) (r : Emitter) (i : ℕ) : Type 0 where
+  pub fine : Fine r
+  pub kept : (code book : List ℕ) → Kept (world e code book pool) (world r code book pool)
+  pub did : (code book : List ℕ) → Did (once (sought k)) (world e code book pool) (world r code book pool)
+  pub index : r .refused ≡ 0 → StandsAt k r pool i

@@ -85,12 +85,6 @@ pub struct NewLabel {
     pub label: Label,
 }
 
-// Where a constant stands in the pool, or will stand.
-struct Found {
-    emitter: Emitter,
-    index: u16,
-}
-
 // ---- state
 
 impl Emitter {
@@ -441,42 +435,19 @@ impl Emitter {
 // ---- constants
 
 impl Emitter {
-    // Equal constants share an index, new ones stand behind the others (`intern_i32_constant`, 13).
-    fn find_constant(self, pool: &[Constant], k: Constant) -> Found
-        requires { ⌜ Fine self ⌝ }
-        requires { ⌜ Held (now pool) ⌝ }
-        ensures { λ r. ⌜ Seeks k self (now (pool .entry)) r ⌝ }
-    {
-        if self.refused != 0 {
-            return Found {
-                emitter: self,
-                index: 0,
-            };
-        }
-        let i = pool::index_of(pool, self.constants, k);
-        // An index is at most the count, so this is a new one where there is no room.
-        if i >= MAX_CONSTANTS {
-            return Found {
-                emitter: self.refuse(CONSTANTS_FULL, 0),
-                index: 0,
-            };
-        }
-        let index = numbers::narrow(i);
-        Found {
-            emitter: self,
-            index: index,
-        }
-    }
-
-    // A constant that enters the pool before the instruction that names it.
+    // A constant that enters the pool before the instruction that names it. Equal ones share an index, new ones stand behind the others (`intern_i32_constant`):
+    // its index is at most the count, so 13 is met by a new one where there is no room.
     pub fn add_constant(self, pool: &mut [Constant], k: Constant) -> Emitter
         requires { ⌜ Fine self ⌝ }
         requires { ⌜ Held (now pool) ⌝ }
         ensures { λ r. ⌜ Pooled (addConstant k) self (now (pool .entry)) r (now (pool .exit)) ⌝ }
     {
-        let found = self.find_constant(pool, k);
-        let mut e = found.emitter;
-        e.constants = pool::keep(pool, e.refused, e.constants, found.index, k);
+        let i = pool::index_of(pool, self.constants, k);
+        if i >= MAX_CONSTANTS { // a new one, and there is no room
+            return self.refuse(CONSTANTS_FULL, 0);
+        }
+        let mut e = self;
+        e.constants = pool::keep(pool, e.refused, e.constants, i, k);
         e
     }
 
@@ -491,11 +462,13 @@ impl Emitter {
         requires { ⌜ Ready (world self (now code) (now book) (now pool)) ⌝ }
         ensures { λ r. ⌜ Filled (call (sheetIn (now (sheet .entry))) (loadConstant k)) (world self (now (code .entry)) (now (book .entry)) (now (pool .entry))) (world r (now (code .exit)) (now (book .exit)) (now (pool .exit))) ⌝ }
     {
-        let found = self.find_constant(pool, k);
-        let index = found.index;
-        let p = found.emitter;
-        let mut e = p.add_u16(sheet, code, book, Role::LoadConst, index, Last::Other);
-        e.constants = pool::keep(pool, e.refused, e.constants, index, k);
+        let i = pool::index_of(pool, self.constants, k);
+        if i >= MAX_CONSTANTS {
+            return self.refuse(CONSTANTS_FULL, 0);
+        }
+        let index = numbers::narrow(i);
+        let mut e = self.add_u16(sheet, code, book, Role::LoadConst, index, Last::Other);
+        e.constants = pool::keep(pool, e.refused, e.constants, i, k);
         e
     }
 }
@@ -580,13 +553,15 @@ impl Emitter {
         requires { ⌜ Ready (world self (now code) (now book) (now pool)) ⌝ }
         ensures { λ r. ⌜ Filled (call (sheetIn (now (sheet .entry))) (emitCmpBr (compareView op) v k (label .0))) (world self (now (code .entry)) (now (book .entry)) (now (pool .entry))) (world r (now (code .exit)) (now (book .exit)) (now (pool .exit))) ⌝ }
     {
-        let found = self.find_constant(pool, k);
-        let index = found.index;
-        let p = found.emitter;
-        let patch = PendingPatch::cmp_br(numbers::narrow(p.size), label);
-        let b = p.add_cmp_br(sheet, code, book, op, v, index);
+        let i = pool::index_of(pool, self.constants, k);
+        if i >= MAX_CONSTANTS {
+            return self.refuse(CONSTANTS_FULL, 0);
+        }
+        let index = numbers::narrow(i);
+        let patch = PendingPatch::cmp_br(numbers::narrow(self.size), label);
+        let b = self.add_cmp_br(sheet, code, book, op, v, index);
         let mut e = b.add_patch(book, patch);
-        e.constants = pool::keep(pool, e.refused, e.constants, index, k);
+        e.constants = pool::keep(pool, e.refused, e.constants, i, k);
         e
     }
 }

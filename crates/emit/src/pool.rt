@@ -113,15 +113,15 @@ pub fn append(pool: &mut [Constant], n: usize, k: Constant)
 }
 
 // How many constants there are once this one, whose place was found, is kept: it is appended if it is new, unless something refused.
-pub fn keep(pool: &mut [Constant], refused: u8, n: usize, index: u16, k: Constant) -> usize
+pub fn keep(pool: &mut [Constant], refused: u8, n: usize, i: usize, k: Constant) -> usize
     requires { ⌜ Held (now pool) ⌝ }
-    requires { ⌜ (refused ≡ 0 → index < maxConstants) ⌝ }
-    ensures { λ r. ⌜ Keeps refused n index k (now (pool .entry)) r (now (pool .exit)) ⌝ }
+    requires { ⌜ (refused ≡ 0 → i < maxConstants) ⌝ }
+    ensures { λ r. ⌜ Keeps refused n i k (now (pool .entry)) r (now (pool .exit)) ⌝ }
 {
     if refused != 0 { // by 13, 10 or 12
         return n;
     }
-    if numbers::wide(index) < n {
+    if i < n {
         return n;
     }
     append(pool, n, k);

@@ -1,5 +1,6 @@
 -- Made by `answers` from crates/emit/answers/pool/keep.txt: edit that file, not this one.
 use native.Mathlib.Omega.{arith}
+use mir.Val.{Fits}
 use Rattle.emit.proofs.Constants.{kept-off, kept-has, kept-new}
 use borrow.Author.Needs.{needs}
 use Rattle.emit.proofs.pool.keep.Statement.{statement}
@@ -10,9 +11,8 @@ keep-spec =
     tie.close
     (tie.spec
     (λ c. kept-off (λ z. omega (arith, c .if1 .taken)))  -- returns
-    (λ c κs. search needs)  -- wide-requires
-    (λ c. kept-has (c .before .wide .ensures) (c .if2 .taken))  -- returns-2
-    (λ c κs. (c .before .before .before .before .before .pre .0, omega (arith, c .before .before .wide .ensures, c .before .if2 .left, c .before .before .before .before .before .pre .1 (omega (arith, c .before .before .before .if1 .left)))))  -- append-requires
-    (λ c. search needs)  -- add-result
+    (λ c. kept-has (c .if2 .taken))  -- returns-2
+    (λ c κs. (c .before .before .before .before .pre .0, omega (arith, c .before .if2 .left, c .before .before .before .before .pre .1 (omega (arith, c .before .before .if1 .left)))))  -- append-requires
+    (λ c. record { fits = omega (arith, c .before .before .before .before .if2 .left, c .before .before .before .before .before .before .before .pre .1 (omega (arith, c .before .before .before .before .before .if1 .left))) })  -- add-result
     (λ c. search needs)  -- same-length
-    (λ c. kept-new (c .before .before .before .before .before .wide .ensures) (omega (arith, c .before .before .before .before .before .before .if1 .left)) (c .before .before .before .before .if2 .left) (c .before .before .append .ensures)))  -- returns-3
+    (λ c. kept-new (omega (arith, c .before .before .before .before .before .if1 .left)) (c .before .before .before .before .if2 .left) (c .before .before .append .ensures)))  -- returns-3
