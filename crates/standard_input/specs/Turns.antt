@@ -6,8 +6,8 @@ use lib.ListN.{length}
 use Rattle.input_machine.specs.Machine.{Phase, State}
 use Rattle.input_reader.specs.View.{Reading}
 
--- Some bytes were read from one state to the other, q being what follows the rules. There may be more only where each of `turns` reads gave a byte at least;
--- a read that failed gave none, and was the last.
+-- Some bytes were read from one state to the other, q being what follows the rules. There may be more only where they are `turns` at least, and never where a
+-- read failed.
 pub record Turned (q : Phase) (before after : State) (turns : ℕ) (more failed : Bool) : Type 0 where
   pub reading : Reading q before after
   pub many : more ≡ true → turns ≤ length (reading .bytes)
