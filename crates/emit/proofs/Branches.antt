@@ -1,23 +1,24 @@
 -- Patches and branches.
-use mathlib.Core.Path.{_≡_, refl, ap, sym, _∙_}
+use mathlib.Core.Path.{_≡_, refl, _∙_}
 use mathlib.Core.List.{List, [], _∷_, _++_}
-use Prim.Native.Nat.{ℕ, _+_, _*_, _≤_, _<_}
+use Prim.Native.Nat.{ℕ, suc, _+_, _*_, _≤_, _<_}
 use native.Mathlib.Omega.{arith}
+use lib.Dec.{leb}
 use lib.ListN.{length, take}
 use lib.Seq.{sets, length-sets}
-use Rattle.definition.specs.Limits.{maxCode, maxLabels, maxBranches, maxLines, entrySize}
-use Rattle.definition.specs.Res.{Res, ok, refuse, _>>=_}
+use Rattle.definition.specs.Limits.{maxCode, maxLabels, maxBranches, maxLines, codeFull, entrySize}
+use Rattle.definition.specs.Res.{Res, ok, refuse, _>>=_, _>>_, demand}
 use Rattle.definition.specs.Opcode.{Role, Sheet, CompareOp, comparisonByte, jmp, jmpIfNot, cmpBr}
 use Rattle.definition.specs.Emit as def
-use Rattle.definition.specs.Emit.{jmpOperandDelta, cmpBrOperandDelta, emitJmp, emitJmpIfNot, act, add, patched, branch, le16}
+use Rattle.definition.specs.Emit.{jmpOperandDelta, cmpBrOperandDelta, LineEntry, emitJmp, emitJmpIfNot, act, add, added, recorded, patched, branch, le16}
 use Rattle.definition.specs.Lent.{entryIn}
 use Rattle.emit.specs.declared.Emitter.{Emitter}
 use Rattle.emit.specs.declared.patch.PendingPatch.{PendingPatch}
 use Rattle.emit.specs.declared.Last.the-variants.{Other}
 use Rattle.emit.specs.Book.{labelSize, patchSize, labelBase, patchBase, lineBase, bookSize, labelIn, patchIn, patchNumbers}
 use Rattle.emit.specs.View.{world, state, patchView}
-use Rattle.emit.specs.Steps.{Did, once, Fine, Coded}
-use Rattle.emit.specs.Parts.{counted, Noted, Branched, Added, cmpOperand, patching}
+use Rattle.emit.specs.Steps.{_>->_, Did, metAt, once, Fine, Coded}
+use Rattle.emit.specs.Parts.{counted, lined, prepared, putting, Noted, Branched, Added, cmpOperand, patching}
 use Rattle.emit.proofs.Tables.{rows-more, rows-behind, rows-before, patch-back, patch-long}
 use Rattle.emit.proofs.Kept.{pool-self, kept-self, kept-then, patch-tails}
 use Rattle.emit.proofs.Steps.{stays, goes, by-step, then, once-then, size-of}
@@ -84,10 +85,33 @@ pub jmp-if-not-is : (s : Sheet) (l : ℕ) (x : def.Emitter) → act s (emitJmpIf
 unfolding act
 jmp-if-not-is s l x = refl
 
--- a CMP_BR
-pub fused-done : (s : Sheet) (c : CompareOp) (v i l : ℕ) {x : ℕ} {p : def.PendingPatch} {e m u : Emitter} {code book code′ book′ book″ : List ℕ} → Fine e → length code ≡ maxCode
-    → p ≡ record { instructionOffset = x; operandDelta = cmpBrOperandDelta; label = l } → x ≡ e .size → Added s cmpBr (cmpOperand s c v i) Other e code book m code′ book′ → Noted (once (patching p)) m book′ u book″
-    → Coded (once (branch s cmpBr (comparisonByte s c ∷ le16 v ++ le16 i) cmpBrOperandDelta l)) e code book u code′ book″
-unfolding cmpOperand
-fused-done s c v i l {p = p} h room is at a n =
-    branch-of s cmpBr _ l _ cmpBrOperandDelta is (branch-done s cmpBr (comparisonByte s c ∷ le16 v ++ le16 i) p h room (ap (λ (z : def.PendingPatch). z .instructionOffset) is ∙ at) a n)
+-- ---- a CMP_BR
+
+-- the bytes of a branch that is prepared, and its patch
+abbrev pub branching : Sheet → Role → List ℕ → ℕ → ℕ → def.Emitter → def.Emitter
+branching s r operand delta l e = patched (record { instructionOffset = length (e .bytecode); operandDelta = delta; label = l }) (added s r (operand ++ le16 0) def.other (e .lineMap) e)
+
+pub branch-parts : (s : Sheet) (r : Role) (operand : List ℕ) (delta l : ℕ) (x : def.Emitter) → branch s r operand delta l x ≡ prepared (suc (length (operand ++ le16 0))) x >>= λ y. ok (branching s r operand delta l y)
+unfolding branch add prepared _>>_ _>>=_
+branch-parts s r operand delta l x = go (demand (leb (length (x .bytecode) + suc (length (operand ++ le16 0))) maxCode) codeFull 0) (recorded x)
+  where
+    patch : def.PendingPatch
+    patch = record { instructionOffset = length (x .bytecode); operandDelta = delta; label = l }
+
+    go : (m : Res (Unit {0})) (q : Res (List LineEntry))
+        → (m >> (q >>= λ entries. ok (added s r (operand ++ le16 0) def.other entries x))) >>= (λ y. ok (patched patch y)) ≡ (m >> (q >>= λ entries. ok (lined entries x))) >>= λ y. ok (branching s r operand delta l y)
+    go (ok a) (ok b) = unfold lined in unfold added in refl
+    go (ok a) (refuse n p) = refl
+    go (refuse n p) q = refl
+
+pub fused-done : (s : Sheet) (c : CompareOp) (v i l : ℕ) {x : ℕ} {p : def.PendingPatch} {e m u : Emitter} {code book code′ book′ : List ℕ} → Fine e → length code ≡ maxCode
+    → p ≡ record { instructionOffset = x; operandDelta = cmpBrOperandDelta; label = l } → x ≡ e .size → Coded (once (putting s cmpBr (cmpOperand s c v i) def.other)) e code book m code′ book → Noted (once (patching p)) m book u book′
+    → Coded (once (λ z. ok (branching s cmpBr (comparisonByte s c ∷ le16 v ++ le16 i) cmpBrOperandDelta l z))) e code book u code′ book′
+unfolding cmpOperand once metAt _>->_
+fused-done s c v i l {code = code} {code′ = code′} h room is at a n = record {
+  fine = n .fine;
+  room = a .room;
+  slots = n .slots;
+  kept = λ pool. kept-then (a .kept pool) (n .kept code′ pool);
+  did = λ pool. by-step (λ on. rw (size-of code h room, is, at)) (then (a .did pool) (n .did code′ pool (a .room)));
+}

@@ -5,23 +5,24 @@ use mathlib.Core.List.{List, [], _∷_, _++_}
 use Prim.Native.Nat.{ℕ, zero, suc, _+_, _≤_, _<_}
 use native.Mathlib.Numerals.{add-one}
 use native.Mathlib.Omega.{arith}
-use native.Mathlib.Decide.{ℕ-discrete}
 use borrow.Author.Tests.{le-ltb, lt-ltb, ltb-true, ltb-false, eq-eqb, ne-eqb, eqb-true, eqb-false}
 use lib.Dec.{eqb, ltb, leb}
 use lib.ListN.{length, take, set, getD, length-set}
 use lib.Seq.{length-take-le, getD-take, take-take, take-suc-set, drop-at}
 use Rattle.definition.specs.Limits.{maxCode, maxConstants, codeFull, constantsFull}
 use Rattle.definition.specs.Res.{Res, ok, refuse, _>>=_, _>>_, demand}
-use Rattle.definition.specs.Opcode.{Sheet, Role, CompareOp, comparisonByte, loadConst, cmpBr}
+use Rattle.definition.specs.Opcode.{Sheet, CompareOp, comparisonByte, loadConst, cmpBr}
 use Rattle.definition.specs.Emit as def
-use Rattle.definition.specs.Emit.{Call, LineEntry, loadConstant, addConstant, emitCmpBr, cmpBrOperandDelta, refused, act, add, added, recorded, branch, patched, pooled, pooledIf, withConstant, indexOf, le16}
+use Rattle.definition.specs.Emit.{Call, LineEntry, loadConstant, addConstant, emitCmpBr, cmpBrOperandDelta, refused, act, add, added, recorded, branch, pooled, pooledIf, withConstant, indexOf, le16}
 use Rattle.emit.specs.declared.Emitter.{Emitter}
 use Rattle.emit.specs.Pool.{Held, enteredAll, Appended, Keeps}
 use Rattle.emit.specs.View.{world, state, going, stageOf}
 use Rattle.emit.specs.Steps.{_>->_, Did, metAt, once, call, Fine, Ready, Bare, Pooled, Coded, Filled}
-use Rattle.emit.specs.Parts.{counted, sought, StandsAt, Seeks}
+use Rattle.emit.specs.Parts.{counted, lined, prepared, Prepared}
 use Rattle.emit.proofs.Kept.{tails-self, kept-self, kept-then}
-use Rattle.emit.proofs.Steps.{stays, goes, by-step, stops, then, is-refused, count-of}
+use Rattle.emit.proofs.Steps.{stays, goes, by-step, stops, then, count-of}
+use Rattle.emit.proofs.Instructions.{add-parts}
+use Rattle.emit.proofs.Branches.{branching, branch-parts}
 
 -- ---- the lookup
 
@@ -88,65 +89,39 @@ module _ (pool : List ℕ) (n k : ℕ) where
   pub index-none : {i : ℕ} → Before pool k i n → n ≤ i → n ≤ length pool → (n ≡ indexOf k (take n pool)) × (n ≤ n)
   index-none {i} b h long = (first-none pool n k long (λ j l q. b .none j (omega arith) q), omega arith)
 
--- ---- the place of a constant
-
-module _ (k : ℕ) {e : Emitter} {pool : List ℕ} (h : Fine e) (long : Held pool) where
-  module _ {i : ℕ} (is : i ≡ indexOf k (take (e .constants) pool)) (most : i ≤ e .constants) where
-    pub seek-full : {r : Emitter} → maxConstants ≤ i → Bare (refused (record { number = constantsFull; place = 0 })) e r → Seeks k e pool r 0
-    unfolding sought pooled pooledIf demand _>>_
-    seek-full full b =
-        let absent : e .constants ≤ i = omega (arith, h .constants) in
-        let none-left : maxConstants ≤ e .constants = omega arith in
-        record {
-          fine = b .fine;
-          kept = λ code book. b .kept code book pool;
-          did = λ code book. stops (sought k) constantsFull 0 code book pool b (rw (count-of pool h long, ← is, le-ltb _ _ absent, count-of pool h long, le-ltb _ _ none-left));
-          index = λ z. absurd (is-refused b z);
-        }
-
-    -- refused or not
-    pub seek-goes : {x : ℕ} → x ≡ i → i < maxConstants → Seeks k e pool e x
-    unfolding sought pooled pooledIf demand _>>_
-    seek-goes is-x few = record {
-      fine = h;
-      kept = λ code book. kept-self (world e code book pool);
-      did = λ code book. by code book (ℕ-discrete (e .refused) 0);
-      index = λ z. record { is = is-x ∙ is; few = omega arith };
-    }
-      where
-        go : (x : def.Emitter) (b : Bool) → ltb i (e .constants) ≡ b → length (x .constants) ≡ e .constants → pooledIf b k x >> ok x ≡ ok x
-        go x true q n = refl
-        go x false q n = let absent = ltb-false i (e .constants) q in rw (n, lt-ltb (e .constants) maxConstants (omega arith))
-
-        by : (code book : List ℕ) → Dec (e .refused ≡ 0) → Did (once (sought k)) (world e code book pool) (world e code book pool)
-        by code book (yes on) = goes (sought k) (world e code book pool) (world e code book pool) on on (rw (count-of pool h long, ← is) (go (state (world e code book pool)) (ltb i (e .constants)) refl (count-of pool h long)))
-        by code book (no off) = stays (once (sought k)) off
-
 -- ---- a constant in the pool
 
 module _ (k : ℕ) {e : Emitter} {pool : List ℕ} (h : Fine e) (long : Held pool) where
-  pub keep-stays : (e .refused ≡ 0 → ⊥) → Pooled (addConstant k) e pool e pool
-  keep-stays off = record { fine = h; held = long; kept = λ code book. kept-self (world e code book pool); did = λ s code book. stays (call s (addConstant k)) off }
+  pub pool-stays : (e .refused ≡ 0 → ⊥) → Pooled (addConstant k) e pool e pool
+  pool-stays off = record { fine = h; held = long; kept = λ code book. kept-self (world e code book pool); did = λ s code book. stays (call s (addConstant k)) off }
 
-  module _ {i x : ℕ} (at : e .refused ≡ 0 → StandsAt k e pool x) (is-i : i ≡ x) where
-    -- refused or not
-    keep-has : i < e .constants → Pooled (addConstant k) e pool e pool
-    unfolding act pooled pooledIf
-    keep-has few = record { fine = h; held = long; kept = λ code book. kept-self (world e code book pool); did = λ s code book. go s code book (ℕ-discrete (e .refused) 0) }
-      where
-        go : (s : Sheet) (code book : List ℕ) → Dec (e .refused ≡ 0) → Did (call s (addConstant k)) (world e code book pool) (world e code book pool)
-        go s code book (yes on) = let is = is-i ∙ at on .is in goes (act s (addConstant k)) (world e code book pool) (world e code book pool) on on (rw (count-of pool h long, ← is, lt-ltb _ _ few))
-        go s code book (no off) = stays (call s (addConstant k)) off
+  module _ {i : ℕ} (is : i ≡ indexOf k (take (e .constants) pool)) where
+    -- there is no room for it (13)
+    pool-refuses : (code book : List ℕ) → i ≤ e .constants → maxConstants ≤ i → pooled k (state (world e code book pool)) ≡ refuse constantsFull 0
+    unfolding pooled pooledIf demand _>>_
+    pool-refuses code book most full =
+        let absent : e .constants ≤ i = omega (arith, h .constants) in
+        let none-left : maxConstants ≤ e .constants = omega arith in
+        rw (count-of pool h long, ← is, le-ltb _ _ absent, count-of pool h long, le-ltb _ _ none-left)
 
-    module _ (on : e .refused ≡ 0) (absent : e .constants ≤ i) where
-      keep-room : e .constants < maxConstants
-      keep-room = omega (arith, at on .few)
+    pub pool-full : {r : Emitter} → i ≤ e .constants → maxConstants ≤ i → Bare (refused (record { number = constantsFull; place = 0 })) e r → Pooled (addConstant k) e pool r pool
+    unfolding act
+    pool-full most full b = record { fine = b .fine; held = long; kept = λ code book. b .kept code book pool; did = λ s code book. stops (act s (addConstant k)) constantsFull 0 code book pool b (pool-refuses code book most full) }
 
-      keep-more : {pool′ : List ℕ} → Appended (e .constants) k pool pool′ → Pooled (addConstant k) e pool (counted e (e .labels) (e .patches) (e .lines) (e .constants + 1)) pool′
+    module _ (on : e .refused ≡ 0) where
+      pool-has : i < e .constants → Pooled (addConstant k) e pool e pool
+      unfolding act pooled pooledIf
+      pool-has few = record {
+        fine = h;
+        held = long;
+        kept = λ code book. kept-self (world e code book pool);
+        did = λ s code book. goes (act s (addConstant k)) (world e code book pool) (world e code book pool) on on (rw (count-of pool h long, ← is, lt-ltb _ _ few));
+      }
+
+      pool-more : {pool′ : List ℕ} → e .constants ≤ i → i < maxConstants → Appended (e .constants) k pool pool′ → Pooled (addConstant k) e pool (counted e (e .labels) (e .patches) (e .lines) (e .constants + 1)) pool′
       unfolding act pooled pooledIf demand _>>_ withConstant enteredAll
-      keep-more {pool′} a =
-          let is = is-i ∙ at on .is in
-          let few = keep-room in
+      pool-more {pool′} absent room a =
+          let few : e .constants < maxConstants = omega arith in
           let count = count-of pool h long in
           let here : e .constants < length (take maxConstants pool) = rw (length-take-le maxConstants pool (omega (arith, long .size))) few in
           let more : take (e .constants + 1) pool′ ≡ take (e .constants) pool ++ (k ∷ [])
@@ -165,178 +140,151 @@ module _ (k : ℕ) {e : Emitter} {pool : List ℕ} (h : Fine e) (long : Held poo
                 (rw (count, ← is, le-ltb _ _ absent, count, lt-ltb _ _ few, more));
           }
 
-module _ {refused n i k : ℕ} {pool : List ℕ} where
-  pub kept-off : (refused ≡ 0 → ⊥) → Keeps refused n i k pool n pool
-  kept-off off = record { off = λ z. (refl, refl); has = λ few. (refl, refl); new = λ on absent. absurd (off on) }
+      -- the constant is kept, and the emitter counts it
+      pub pool-keeps : {r : ℕ} {pool′ : List ℕ} → i < maxConstants → Keeps (e .constants) i k pool r pool′ → Pooled (addConstant k) e pool (counted e (e .labels) (e .patches) (e .lines) r) pool′
+      pool-keeps {r} {pool′} room q = go (ltb i (e .constants)) refl
+        where
+          go : (b : Bool) → ltb i (e .constants) ≡ b → Pooled (addConstant k) e pool (counted e (e .labels) (e .patches) (e .lines) r) pool′
+          go true l =
+              let few = ltb-true i (e .constants) l in
+              let x = q .has few in
+              rw (x .0, x .1) (pool-has few)
+          go false l =
+              let absent = ltb-false i (e .constants) l in
+              let x = q .new absent in
+              subst (λ c. Pooled (addConstant k) e pool (counted e (e .labels) (e .patches) (e .lines) c) pool′) (sym (x .0)) (pool-more absent room (x .1))
 
-  pub kept-has : i < n → Keeps refused n i k pool n pool
-  kept-has few = record { off = λ z. (refl, refl); has = λ few. (refl, refl); new = λ on absent. absurd (omega arith) }
+module _ {n i k : ℕ} {pool : List ℕ} where
+  pub kept-has : i < n → Keeps n i k pool n pool
+  kept-has few = record { has = λ few. (refl, refl); new = λ absent. absurd (omega arith) }
 
-  pub kept-new : {pool′ : List ℕ} → refused ≡ 0 → n ≤ i → Appended n k pool pool′ → Keeps refused n i k pool (n + 1) pool′
-  kept-new on absent a = record { off = λ z. absurd (z on); has = λ few. absurd (omega arith); new = λ on absent. (refl, a) }
+  pub kept-new : {pool′ : List ℕ} → n ≤ i → Appended n k pool pool′ → Keeps n i k pool (n + 1) pool′
+  kept-new absent a = record { has = λ few. absurd (omega arith); new = λ absent. (refl, a) }
 
--- the constant is kept, and the emitter counts it
-pub keeps-is : (k : ℕ) {e : Emitter} {pool pool′ : List ℕ} {i x r : ℕ} → Fine e → Held pool → (e .refused ≡ 0 → StandsAt k e pool x) → i ≡ x → Keeps (e .refused) (e .constants) i k pool r pool′
-    → Pooled (addConstant k) e pool (counted e (e .labels) (e .patches) (e .lines) r) pool′
-keeps-is k {e} {pool} {pool′} {i} {x} {r} h long at is q = go (ℕ-discrete (e .refused) 0) (ltb i (e .constants)) refl
+-- ---- preparing leaves the constants alone, whatever they are
+
+prepared-apart : (n k : ℕ) (x : def.Emitter) → prepared n (withConstant k x) ≡ prepared n x >>= λ y. ok (withConstant k y)
+unfolding prepared recorded lined withConstant _>>_ _>>=_
+prepared-apart n k x = go (demand (leb (length (x .bytecode) + n) maxCode) codeFull 0) (recorded x)
   where
-    same : (r ≡ e .constants) × (pool′ ≡ pool) → Pooled (addConstant k) e pool e pool → Pooled (addConstant k) e pool (counted e (e .labels) (e .patches) (e .lines) r) pool′
-    same x p = rw (x .0, x .1) p
+    go : (m : Res (Unit {0})) (q : Res (List LineEntry)) → m >> (q >>= λ entries. ok (lined entries (withConstant k x))) ≡ (m >> (q >>= λ entries. ok (lined entries x))) >>= λ y. ok (withConstant k y)
+    go (ok a) (ok b) = refl
+    go (ok a) (refuse n p) = refl
+    go (refuse n p) q = refl
 
-    go : Dec (e .refused ≡ 0) → (b : Bool) → ltb i (e .constants) ≡ b → Pooled (addConstant k) e pool (counted e (e .labels) (e .patches) (e .lines) r) pool′
-    go (no off) b l = same (q .off off) (keep-stays k h long off)
-    go (yes on) true l = let few = ltb-true i (e .constants) l in same (q .has few) (keep-has k h long at is few)
-    go (yes on) false l =
-        let absent = ltb-false i (e .constants) l in
-        let y = q .new on absent in
-        subst (λ c. Pooled (addConstant k) e pool (counted e (e .labels) (e .patches) (e .lines) c) pool′) (sym (y .0)) (keep-more k h long at is on absent (y .1))
-
--- its place, and then the constant
-seek-first : (s : Sheet) (k : ℕ) (x : def.Emitter) → call s (addConstant k) x ≡ once (sought k) x >-> call s (addConstant k)
-unfolding once act sought metAt _>->_ _>>_
-seek-first s k x = go (pooled k x) refl
+prepared-keeps : (n : ℕ) (x y : def.Emitter) → prepared n x ≡ ok y → y .constants ≡ x .constants
+unfolding prepared lined _>>_ _>>=_
+prepared-keeps n x y e = go (demand (leb (length (x .bytecode) + n) maxCode) codeFull 0) (recorded x) e
   where
-    go : (m : Res def.Emitter) → pooled k x ≡ m → metAt x m ≡ metAt x (m >> ok x) >-> once (pooled k)
-    go (ok y) e = rw e
-    go (refuse n p) e = refl
+    go : (m : Res (Unit {0})) (q : Res (List LineEntry)) → m >> (q >>= λ entries. ok (lined entries x)) ≡ ok y → y .constants ≡ x .constants
+    go (ok a) (ok b) e = let q : y ≡ lined b x = cc in rw (q, lined)
+    go (ok a) (refuse n p) e = absurd (let z : _≡_ {A = ℕ} 0 1 = cc in omega arith)
+    go (refuse n p) q e = absurd (let z : _≡_ {A = ℕ} 0 1 = cc in omega arith)
 
-pub pool-done : {k : ℕ} {e m r : Emitter} {i : ℕ} {pool pool′ : List ℕ} → Seeks k e pool m i → Pooled (addConstant k) m pool r pool′ → Pooled (addConstant k) e pool r pool′
-pool-done {k} q p = record { fine = p .fine; held = p .held; kept = λ code book. kept-then (q .kept code book) (p .kept code book); did = λ s code book. by-step (λ on. seek-first s k _) (then (q .did code book) (p .did s code book)) }
+same-constants : (n : ℕ) {e u : Emitter} {code book pool code′ book′ : List ℕ} → Did (once (prepared n)) (world e code book pool) (world u code′ book′ pool) → u .refused ≡ 0 → take (u .constants) pool ≡ take (e .constants) pool
+unfolding stageOf _>->_ once metAt
+same-constants n {e} {u} {code} {book} {pool} {code′} {book′} d on = go (e .refused) (rw on at (d .is))
+  where
+    w : def.Emitter
+    w = state (world e code book pool)
 
--- ---- an instruction that names a constant: the constant's place, the instruction, the constant
+    v : def.Emitter
+    v = state (world u code′ book′ pool)
 
--- f is an instruction, by the constant's index: one that leaves the constants alone, whatever they are
-pub record Apart (f : ℕ → def.Emitter → Res def.Emitter) : Type 0 where
-  pub same : (k i : ℕ) (x : def.Emitter) → f i (withConstant k x) ≡ f i x >>= λ y. ok (withConstant k y)
-  pub keeps : (i : ℕ) (x y : def.Emitter) → f i x ≡ ok y → y .constants ≡ x .constants
+    same : (m : Res def.Emitter) → prepared n w ≡ m → going v ≡ metAt w m → v .constants ≡ w .constants
+    same (ok y) e h = let q : v ≡ y = cc in ap (λ (z : def.Emitter). z .constants) q ∙ prepared-keeps n w y e
+    same (refuse a b) e h = absurd (let z : _≡_ {A = ℕ} 0 1 = cc in omega arith)
 
-module _ (k : ℕ) {f : ℕ → def.Emitter → Res def.Emitter} (alone : Apart f) where
-  -- the place that was found is still the constant's
-  pub still-stands : {i : ℕ} {e u : Emitter} {code book pool code′ book′ : List ℕ} → (e .refused ≡ 0 → StandsAt k e pool i) → Did (once (f i)) (world e code book pool) (world u code′ book′ pool) → u .refused ≡ 0 → StandsAt k u pool i
-  unfolding stageOf _>->_ once metAt
-  still-stands {i} {e} {u} {code} {book} {pool} {code′} {book′} at d on = go (e .refused) at (rw on at (d .is))
+    go : (r : ℕ) → going v ≡ stageOf r (e .place) w >-> once (prepared n) → v .constants ≡ w .constants
+    go zero h = same (prepared n w) refl h
+    go (suc r) h = absurd (let z : _≡_ {A = ℕ} 0 1 = cc in omega arith)
+
+-- so that the place that was found is still the constant's
+pub constant-kept : (k n : ℕ) {e p : Emitter} {code book pool book′ pool′ : List ℕ} {i m : ℕ} → Ready (world e code book pool) → i ≡ indexOf k (take (e .constants) pool) → i < maxConstants → Prepared n e book p book′ → p .refused ≡ 0
+    → Keeps (p .constants) i k pool m pool′ → Pooled (addConstant k) p pool (counted p (p .labels) (p .patches) (p .lines) m) pool′
+constant-kept k n {code = code} {pool = pool} w is few prep on q = pool-keeps k (prep .noted .fine) (w .held) (is ∙ ap (indexOf k) (sym (same-constants n (prep .noted .did code pool (w .room)) on))) on few q
+
+-- ---- an instruction that names a constant: its preparation, the constant, and the instruction's bytes g, by the constant's index
+
+module _ (s : Sheet) (k n : ℕ) (g : ℕ → def.Emitter → def.Emitter) where
+  -- adding the constant once the instruction is prepared is adding it before, but where the instruction is refused
+  between : (x : def.Emitter) → indexOf k (x .constants) < maxConstants
+      → metAt x (pooled k x >>= λ y. prepared n y >>= λ z. ok (g (indexOf k (y .constants)) z)) ≡ (once (prepared n) x >-> call s (addConstant k)) >-> once (λ z. ok (g (indexOf k (x .constants)) z))
+  unfolding once metAt _>->_ _>>=_ _>>_ act pooled pooledIf demand withConstant
+  between x few = go (ltb i (length (x .constants))) refl
     where
-      w : def.Emitter
-      w = state (world e code book pool)
+      i : ℕ
+      i = indexOf k (x .constants)
 
-      v : def.Emitter
-      v = state (world u code′ book′ pool)
-
-      same : (m : Res def.Emitter) → f i w ≡ m → going v ≡ metAt w m → v .constants ≡ w .constants
-      same (ok y) e h = let q : v ≡ y = cc in ap (λ (z : def.Emitter). z .constants) q ∙ alone .keeps i w y e
-      same (refuse a b) e h = absurd (let z : _≡_ {A = ℕ} 0 1 = cc in omega arith)
-
-      go : (r : ℕ) → (r ≡ 0 → StandsAt k e pool i) → going v ≡ stageOf r (e .place) w >-> once (f i) → StandsAt k u pool i
-      go zero at h = record { is = at refl .is ∙ ap (indexOf k) (sym (same (f i w) refl h)); few = at refl .few }
-      go (suc r) at h = absurd (let z : _≡_ {A = ℕ} 0 1 = cc in omega arith)
-
-module _ (s : Sheet) (k : ℕ) {f : ℕ → def.Emitter → Res def.Emitter} (alone : Apart f) where
-  -- adding the constant behind the instruction is adding it before, but where the instruction is refused
-  behind : (x : def.Emitter) → metAt x (pooled k x >>= λ y. f (indexOf k (y .constants)) y) ≡ (once (sought k) x >-> λ y. once (f (indexOf k (y .constants))) y) >-> call s (addConstant k)
-  unfolding once metAt _>->_ _>>=_ _>>_ act sought pooled pooledIf demand withConstant
-  behind x = go (ltb (indexOf k (x .constants)) (length (x .constants))) refl
-    where
-      n : ℕ
-      n = length (x .constants)
-
-      has : ltb (indexOf k (x .constants)) n ≡ true → (m : Res def.Emitter) → f (indexOf k (x .constants)) x ≡ m → metAt x m ≡ metAt x m >-> call s (addConstant k)
-      has q (ok y) e = rw (pooled, alone .keeps _ x y e, q)
+      has : ltb i (length (x .constants)) ≡ true → (m : Res def.Emitter) → prepared n x ≡ m → metAt x (m >>= λ z. ok (g i z)) ≡ (metAt x m >-> call s (addConstant k)) >-> once (λ z. ok (g i z))
+      has q (ok y) e = rw (pooled, prepared-keeps n x y e, q)
       has q (refuse a b) e = refl
 
-      adds : ltb (indexOf k (x .constants)) n ≡ false → ltb n maxConstants ≡ true → (m : Res def.Emitter) → f (indexOf k (x .constants)) x ≡ m
-          → metAt x (m >>= λ y. ok (withConstant k y)) ≡ metAt x m >-> call s (addConstant k)
-      adds q t (ok y) e = rw (pooled, alone .keeps _ x y e, q, t)
+      adds : ltb i (length (x .constants)) ≡ false → ltb (length (x .constants)) maxConstants ≡ true → (m : Res def.Emitter) → prepared n x ≡ m
+          → metAt x ((m >>= λ y. ok (withConstant k y)) >>= λ z. ok (g i z)) ≡ (metAt x m >-> call s (addConstant k)) >-> once (λ z. ok (g i z))
+      adds q t (ok y) e = rw (pooled, prepared-keeps n x y e, q, t)
       adds q t (refuse a b) e = refl
 
-      room : (t : Bool) → ltb n maxConstants ≡ t → ltb (indexOf k (x .constants)) n ≡ false
-          → metAt x ((demand t constantsFull 0 >> ok (withConstant k x)) >>= λ y. f (indexOf k (y .constants)) y) ≡ (metAt x ((demand t constantsFull 0 >> ok (withConstant k x)) >> ok x) >-> λ y. once (f (indexOf k (y .constants))) y) >-> call s (addConstant k)
+      room : (t : Bool) → ltb (length (x .constants)) maxConstants ≡ t → ltb i (length (x .constants)) ≡ false
+          → metAt x ((demand t constantsFull 0 >> ok (withConstant k x)) >>= λ y. prepared n y >>= λ z. ok (g (indexOf k (y .constants)) z)) ≡ (metAt x (prepared n x) >-> call s (addConstant k)) >-> once (λ z. ok (g i z))
       room true t q =
           let far = ltb-false _ _ q in
           let most = index-most (x .constants) k in
-          let here : indexOf k (x .constants ++ (k ∷ [])) ≡ indexOf k (x .constants) = index-new (x .constants) k far ∙ omega arith in
-          rw (here, alone .same k (indexOf k (x .constants)) x) (adds q t (f (indexOf k (x .constants)) x) refl)
-      room false t q = refl
+          let here : indexOf k (x .constants ++ (k ∷ [])) ≡ i = index-new (x .constants) k far ∙ omega arith in
+          rw (here, prepared-apart n k x) (adds q t (prepared n x) refl)
+      room false t q =
+          let far : length (x .constants) ≤ indexOf k (x .constants) = ltb-false _ _ q in
+          let none-left : maxConstants ≤ length (x .constants) = ltb-false _ _ t in
+          absurd (omega (arith, few, far, none-left))
 
-      go : (b : Bool) → ltb (indexOf k (x .constants)) n ≡ b
-          → metAt x (pooledIf b k x >>= λ y. f (indexOf k (y .constants)) y) ≡ (metAt x (pooledIf b k x >> ok x) >-> λ y. once (f (indexOf k (y .constants))) y) >-> call s (addConstant k)
-      go true q = has q (f (indexOf k (x .constants)) x) refl
-      go false q = room (ltb n maxConstants) refl q
+      go : (b : Bool) → ltb i (length (x .constants)) ≡ b → metAt x (pooledIf b k x >>= λ y. prepared n y >>= λ z. ok (g (indexOf k (y .constants)) z)) ≡ (metAt x (prepared n x) >-> call s (addConstant k)) >-> once (λ z. ok (g i z))
+      go true q = has q (prepared n x) refl
+      go false q = room (ltb (length (x .constants)) maxConstants) refl q
 
-  pub constant-done : (c : Call) {e m u r : Emitter} {i : ℕ} {code book pool code′ book′ pool′ : List ℕ} → ((x : def.Emitter) → act s c x ≡ pooled k x >>= λ y. f (indexOf k (y .constants)) y)
-      → Seeks k e pool m i → Coded (once (f i)) m code book u code′ book′ → Pooled (addConstant k) u pool r pool′ → Filled (call s c) (world e code book pool) (world r code′ book′ pool′)
-  unfolding once
-  constant-done c {i = i} {code = code} {book = book} {pool = pool} {code′ = code′} {book′ = book′} is q a p = record {
-    ready = record { fine = p .fine; room = a .room; slots = a .slots; held = p .held };
-    kept = kept-then (q .kept code book) (kept-then (a .kept pool) (p .kept code′ book′));
-    did = by-step (λ on. rw (is _) (behind _)) (then (then {g = λ y. once (f (indexOf k (y .constants))) y} (q .did code book) (by-step (λ on. rw (← (q .index on .is))) (a .did pool))) (p .did s code′ book′));
-  }
+  module _ (c : Call) (says : (x : def.Emitter) → act s c x ≡ pooled k x >>= λ y. prepared n y >>= λ z. ok (g (indexOf k (y .constants)) z)) {e : Emitter} {code book pool : List ℕ} (w : Ready (world e code book pool)) {i : ℕ} (is : i ≡ indexOf k (take (e .constants) pool)) where
+    -- there is no room for it (13)
+    pub constant-full : {r : Emitter} → i ≤ e .constants → maxConstants ≤ i → Bare (refused (record { number = constantsFull; place = 0 })) e r → Filled (call s c) (world e code book pool) (world r code book pool)
+    unfolding _>>=_
+    constant-full most full b = record {
+      ready = record { fine = b .fine; room = w .room; slots = w .slots; held = w .held };
+      kept = b .kept code book pool;
+      did = stops (act s c) constantsFull 0 code book pool b (says _ ∙ rw (pool-refuses k (w .fine) (w .held) is code book most full));
+    }
 
-  -- there is no room for it (13)
-  pub constant-full : (c : Call) {e r : Emitter} {code book pool : List ℕ} → ((x : def.Emitter) → act s c x ≡ pooled k x >>= λ y. f (indexOf k (y .constants)) y)
-      → Ready (world e code book pool) → Seeks k e pool r 0 → (r .refused ≡ 0 → ⊥) → Filled (call s c) (world e code book pool) (world r code book pool)
-  constant-full c {e} {r} {code} {book} {pool} is h q off = constant-done c is q
-      (record { fine = q .fine; room = h .room; slots = h .slots; kept = λ pool. kept-self (world r code book pool); did = λ pool. stays (once (f 0)) off }) (keep-stays k (q .fine) (h .held) off)
+    module _ (few : i < maxConstants) {p : Emitter} {book′ : List ℕ} (prep : Prepared n e book p book′) where
+      pub constant-done : {x : ℕ} {q r : Emitter} {pool′ code′ book″ : List ℕ} → x ≡ i → Pooled (addConstant k) p pool q pool′ → Coded (once (λ z. ok (g x z))) q code book′ r code′ book″ → Filled (call s c) (world e code book pool) (world r code′ book″ pool′)
+      unfolding once
+      constant-done {pool′ = pool′} is-x q a = record {
+        ready = record { fine = a .fine; room = a .room; slots = a .slots; held = q .held };
+        kept = kept-then (prep .noted .kept code pool) (kept-then (q .kept code book′) (a .kept pool′));
+        did = by-step (λ on. rw (says _, is-x, is) (between _ (rw (← is) few))) (then (then (prep .noted .did code pool (w .room)) (q .did s code book′)) (a .did pool′));
+      }
+
+      -- the instruction is refused (10, 12), or the emitter was
+      pub constant-halts : (p .refused ≡ 0 → ⊥) → Filled (call s c) (world e code book pool) (world p code book′ pool)
+      constant-halts off = constant-done refl (pool-stays k (prep .noted .fine) (w .held) off)
+          (record { fine = prep .noted .fine; room = w .room; slots = prep .noted .slots; kept = λ pool. kept-self (world p code book′ pool); did = λ pool. stays (once (λ z. ok (g i z))) off })
 
 -- ---- instructions that do
 
-apart-add : (s : Sheet) (r : Role) (operand : ℕ → List ℕ) (l : def.Last) → Apart (λ i. add s r (operand i) l)
-unfolding add recorded withConstant _>>_ _>>=_ added
-apart-add s r operand l = record { same = λ k i x. same k (operand i) x; keeps = λ i x y e. keeps (operand i) x y e }
+abbrev pub loading : Sheet → ℕ → def.Emitter → def.Emitter
+loading s i e = added s loadConst (le16 i) def.other (e .lineMap) e
+
+pub load-constant-is : (s : Sheet) (k : ℕ) (x : def.Emitter) → act s (loadConstant k) x ≡ pooled k x >>= λ y. prepared 3 y >>= λ z. ok (loading s (indexOf k (y .constants)) z)
+unfolding act le16 _>>=_
+load-constant-is s k x = go (pooled k x)
   where
-    same : (k : ℕ) (ns : List ℕ) (x : def.Emitter) → add s r ns l (withConstant k x) ≡ add s r ns l x >>= λ y. ok (withConstant k y)
-    same k ns x = go (demand (leb (length (x .bytecode) + suc (length ns)) maxCode) codeFull 0) (recorded x)
-      where
-        go : (m : Res (Unit {0})) (q : Res (List LineEntry)) → m >> (q >>= λ entries. ok (added s r ns l entries (withConstant k x))) ≡ (m >> (q >>= λ entries. ok (added s r ns l entries x))) >>= λ y. ok (withConstant k y)
-        go (ok a) (ok b) = refl
-        go (ok a) (refuse n p) = refl
-        go (refuse n p) q = refl
+    go : (m : Res def.Emitter) → m >>= (λ y. add s loadConst (le16 (indexOf k (y .constants))) def.other y) ≡ m >>= λ y. prepared 3 y >>= λ z. ok (loading s (indexOf k (y .constants)) z)
+    go (ok y) = add-parts s loadConst (le16 (indexOf k (y .constants))) def.other y
+    go (refuse n p) = refl
 
-    keeps : (ns : List ℕ) (x y : def.Emitter) → add s r ns l x ≡ ok y → y .constants ≡ x .constants
-    keeps ns x y e = go (demand (leb (length (x .bytecode) + suc (length ns)) maxCode) codeFull 0) (recorded x) e
-      where
-        go : (m : Res (Unit {0})) (q : Res (List LineEntry)) → m >> (q >>= λ entries. ok (added s r ns l entries x)) ≡ ok y → y .constants ≡ x .constants
-        go (ok a) (ok b) e = let q : y ≡ added s r ns l b x = cc in rw (q, added)
-        go (ok a) (refuse n p) e = absurd (let z : _≡_ {A = ℕ} 0 1 = cc in omega arith)
-        go (refuse n p) q e = absurd (let z : _≡_ {A = ℕ} 0 1 = cc in omega arith)
+abbrev pub fusing : Sheet → CompareOp → ℕ → ℕ → ℕ → def.Emitter → def.Emitter
+fusing s c v l i e = branching s cmpBr (comparisonByte s c ∷ le16 v ++ le16 i) cmpBrOperandDelta l e
 
-apart-branch : (s : Sheet) (r : Role) (operand : ℕ → List ℕ) (delta l : ℕ) → Apart (λ i. branch s r (operand i) delta l)
-unfolding branch _>>=_ patched withConstant
-apart-branch s r operand delta l = record {
-  same = λ k i x. branch-same k i x;
-  keeps = λ i x y e. branch-keeps i x y e;
-}
+pub cmp-br-is : (s : Sheet) (c : CompareOp) (v k l : ℕ) (x : def.Emitter) → act s (emitCmpBr c v k l) x ≡ pooled k x >>= λ y. prepared 8 y >>= λ z. ok (fusing s c v l (indexOf k (y .constants)) z)
+unfolding act le16 _>>=_
+cmp-br-is s c v k l x = go (pooled k x)
   where
-    alone : Apart (λ i. add s r (operand i ++ le16 0) def.other)
-    alone = apart-add s r (λ i. operand i ++ le16 0) def.other
-
-    branch-same : (k i : ℕ) (x : def.Emitter) → branch s r (operand i) delta l (withConstant k x) ≡ branch s r (operand i) delta l x >>= λ y. ok (withConstant k y)
-    branch-same k i x = ap (λ (m : Res def.Emitter). m >>= λ y. ok (patched (patch (withConstant k x)) y)) (alone .same k i x) ∙ go (add s r (operand i ++ le16 0) def.other x)
-      where
-        patch : def.Emitter → def.PendingPatch
-        patch z = record { instructionOffset = length (z .bytecode); operandDelta = delta; label = l }
-
-        go : (m : Res def.Emitter) → (m >>= λ y. ok (withConstant k y)) >>= (λ y. ok (patched (patch (withConstant k x)) y)) ≡ (m >>= λ y. ok (patched (patch x) y)) >>= λ y. ok (withConstant k y)
-        go (ok y) = refl
-        go (refuse n p) = refl
-
-    branch-keeps : (i : ℕ) (x y : def.Emitter) → branch s r (operand i) delta l x ≡ ok y → y .constants ≡ x .constants
-    branch-keeps i x y e = go (add s r (operand i ++ le16 0) def.other x) refl e
-      where
-        go : (m : Res def.Emitter) → add s r (operand i ++ le16 0) def.other x ≡ m → m >>= (λ z. ok (patched (record { instructionOffset = length (x .bytecode); operandDelta = delta; label = l }) z)) ≡ ok y → y .constants ≡ x .constants
-        go (ok z) q e = let is : y ≡ patched (record { instructionOffset = length (x .bytecode); operandDelta = delta; label = l }) z = cc in rw (is, patched) (alone .keeps i x z q)
-        go (refuse n p) q e = absurd (let z : _≡_ {A = ℕ} 0 1 = cc in omega arith)
-
-pub fused : (s : Sheet) (c : CompareOp) (v l : ℕ) → Apart (λ i. branch s cmpBr (comparisonByte s c ∷ le16 v ++ le16 i) cmpBrOperandDelta l)
-fused s c v l = apart-branch s cmpBr (λ i. comparisonByte s c ∷ le16 v ++ le16 i) cmpBrOperandDelta l
-
-pub loads : (s : Sheet) → Apart (λ i. add s loadConst (le16 i) def.other)
-loads s = apart-add s loadConst le16 def.other
-
--- what each call is
-pub load-constant-is : (s : Sheet) (k : ℕ) (x : def.Emitter) → act s (loadConstant k) x ≡ pooled k x >>= λ y. add s loadConst (le16 (indexOf k (y .constants))) def.other y
-unfolding act
-load-constant-is s k x = refl
-
-pub cmp-br-is : (s : Sheet) (c : CompareOp) (v k l : ℕ) (x : def.Emitter) → act s (emitCmpBr c v k l) x ≡ pooled k x >>= λ y. branch s cmpBr (comparisonByte s c ∷ le16 v ++ le16 (indexOf k (y .constants))) cmpBrOperandDelta l y
-unfolding act
-cmp-br-is s c v k l x = refl
+    go : (m : Res def.Emitter) → m >>= (λ y. branch s cmpBr (comparisonByte s c ∷ le16 v ++ le16 (indexOf k (y .constants))) cmpBrOperandDelta l y) ≡ m >>= λ y. prepared 8 y >>= λ z. ok (fusing s c v l (indexOf k (y .constants)) z)
+    go (ok y) = branch-parts s cmpBr (comparisonByte s c ∷ le16 v ++ le16 (indexOf k (y .constants))) cmpBrOperandDelta l y
+    go (refuse n p) = refl

@@ -1,5 +1,5 @@
 -- An instruction more: room, its line entry, its bytes.
-use mathlib.Core.Path.{_≡_, refl, ap, sym, _∙_}
+use mathlib.Core.Path.{_≡_, refl, ap, sym, subst, _∙_}
 use mathlib.Core.Bool.{Bool, true, false}
 use mathlib.Core.Option.{Option, some, none}
 use mathlib.Core.List.{List, [], _∷_, _++_}
@@ -28,7 +28,7 @@ use Rattle.emit.specs.declared.Last.the-variants.{Other, Loaded, Stored}
 use Rattle.emit.specs.Book.{labelSize, patchSize, labelBase, patchBase, lineBase, bookSize, labelIn, patchIn, row, rows, linesIn}
 use Rattle.emit.specs.View.{world, lastView, state}
 use Rattle.emit.specs.Steps.{_>->_, metAt, once, LastAt, Fine, Bare, Coded}
-use Rattle.emit.specs.Parts.{altered, counted, lined, prepared, Noted, Prepared, Branched, Added, cmpOperand}
+use Rattle.emit.specs.Parts.{altered, counted, readied, lined, prepared, putting, Noted, Prepared, Branched, Put, Added, cmpOperand}
 use Rattle.emit.proofs.Tables.{pushed-sets, length-rows, rows-more, rows-behind, last-none, last-row, entry-back}
 use Rattle.emit.proofs.Kept.{pool-self, tails-self, kept-self, kept-then, sets-tail, line-tails}
 use Rattle.emit.proofs.Steps.{stays, goes, by-step, stops, then, once-then, is-refused, size-of}
@@ -59,12 +59,12 @@ module _ (n : ℕ) {e : Emitter} {book : List ℕ} (h : Fine e) (slots : length 
   }
 
   module _ (fits : e .size + n ≤ maxCode) where
-    pub prepare-here : e .refused ≡ 0 → true ≡ standsAt (posView (e .position)) (lastEntry (linesIn book (e .lines))) → Prepared n e book e book
+    pub prepare-here : e .refused ≡ 0 → true ≡ standsAt (posView (e .position)) (lastEntry (linesIn book (e .lines))) → Prepared n e book (readied e 0 (e .lines)) book
     unfolding prepared demand _>>_ _>>=_ recorded lined
-    prepare-here on here = record {
+    prepare-here on here = subst (λ (x : ℕ). Prepared n e book (readied e x (e .lines)) book) on (record {
       noted = record { fine = h; slots = slots; kept = λ code pool. kept-self (world e code book pool); did = λ code pool room. goes (prepared n) (world e code book pool) (world e code book pool) on on (rw (size-of code h room, le-leb _ _ fits, recorded, ← here)) };
       fits = λ z. fits;
-    }
+    })
 
     module _ (off : false ≡ standsAt (posView (e .position)) (lastEntry (linesIn book (e .lines)))) where
       pub prepare-lines : {r : Emitter} → maxLines ≤ e .lines → Bare (refused (record { number = linesFull; place = 0 })) e r → Prepared n e book r book
@@ -81,14 +81,14 @@ module _ (n : ℕ) {e : Emitter} {book : List ℕ} (h : Fine e) (slots : length 
       }
 
       pub prepare-noted : {book′ : List ℕ} {offset : ℕ} → offset ≡ e .size → e .refused ≡ 0 → e .lines < maxLines
-          → book′ ≡ sets book (lineBase + entrySize * e .lines) (oneEntry (record { offset = offset; pos = posView (e .position) })) → Prepared n e book (counted e (e .labels) (e .patches) (e .lines + 1) (e .constants)) book′
+          → book′ ≡ sets book (lineBase + entrySize * e .lines) (oneEntry (record { offset = offset; pos = posView (e .position) })) → Prepared n e book (readied e 0 (e .lines + 1)) book′
       unfolding prepared demand _>>_ _>>=_ recorded lined
       prepare-noted here on few put =
           let x : LineEntry = record { offset = e .size; pos = posView (e .position) } in
           let ns = oneEntry x in
           let j = lineBase + entrySize * e .lines in
           let put′ = rw here at put in
-          rw put′ (record {
+          rw put′ (subst (λ (z : ℕ). Prepared n e book (readied e z (e .lines + 1)) (sets book j ns)) on (record {
             noted = record {
               fine = record { size = h .size; labels = h .labels; patches = h .patches; lines = omega arith; constants = h .constants; last = h .last; depth = h .depth; deepest = h .deepest; place = h .place };
               slots = length-sets book j ns ∙ slots;
@@ -115,7 +115,7 @@ module _ (n : ℕ) {e : Emitter} {book : List ℕ} (h : Fine e) (slots : length 
                   ));
             };
             fits = λ z. fits;
-          })
+          }))
 
 -- ---- the bytes
 
@@ -127,14 +127,18 @@ grows {e} n last x h more fits at is-y is-d′ is-m is =
     rw (is, is-m, is-d) (fine-altered (e .size + n) last (shift x (e .depth)) (max (e .deepest) (shift x (e .depth))) h (omega arith) fits at (omega (arith, h .depth)) (omega (arith, h .depth, h .deepest)), refl)
 
 -- an instruction is its preparation and its bytes
-add-is : (s : Sheet) (r : Role) (operand : List ℕ) (l : def.Last) (x : def.Emitter) → once (add s r operand l) x ≡ once (prepared (suc (length operand))) x >-> once (λ y. ok (added s r operand l (y .lineMap) y))
-unfolding add prepared _>>_ _>>=_ once
-add-is s r operand l x = ap (metAt x) (go (demand (leb (length (x .bytecode) + suc (length operand)) maxCode) codeFull 0) (recorded x)) ∙ once-then (prepared (suc (length operand))) (λ y. added s r operand l (y .lineMap) y) x
+pub add-parts : (s : Sheet) (r : Role) (operand : List ℕ) (l : def.Last) (x : def.Emitter) → add s r operand l x ≡ prepared (suc (length operand)) x >>= putting s r operand l
+unfolding add prepared _>>_ _>>=_
+add-parts s r operand l x = go (demand (leb (length (x .bytecode) + suc (length operand)) maxCode) codeFull 0) (recorded x)
   where
-    go : (m : Res (Unit {0})) (q : Res (List LineEntry)) → m >> (q >>= λ entries. ok (added s r operand l entries x)) ≡ (m >> (q >>= λ entries. ok (lined entries x))) >>= (λ y. ok (added s r operand l (y .lineMap) y))
+    go : (m : Res (Unit {0})) (q : Res (List LineEntry)) → m >> (q >>= λ entries. ok (added s r operand l entries x)) ≡ (m >> (q >>= λ entries. ok (lined entries x))) >>= putting s r operand l
     go (ok a) (ok b) = unfold lined in unfold added in refl
     go (ok a) (refuse n p) = refl
     go (refuse n p) q = refl
+
+add-is : (s : Sheet) (r : Role) (operand : List ℕ) (l : def.Last) (x : def.Emitter) → once (add s r operand l) x ≡ once (prepared (suc (length operand))) x >-> once (putting s r operand l)
+unfolding once
+add-is s r operand l x = ap (metAt x) (add-parts s r operand l x) ∙ once-then (prepared (suc (length operand))) (λ y. added s r operand l (y .lineMap) y) x
 
 pushed-bytes : (xs code code′ : List ℕ) (n m : ℕ) → at code′ m ≡ pushAll (at code n) xs → n + length xs ≤ length code → take (n + length xs) code′ ≡ take n code ++ xs
 unfolding contents
@@ -145,49 +149,65 @@ pushed-bytes xs code code′ n m e h =
 pushed-tail : (xs code code′ : List ℕ) (n m : ℕ) → at code′ m ≡ pushAll (at code n) xs → n + length xs ≤ length code → drop (n + length xs) code′ ≡ drop (n + length xs) code
 pushed-tail xs code code′ n m e h = ap (λ (t : Store). drop (n + length xs) (t .cells)) e ∙ ap (drop (n + length xs)) (pushed-sets xs code n h) ∙ sets-tail xs code n h
 
-module _ (s : Sheet) (r : Role) (operand : List ℕ) (l : Last) (n : ℕ) {e p : Emitter} {code book book′ : List ℕ} (is-n : n ≡ suc (length operand)) (room : length code ≡ maxCode) (prep : Prepared n e book p book′) where
-  pub add-stops : (p .refused ≡ 0 → ⊥) → Added s r operand l e code book p code book′
-  add-stops off =
-      let prep′ = rw is-n at prep in
-      record {
-        coded = record {
-          fine = prep .noted .fine;
-          room = room;
-          slots = prep .noted .slots;
-          kept = λ pool. prep .noted .kept code pool;
-          did = λ pool. by-step (λ on. add-is s r operand (lastView l) _) (then (prep′ .noted .did code pool room) (stays _ off));
-        };
-        branched = λ two z. absurd (off z);
-      }
-
-  pub add-goes : {u : Emitter} {code′ : List ℕ} {m : ℕ} → p .refused ≡ 0 → at code′ m ≡ pushAll (at code (p .size)) (opcode s r ∷ operand) → Fine u
-      → u ≡ altered p (p .size + n) l (shift (effect r) (p .depth)) (max (p .deepest) (shift (effect r) (p .depth))) → Added s r operand l e code book u code′ book′
+module _ (s : Sheet) (r : Role) (operand : List ℕ) (l : Last) (n : ℕ) (is-n : n ≡ suc (length operand)) {p : Emitter} {code : List ℕ} (room : length code ≡ maxCode) where
+  pub puts : {u : Emitter} {code′ : List ℕ} {m : ℕ} → Fine p → p .refused ≡ 0 → p .size + n ≤ maxCode → at code′ m ≡ pushAll (at code (p .size)) (opcode s r ∷ operand) → Fine u
+      → u ≡ altered p (p .size + n) l (shift (effect r) (p .depth)) (max (p .deepest) (shift (effect r) (p .depth))) → Put s r operand l p code u code′
   unfolding added
-  add-goes {u} {code′} on put fine is =
+  puts {u} {code′} h on few put fine is =
       let k = suc (length operand) in
-      let prep′ = rw is-n at prep in
       let is′ = rw is-n at is in
-      let fits : p .size + k ≤ length code = rw room (prep′ .fits on) in
+      let few′ : p .size + k ≤ maxCode = rw is-n at few in
+      let fits : p .size + k ≤ length code = rw room few′ in
       let bytes : take (p .size + k) code′ ≡ take (p .size) code ++ (opcode s r ∷ operand) = pushed-bytes (opcode s r ∷ operand) code code′ (p .size) _ put fits in
       let v = altered p (p .size + k) l (shift (effect r) (p .depth)) (max (p .deepest) (shift (effect r) (p .depth))) in
       let tail : drop (p .size + k) code′ ≡ drop (p .size + k) code = pushed-tail (opcode s r ∷ operand) code code′ (p .size) _ put fits in
       record {
-        coded = record {
+        fine = fine;
+        coded = λ book slots. record {
           fine = fine;
           room = ap (λ (t : Store). length (t .cells)) put ∙ length-pushAll (at code (p .size)) (opcode s r ∷ operand) ∙ room;
-          slots = prep .noted .slots;
-          kept = λ pool. rw is′ (kept-then (prep .noted .kept code pool) (record {
+          slots = slots;
+          kept = λ pool. rw is′ (record {
             grown = record { size = omega arith; labels = omega arith; patches = omega arith; lines = omega arith; constants = omega arith };
             code = tail;
-            book = tails-self v book′;
+            book = tails-self v book;
             pool = λ few long. pool-self (p .constants) pool;
             sticky = λ z. absurd (z on);
-          }));
-          did = λ pool. by-step (λ on. add-is s r operand (lastView l) _) (then (prep′ .noted .did code pool room)
-              (rw is′ (goes (λ y. ok (added s r operand (lastView l) (y .lineMap) y)) (world p code book′ pool) (world v code′ book′ pool) on on (rw bytes))));
+          });
+          did = λ pool. rw is′ (goes (putting s r operand (lastView l)) (world p code book pool) (world v code′ book pool) on on (rw bytes));
         };
-        branched = λ two. rw is′ (λ z. omega (arith, prep .noted .fine .patches));
+        branched = λ two. rw is′ (λ z. omega (arith, h .patches));
       }
+
+  module _ {e : Emitter} {book book′ : List ℕ} (prep : Prepared n e book p book′) where
+    pub add-stops : (p .refused ≡ 0 → ⊥) → Added s r operand l e code book p code book′
+    add-stops off =
+        let prep′ = rw is-n at prep in
+        record {
+          coded = record {
+            fine = prep .noted .fine;
+            room = room;
+            slots = prep .noted .slots;
+            kept = λ pool. prep .noted .kept code pool;
+            did = λ pool. by-step (λ on. add-is s r operand (lastView l) _) (then (prep′ .noted .did code pool room) (stays _ off));
+          };
+          branched = λ two z. absurd (off z);
+        }
+
+    pub add-goes : {u : Emitter} {code′ : List ℕ} → Put s r operand l p code u code′ → Added s r operand l e code book u code′ book′
+    add-goes w =
+        let prep′ = rw is-n at prep in
+        let a = w .coded book′ (prep .noted .slots) in
+        record {
+          coded = record {
+            fine = a .fine;
+            room = a .room;
+            slots = a .slots;
+            kept = λ pool. kept-then (prep .noted .kept code pool) (a .kept pool);
+            did = λ pool. by-step (λ on. add-is s r operand (lastView l) _) (then (prep′ .noted .did code pool room) (a .did pool));
+          };
+          branched = w .branched;
+        }
 
 -- how many bytes
 pub three : (x : ℕ) → 3 ≡ suc (length (le16 x))

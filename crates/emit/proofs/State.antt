@@ -1,5 +1,5 @@
 -- An emitter to begin with; refusal, position and depth.
-use mathlib.Core.Path.{_≡_, refl, sym}
+use mathlib.Core.Path.{_≡_, refl, sym, subst}
 use mathlib.Core.List.{List}
 use Prim.Native.Nat.{ℕ, zero, suc, _+_, _*_, _≤_, _<_, max}
 use native.Mathlib.Omega.{arith}
@@ -56,6 +56,10 @@ refuses {e} n p h on more = record {
     go : (n : ℕ) (x : def.Emitter) → 0 < n → stageOf n p x ≡ halted n p x
     go zero x k = absurd (omega arith)
     go (suc n) x k = refl
+
+-- with no place: one stands only with a refusal
+pub refuses-here : {e : Emitter} (n : ℕ) → Fine e → e .refused ≡ 0 → 0 < n → Bare (refused (record { number = n; place = 0 })) e (stopped e n (e .place))
+refuses-here {e} n h on more = subst (λ (p : ℕ). Bare (refused (record { number = n; place = 0 })) e (stopped e n p)) (sym (h .place on)) (refuses n 0 h on more)
 
 pub resets : {e : Emitter} (d : ℕ) {d′ : ℕ} → Fine e → e .refused ≡ 0 → d′ ≡ d → d ≤ maxHeight → Bare (resetStackDepth d) e (altered e (e .size) (e .last) d′ (e .deepest))
 unfolding act settled

@@ -1,14 +1,14 @@
 -- Parts of a step, for the functions inside this crate.
-use Prim.Native.Nat.{ℕ, _+_, _*_, _≤_, _<_}
+use Prim.Native.Nat.{ℕ, _+_, _*_, _≤_}
 use mathlib.Core.Path.{_≡_}
 use mathlib.Core.List.{List, _∷_, _++_}
 use lib.Dec.{leb}
-use lib.ListN.{length, take}
-use Rattle.definition.specs.Limits.{maxCode, maxConstants, codeFull}
+use lib.ListN.{length}
+use Rattle.definition.specs.Limits.{maxCode, codeFull}
 use Rattle.definition.specs.Res.{Res, ok, _>>=_, _>>_, demand}
 use Rattle.definition.specs.Opcode.{Sheet, Role, CompareOp, comparisonByte}
 use Rattle.definition.specs.Emit as def
-use Rattle.definition.specs.Emit.{LineEntry, PendingPatch, add, recorded, patched, pooled, indexOf, le16}
+use Rattle.definition.specs.Emit.{LineEntry, PendingPatch, add, added, recorded, patched, le16}
 use Rattle.line_map.specs.declared.Pos.{Pos}
 use Rattle.emit.specs.declared.Emitter.{Emitter}
 use Rattle.emit.specs.declared.Last.{Last}
@@ -80,6 +80,22 @@ stopped e number place = record {
   place = place;
 }
 
+-- refused or not, and with another count of line entries
+abbrev pub readied : Emitter → ℕ → ℕ → Emitter
+readied e number lines = record {
+  size = e .size;
+  labels = e .labels;
+  patches = e .patches;
+  lines = lines;
+  constants = e .constants;
+  last = e .last;
+  depth = e .depth;
+  deepest = e .deepest;
+  position = e .position;
+  refused = number;
+  place = e .place;
+}
+
 -- an emitter with other line entries
 unfoldable pub lined : List LineEntry → def.Emitter → def.Emitter
 lined entries e = record {
@@ -120,6 +136,16 @@ pub record Written (f : Step) (e : Emitter) (code : List ℕ) (r : Emitter) (cod
 abbrev pub Branched : Emitter → Type 0
 Branched e = e .refused ≡ 0 → 3 * e .patches + 3 ≤ e .size
 
+-- the bytes of an instruction that is prepared
+abbrev pub putting : Sheet → Role → List ℕ → def.Last → def.Emitter → Res def.Emitter
+putting s r operand l e = ok (added s r operand l (e .lineMap) e)
+
+pub record Put (s : Sheet) (r : Role) (operand : List ℕ) (l : Last) (e : Emitter) (code : List ℕ) (e′ : Emitter) (code′ : List ℕ) : Type 0 where
+  pub fine : Fine e′
+  pub coded : (book : List ℕ) → length book ≡ bookSize → Coded (once (putting s r operand (lastView l))) e code book e′ code′ book
+  -- one of three bytes or more
+  pub branched : 2 ≤ length operand → Branched e′
+
 -- an instruction of role r with these operand bytes
 pub record Added (s : Sheet) (r : Role) (operand : List ℕ) (l : Last) (e : Emitter) (code book : List ℕ) (e′ : Emitter) (code′ book′ : List ℕ) : Type 0 where
   pub coded : Coded (once (add s r operand (lastView l))) e code book e′ code′ book′
@@ -133,19 +159,3 @@ cmpOperand s c v i = (comparisonByte s c ∷ le16 v ++ le16 i) ++ le16 0
 -- the patch of a branch whose opcode the code ends before
 abbrev pub patching : PendingPatch → def.Emitter → Res def.Emitter
 patching p e = ok (patched p e)
-
--- a place for a constant in the pool (13), which stays as it is
-unfoldable pub sought : ℕ → def.Emitter → Res def.Emitter
-sought k e = pooled k e >> ok e
-
--- where a constant stands in the pool, or will stand
-pub record StandsAt (k : ℕ) (e : Emitter) (pool : List ℕ) (i : ℕ) : Type 0 where
-  pub is : i ≡ indexOf k (take (e .constants) pool)
-  pub few : i < maxConstants
-
--- its place i was looked for
-pub record Seeks (k : ℕ) (e : Emitter) (pool : List ℕ) (r : Emitter) (i : ℕ) : Type 0 where
-  pub fine : Fine r
-  pub kept : (code book : List ℕ) → Kept (world e code book pool) (world r code book pool)
-  pub did : (code book : List ℕ) → Did (once (sought k)) (world e code book pool) (world r code book pool)
-  pub index : r .refused ≡ 0 → StandsAt k r pool i

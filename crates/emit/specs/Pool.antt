@@ -74,8 +74,7 @@ pub record Appended (n k : ℕ) (pool pool′ : List ℕ) : Type 0 where
   pub held : Held pool′
   pub is : take maxConstants pool′ ≡ set (take maxConstants pool) n k
 
--- of n constants: one that stands at i, or will stand there as the next, was kept, unless there was a refusal; r is how many there are then
-pub record Keeps (refused n i k : ℕ) (pool : List ℕ) (r : ℕ) (pool′ : List ℕ) : Type 0 where
-  pub off : (refused ≡ 0 → ⊥) → (r ≡ n) × (pool′ ≡ pool)
+-- of n constants: one that stands at i, or will stand there as the next, was kept; r is how many there are then
+pub record Keeps (n i k : ℕ) (pool : List ℕ) (r : ℕ) (pool′ : List ℕ) : Type 0 where
   pub has : i < n → (r ≡ n) × (pool′ ≡ pool)
-  pub new : refused ≡ 0 → n ≤ i → (r ≡ n + 1) × Appended n k pool pool′
+  pub new : n ≤ i → (r ≡ n + 1) × Appended n k pool pool′

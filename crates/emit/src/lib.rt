@@ -5,11 +5,11 @@
 // state that it met, a refusal is sticky, and a refused emitter comes back as it was, with what is lent.
 ghost use mathlib.Core.Path.{_≡_};
 ghost use Prim.Native.Nat.{_≤_, _<_, _+_, max};
-ghost use mathlib.Core.List.{[], _∷_, _++_};
+ghost use mathlib.Core.List.{[]};
 ghost use lib.ListN.{length};
 ghost use Rattle.definition.specs.Limits.{maxCode};
-ghost use Rattle.definition.specs.Opcode.{shift, effect, cmpBr, comparisonByte};
-ghost use Rattle.definition.specs.Emit.{branch, foldStore, standsAt, lastEntry, le16, bindLabel, storeVariable, loadConstant, addConstant, emitOpcode, emitJmp, emitJmpIfNot, emitCmpBr, resetStackDepth, setPosition, refused, cmpBrOperandDelta};
+ghost use Rattle.definition.specs.Opcode.{shift, effect, cmpBr};
+ghost use Rattle.definition.specs.Emit.{branch, foldStore, standsAt, lastEntry, le16, bindLabel, storeVariable, loadConstant, addConstant, emitOpcode, emitJmp, emitJmpIfNot, emitCmpBr, resetStackDepth, setPosition, refused};
 ghost use Rattle.definition.specs.Compile.{boundLabel};
 ghost use Rattle.opcode.specs.View.{roleView, compareView};
 ghost use Rattle.opcode.specs.Table.{sheetIn};
@@ -19,7 +19,7 @@ ghost use Rattle.emit.specs.Pool.{Held};
 ghost use Rattle.emit.specs.View.{world, patchView};
 ghost use Rattle.emit.specs.Steps.{once, call, LastAt, Fine, Ready, Bare, Booked, Created, Pooled, Coded, Filled, Begun};
 ghost use Rattle.emit.specs.Load.{Loads};
-ghost use Rattle.emit.specs.Parts.{altered, Noted, Prepared, Written, Branched, Added, cmpOperand, patching, StandsAt, Seeks};
+ghost use Rattle.emit.specs.Parts.{altered, readied, Noted, Prepared, Written, Branched, Put, Added, cmpOperand, patching};
 use crate::load::LoadForm;
 use crate::load::Loaded;
 use crate::patch::PendingPatch;
@@ -77,6 +77,12 @@ pub struct Emitter {
     // The refusal's number, 0 while there is none, and its place.
     pub refused: u8,
     pub place: usize,
+}
+
+// What `note` answers: the refusal's number, 0 if there is none, and how many line entries there are.
+struct Note {
+    refused: u8,
+    lines: usize,
 }
 
 // What `create_label` answers.
@@ -250,26 +256,39 @@ impl Emitter {
         there.same(here)
     }
 
-    // Room for an instruction of so many bytes (10), and its line entry unless the last one is of this position (`record_position_for_next_opcode`, 12).
-    fn prepare(self, book: &mut [u16], bytes: usize) -> Emitter
+    // Room for an instruction of so many bytes (10), and its line entry unless the last one is of this position (`record_position_for_next_opcode`, 12). What
+    // changes is given back without the emitter, which would be copied for every instruction.
+    fn note(self, book: &mut [u16], bytes: usize) -> Note
         requires { ⌜ Fine self ⌝ }
         requires { ⌜ length (now book) ≡ bookSize ⌝ }
         requires { ⌜ bytes ≤ maxCode ⌝ }
-        ensures { λ r. ⌜ Prepared bytes self (now (book .entry)) r (now (book .exit)) ⌝ }
+        ensures { λ r. ⌜ Prepared bytes self (now (book .entry)) (readied self (r .refused) (r .lines)) (now (book .exit)) ⌝ }
     {
+        let n = self.lines;
         if self.refused != 0 {
-            return self;
+            return Note {
+                refused: self.refused,
+                lines: n,
+            };
         }
         if self.size + bytes > MAX_CODE {
-            return self.refuse(CODE_FULL, 0);
+            return Note {
+                refused: CODE_FULL,
+                lines: n,
+            };
         }
         let here = self.stands_here(book);
         if here {
-            return self;
+            return Note {
+                refused: 0,
+                lines: n,
+            };
         }
-        let n = self.lines;
         if n >= MAX_LINES {
-            return self.refuse(LINES_FULL, 0);
+            return Note {
+                refused: LINES_FULL,
+                lines: n,
+            };
         }
         let position = self.position;
         let entry = LineEntry {
@@ -277,8 +296,23 @@ impl Emitter {
             pos: position,
         };
         book::put_line(book, n, entry);
+        Note {
+            refused: 0,
+            lines: n + 1,
+        }
+    }
+
+    // An instruction of so many bytes is about to be added (10, 12).
+    fn prepare(self, book: &mut [u16], bytes: usize) -> Emitter
+        requires { ⌜ Fine self ⌝ }
+        requires { ⌜ length (now book) ≡ bookSize ⌝ }
+        requires { ⌜ bytes ≤ maxCode ⌝ }
+        ensures { λ r. ⌜ Prepared bytes self (now (book .entry)) r (now (book .exit)) ⌝ }
+    {
+        let note = self.note(book, bytes);
         let mut e = self;
-        e.lines = n + 1;
+        e.lines = note.lines;
+        e.refused = note.refused;
         e
     }
 
@@ -312,6 +346,19 @@ impl Emitter {
         e.grow(1, role, Last::Other)
     }
 
+    // The bytes of a prepared instruction with an operand of 16 bits.
+    fn put_u16(self, sheet: &[u8], code: &mut [u8], role: Role, x: u16, last: Last) -> Emitter
+        requires { ⌜ Fine self ⌝ }
+        requires { ⌜ length (now code) ≡ maxCode ⌝ }
+        requires { ⌜ (self .refused ≡ 0) × (self .size + 3 ≤ maxCode) ⌝ }
+        ensures { λ r. ⌜ Put (sheetIn (now (sheet .entry))) (roleView role) (le16 x) last self (now (code .entry)) r (now (code .exit)) ⌝ }
+    {
+        let opcode = sheet::opcode_of(sheet, role);
+        let at = store::push_byte(code, self.size, opcode);
+        bytes::push_u16(code, at, x);
+        self.grow(3, role, last)
+    }
+
     // With an operand of 16 bits.
     fn add_u16(
         self,
@@ -331,35 +378,20 @@ impl Emitter {
         if e.refused != 0 {
             return e;
         }
-        let opcode = sheet::opcode_of(sheet, role);
-        let at = store::push_byte(code, e.size, opcode);
-        bytes::push_u16(code, at, x);
-        e.grow(3, role, last)
+        e.put_u16(sheet, code, role, x, last)
     }
 
-    // A CMP_BR whose branch operand is 0.
-    fn add_cmp_br(
-        self,
-        sheet: &[u8],
-        code: &mut [u8],
-        book: &mut [u16],
-        op: CompareOp,
-        v: u16,
-        index: u16,
-    ) -> Emitter
+    // The bytes of a prepared CMP_BR whose branch operand is 0.
+    fn put_cmp_br(self, sheet: &[u8], code: &mut [u8], op: CompareOp, v: u16, index: u16) -> Emitter
         requires { ⌜ Fine self ⌝ }
         requires { ⌜ length (now code) ≡ maxCode ⌝ }
-        requires { ⌜ length (now book) ≡ bookSize ⌝ }
-        ensures { λ r. ⌜ Added (sheetIn (now (sheet .entry))) cmpBr (cmpOperand (sheetIn (now (sheet .entry))) (compareView op) v index) Last.Other self (now (code .entry)) (now (book .entry)) r (now (code .exit)) (now (book .exit)) ⌝ }
+        requires { ⌜ (self .refused ≡ 0) × (self .size + 8 ≤ maxCode) ⌝ }
+        ensures { λ r. ⌜ Put (sheetIn (now (sheet .entry))) cmpBr (cmpOperand (sheetIn (now (sheet .entry))) (compareView op) v index) Last.Other self (now (code .entry)) r (now (code .exit)) ⌝ }
     {
-        let e = self.prepare(book, 8);
-        if e.refused != 0 {
-            return e;
-        }
         let opcode = sheet::opcode_of(sheet, Role::CmpBr);
         let comparison = sheet::comparison_byte(sheet, op);
-        bytes::push_cmp_br(code, e.size, opcode, comparison, v, index);
-        e.grow(8, Role::CmpBr, Last::Other)
+        bytes::push_cmp_br(code, self.size, opcode, comparison, v, index);
+        self.grow(8, Role::CmpBr, Last::Other)
     }
 
     // An instruction of one byte.
@@ -442,12 +474,15 @@ impl Emitter {
         requires { ⌜ Held (now pool) ⌝ }
         ensures { λ r. ⌜ Pooled (addConstant k) self (now (pool .entry)) r (now (pool .exit)) ⌝ }
     {
+        if self.refused != 0 {
+            return self;
+        }
         let i = pool::index_of(pool, self.constants, k);
         if i >= MAX_CONSTANTS { // a new one, and there is no room
             return self.refuse(CONSTANTS_FULL, 0);
         }
         let mut e = self;
-        e.constants = pool::keep(pool, e.refused, e.constants, i, k);
+        e.constants = pool::keep(pool, e.constants, i, k);
         e
     }
 
@@ -466,10 +501,18 @@ impl Emitter {
         if i >= MAX_CONSTANTS {
             return self.refuse(CONSTANTS_FULL, 0);
         }
-        let index = numbers::narrow(i);
-        let mut e = self.add_u16(sheet, code, book, Role::LoadConst, index, Last::Other);
-        e.constants = pool::keep(pool, e.refused, e.constants, i, k);
-        e
+        let mut e = self.prepare(book, 3);
+        if e.refused != 0 { // by 10 or 12, or before: nothing is appended
+            return e;
+        }
+        e.constants = pool::keep(pool, e.constants, i, k);
+        e.put_u16(
+            sheet,
+            code,
+            Role::LoadConst,
+            numbers::narrow(i),
+            Last::Other,
+        )
     }
 }
 
@@ -557,11 +600,13 @@ impl Emitter {
         if i >= MAX_CONSTANTS {
             return self.refuse(CONSTANTS_FULL, 0);
         }
-        let index = numbers::narrow(i);
-        let patch = PendingPatch::cmp_br(numbers::narrow(self.size), label);
-        let b = self.add_cmp_br(sheet, code, book, op, v, index);
-        let mut e = b.add_patch(book, patch);
-        e.constants = pool::keep(pool, e.refused, e.constants, i, k);
-        e
+        let mut e = self.prepare(book, 8);
+        if e.refused != 0 {
+            return e;
+        }
+        e.constants = pool::keep(pool, e.constants, i, k);
+        let patch = PendingPatch::cmp_br(numbers::narrow(e.size), label);
+        let b = e.put_cmp_br(sheet, code, op, v, numbers::narrow(i));
+        b.add_patch(book, patch)
     }
 }

@@ -112,15 +112,12 @@ pub fn append(pool: &mut [Constant], n: usize, k: Constant)
     }
 }
 
-// How many constants there are once this one, whose place was found, is kept: it is appended if it is new, unless something refused.
-pub fn keep(pool: &mut [Constant], refused: u8, n: usize, i: usize, k: Constant) -> usize
+// How many constants there are once this one, whose place was found, is kept: it is appended if it is new.
+pub fn keep(pool: &mut [Constant], n: usize, i: usize, k: Constant) -> usize
     requires { ⌜ Held (now pool) ⌝ }
-    requires { ⌜ (refused ≡ 0 → i < maxConstants) ⌝ }
-    ensures { λ r. ⌜ Keeps refused n i k (now (pool .entry)) r (now (pool .exit)) ⌝ }
+    requires { ⌜ i < maxConstants ⌝ }
+    ensures { λ r. ⌜ Keeps n i k (now (pool .entry)) r (now (pool .exit)) ⌝ }
 {
-    if refused != 0 { // by 13, 10 or 12
-        return n;
-    }
     if i < n {
         return n;
     }

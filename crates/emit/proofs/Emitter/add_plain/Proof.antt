@@ -3,7 +3,7 @@ use mathlib.Core.Path.{refl}
 use mathlib.Core.List.{[]}
 use native.Mathlib.Omega.{arith}
 use Rattle.emit.specs.declared.Last.the-variants.{Other}
-use Rattle.emit.proofs.Instructions.{add-stops, add-goes, pushed-one}
+use Rattle.emit.proofs.Instructions.{puts, add-stops, add-goes, pushed-one}
 use borrow.Author.Needs.{needs}
 use Rattle.emit.proofs.Emitter.add_plain.Statement.{statement}
 use Rattle.emit.proofs.Emitter.add_plain.Tie as tie
@@ -20,4 +20,4 @@ add-plain-spec =
     (λ c κs. (c .before .before .before .before .before .before .before .before .before .prepare .ensures .noted .fine, ((omega arith, c .before .before .before .before .before .before .before .before .before .prepare .ensures .fits (c .before .before .before .before .before .if1 .left)), tt)))  -- grow-requires
     (λ c. search needs)  -- same-length-2
     (λ c. search needs)  -- same-length-3
-    (λ c. add-goes _ _ [] Other 1 refl (c .before .before .before .before .before .before .before .before .before .before .before .before .before .before .before .pre .1 .0) (c .before .before .before .before .before .before .before .before .before .before .prepare .ensures) (c .before .before .before .before .before .before .if1 .left) (pushed-one _ (c .before .before .before .push-byte .ensures) (c .before .before .before .before .before .opcode-of .ensures)) (c .grow .ensures .0) (c .grow .ensures .1)))  -- returns-2
+    (λ c. add-goes _ _ [] Other 1 refl (c .before .before .before .before .before .before .before .before .before .before .before .before .before .before .before .pre .1 .0) (c .before .before .before .before .before .before .before .before .before .before .prepare .ensures) (puts _ _ [] Other 1 refl (c .before .before .before .before .before .before .before .before .before .before .before .before .before .before .before .pre .1 .0) (c .before .before .before .before .before .before .before .before .before .before .prepare .ensures .noted .fine) (c .before .before .before .before .before .before .if1 .left) (c .before .before .before .before .before .before .before .before .before .before .prepare .ensures .fits (c .before .before .before .before .before .before .if1 .left)) (pushed-one _ (c .before .before .before .push-byte .ensures) (c .before .before .before .before .before .opcode-of .ensures)) (c .grow .ensures .0) (c .grow .ensures .1))))  -- returns-2

@@ -1,7 +1,4 @@
 -- Made by `answers` from crates/emit/answers/Emitter/prepare.txt: edit that file, not this one.
-use mathlib.Core.Path.{sym, _∙_}
-use native.Mathlib.Omega.{arith}
-use Rattle.emit.proofs.Instructions.{prepare-stays, prepare-full, prepare-here, prepare-lines, prepare-noted}
 use borrow.Author.Needs.{needs}
 use Rattle.emit.proofs.Emitter.prepare.Statement.{statement}
 use Rattle.emit.proofs.Emitter.prepare.Tie as tie
@@ -10,18 +7,6 @@ pub prepare-spec : {M : Type 1} → statement M
 prepare-spec =
     tie.close
     (tie.spec
-    (λ c. prepare-stays _ (search needs) (search needs) (c .if1 .taken))  -- returns
-    (λ c. search needs)  -- add-if2
-    (λ c κs. search needs)  -- refuse-requires
-    (λ c. prepare-full _ (c .before .before .before .before .before .before .pre .0) (c .before .before .before .before .before .before .pre .1 .0) (c .before .if2 .taken) (c .refuse .ensures))  -- returns-2
-    (λ c κs. search needs)  -- stands-here-requires
+    (λ c κs. (c .before .before .pre .0, (c .before .before .pre .1 .0, c .before .before .pre .1 .1)))  -- note-requires
     (λ c. search needs)  -- same-length
-    (λ c. prepare-here _ (c .before .before .before .before .before .before .before .before .pre .0) (c .before .before .before .before .before .before .before .before .pre .1 .0) (c .before .before .before .if2 .left) (c .before .before .before .before .before .if1 .left) (sym (c .if3 .taken) ∙ (c .before .stands-here) .ensures))  -- returns-3
-    (λ c κs. search needs)  -- refuse-requires-2
-    (λ c. search needs)  -- same-length-2
-    (λ c. prepare-lines _ (c .before .before .before .before .before .before .before .before .before .before .pre .0) (c .before .before .before .before .before .before .before .before .before .before .pre .1 .0) (c .before .before .before .before .before .if2 .left) (sym (c .before .before .if3 .left) ∙ (c .before .before .before .stands-here) .ensures) (c .before .if4 .taken) (c .refuse2 .ensures))  -- returns-4
-    (λ c κs. omega (arith, c .before .before .before .before .before .before .before .before .before .before .pre .0 .size))  -- narrow-requires
-    (λ c κs. (c .before .before .before .before .before .before .before .before .before .before .before .before .pre .1 .0, c .before .before .before .if4 .left))  -- put-line-requires
-    (λ c. search needs)  -- add-e
-    (λ c. search needs)  -- same-length-3
-    (λ c. prepare-noted _ (c .before .before .before .before .before .before .before .before .before .before .before .before .before .before .before .pre .0) (c .before .before .before .before .before .before .before .before .before .before .before .before .before .before .before .pre .1 .0) (c .before .before .before .before .before .before .before .before .before .before .if2 .left) (sym (c .before .before .before .before .before .before .before .if3 .left) ∙ (c .before .before .before .before .before .before .before .before .stands-here) .ensures) (c .before .before .before .before .narrow .ensures) (c .before .before .before .before .before .before .before .before .before .before .before .before .if1 .left) (c .before .before .before .before .before .before .if4 .left) (c .before .before .put-line .ensures)))  -- returns-5
+    (λ c. c .before .before .note .ensures))  -- returns
