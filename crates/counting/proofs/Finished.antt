@@ -15,11 +15,10 @@ use Rattle.definition.specs.Emit.{le16, PendingPatch}
 use Rattle.definition.specs.Rewrite.{Bytes, boundariesFrom, actions, applied, output, OffsetMap, offsets, movedTo, applyPeephole}
 use Rattle.definition.specs.Optimize.{Pipeline, mapThrough, run, identity, optimize}
 use Rattle.definition.specs.Compile.{boundLabel, displacement, overwrite, patchJump, patchJumps}
-use Rattle.field.proofs.Lists.{has-here}
+use Rattle.field.proofs.Lists.{has-here, has-later}
 use Rattle.runs.proofs.Passes.{Reads}
 use Rattle.runs.proofs.Decoding.{joined, Wholes, decode-joined}
 use Rattle.runs.proofs.Rows.{patchHere, to}
-use Rattle.runs.proofs.Running.{has-later}
 use Rattle.runs.proofs.Patched.{aimedOperand, aimed-length, patchWith, patch-one}
 use Rattle.counting.proofs.Rows.{Row, unpatched, operandOf, bytesOf, codeOf, patchesOf, Sized}
 

@@ -12,12 +12,9 @@ use Rattle.definition.specs.Stmt.{continuesStmt, continuesArms}
 use Rattle.definition.specs.Stmt as emission
 use Rattle.definition.specs.Iec.{truth, stored, Values, compared}
 use Rattle.definition.specs.Meaning.{valueOf, Answer, ends, exits, continues, returns, stops, spent, andThen, onValue, fitsOne, Turn, again, leaves, onTurn, thenTurn, turns, caught, turnOf, until, within, loopTurn, forTurn, runStmt, runBlock, runArms}
+use Rattle.field.proofs.Tests.{or-false}
 use Rattle.field.proofs.Results.{never}
 use Rattle.meaning.proofs.Loops.{Never}
-
-pub or-false : (a b : Bool) → (a || b) ≡ false → (a ≡ false) × (b ≡ false)
-or-false true b e = never (cc)
-or-false false b e = (refl, e)
 
 -- a CONTINUE of loop i inside loop j is not asked about where the two are one
 other-false : (i j : ℕ) (b : Bool) → (not (eqb i j) && b) ≡ false → (eqb i j ≡ false → b ≡ false)

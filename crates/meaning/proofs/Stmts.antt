@@ -15,13 +15,14 @@ use Rattle.definition.specs.Stmt.{Loops, labels, jumpTo, exitOf, nextOf, emitLo
 use Rattle.definition.specs.Stmt as emission
 use Rattle.definition.specs.Iec.{truth, stored, Values}
 use Rattle.definition.specs.Meaning.{valueOf, Answer, ends, exits, returns, stops, andThen, onValue, fitsOne, Turn, again, leaves, thenTurn, turns, caught, turnOf, loopTurn, runStmt, runBlock, runArms}
+use Rattle.field.proofs.Tests.{or-false}
 use Rattle.field.proofs.Results.{never, some-is}
 use Rattle.meaning.proofs.Calls.{popOne, operated, called}
 use Rattle.meaning.proofs.Walks.{through, Away, Good, Does, _⨾_, cut, silent, says, finishing, refuses}
 use Rattle.meaning.proofs.Exprs.{valued, on-value, expr-does, jumps}
 use Rattle.meaning.proofs.Landing.{labelEnd, landing, onward, landing-away, then-does, if-does, armed, armsEnd, arm-does, case-does}
 use Rattle.meaning.proofs.Loops.{Never, whileTurn, plain-does, for-does, repeat-does, while-does}
-use Rattle.meaning.proofs.Never.{or-false, never-block}
+use Rattle.meaning.proofs.Never.{never-block}
 
 -- ---- WHILE: the plain meaning of a loop of that shape
 

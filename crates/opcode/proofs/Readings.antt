@@ -10,7 +10,7 @@ use native.Mathlib.Decide.{decLt, ℕ-discrete}
 use borrow.Author.Tests.{eq-eqb, ne-eqb, lt-ltb, le-ltb, le-leb, ltb-true, ltb-false}
 use lib.Dec.{eqb, ltb}
 use lib.ListN.{length, getD, take, drop, set, length-take, length-drop, length-set, length-map, length-append, drop-of-length-le, take-append-drop}
-use lib.Seq.{drop-cons, getD-drop, getD-take, take-nil, take-suc, take-suc-set, take-take, take-append-le, take-all, length-take-le, split-at, drop-append-le, take-at, drop-at}
+use lib.Seq.{drop-cons, getD-drop, getD-take, take-suc, take-suc-set, take-take, take-append-le, take-all, length-take-le, split-at, drop-append-le, take-at, drop-at}
 use Rattle.definition.specs.Limits.{badSheet, outputShort}
 use Rattle.definition.specs.Res.{Res, ok, refuse}
 use Rattle.definition.specs.Lent.{zeros}
@@ -23,7 +23,7 @@ use Rattle.field.specs.View.{Ends, lineEnd, lineFields}
 use Rattle.field.proofs.Numbers.{up-to-bound}
 use Rattle.field.proofs.Parts.{parts-last, parts-more, line-part, line-is, line-ends, Some, some-part, split-some}
 use Rattle.field.proofs.Fields.{Whole}
-use Rattle.field.proofs.Lists.{drop-map}
+use Rattle.field.proofs.Lists.{drop-map, drop-take}
 use Rattle.opcode.specs.Table.{tableSize, sheetIn, Listed, groupStart}
 use Rattle.opcode.specs.Reading.{byteOr, Takes, faulty, no-byte, repeats, put, Reads, Answers}
 use Rattle.opcode.proofs.Roles.{seen-at}
@@ -183,12 +183,6 @@ byte-none bs g = go (field byte bs) refl
     go (is n) e h = absurd (omega (arith, up-to-bound bs maxByte e))
 
 -- ---- taking the fields of a line into the table
-
-drop-take : {A : Type 0} (n m : ℕ) (l : List A) → drop n (take m l) ≡ take (m - n) (drop n l)
-drop-take zero m l = let z : m - 0 ≡ m = omega arith in rw z
-drop-take (suc n) zero l = let z : 0 - suc n ≡ 0 = omega arith in rw z
-drop-take (suc n) (suc m) [] = sym (take-nil (suc m - suc n))
-drop-take (suc n) (suc m) (x ∷ l) = let z : suc m - suc n ≡ m - n = omega arith in rw z (drop-take n m l)
 
 -- what was asked of the group so far
 pub so-far : (i start n : ℕ) (t : List ℕ) {r b : Bool} → start ≡ groupStart i → r ≡ has (take (i - start) (drop start t)) n → r ≡ b → has (drop (groupStart i) (take i t)) n ≡ b

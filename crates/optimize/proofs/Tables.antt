@@ -12,6 +12,7 @@ use lib.Dec.{eqb, leb}
 use lib.Seq.{length-take-le, getD-set-same, getD-set-other, drop-cons, take-suc-set, drop-set-lt, take-all, append-snoc}
 use Rattle.definition.specs.Field.{has}
 use Rattle.definition.specs.Rewrite.{movedTo}
+use Rattle.field.proofs.Tests.{or-any, or-none}
 use Rattle.rewrite.specs.View.{isMark, Clear}
 use Rattle.store.specs.Fill.{zeroedFrom}
 use Rattle.store.proofs.Fills.{replicate-none, zeros-replicate, length-zeros, zero-all}
@@ -51,14 +52,6 @@ fixed-past table x full far = has-fixed table x full ∙ rw (List·getD-eq-defau
 
 -- ---- marks
 
-or-true : (b : Bool) → (b || true) ≡ true
-or-true true = refl
-or-true false = refl
-
-or-false : (b : Bool) → (b || false) ≡ b
-or-false true = refl
-or-false false = refl
-
 -- what is left to mark from the i-th on, in a table of k elements
 pub record Marking (protected : List ℕ) (k : ℕ) (marks : List ℕ) (i : ℕ) : Type 0 where
   pub slots : length marks ≡ k
@@ -83,7 +76,7 @@ module _ (protected : List ℕ) where
             elim t as (λ t. eqb x y ≡ t → has protected x ≡ (isMark (getD (set marks y 1) x 0) || has (drop (suc i) protected) x)) [
               | true ↦ λ q.
                   let same = eqb-true x y q in
-                  rw (same, getD-set-same marks y 1 0 inside) (rw (same, has-here y (drop (suc i) protected)) at was ∙ or-true (isMark (getD marks y 0)))
+                  rw (same, getD-set-same marks y 1 0 inside) (rw (same, has-here y (drop (suc i) protected)) at was ∙ or-any (isMark (getD marks y 0)))
               | false ↦ λ q.
                   let other = eqb-false x y q in
                   rw (getD-set-other marks y x 1 0 other) (rw (has-past x y (drop (suc i) protected) other) at was)
@@ -94,7 +87,7 @@ module _ (protected : List ℕ) where
   pub mark-ends : {k : ℕ} (marks : List ℕ) (i : ℕ) → Marking protected k marks i → length protected ≤ i → Marks protected marks
   unfolding has
   mark-ends marks i m h = record {
-    is = λ x. has-marked marks x ∙ sym (rw (drop-of-length-le protected h, or-false) at (m .left x));
+    is = λ x. has-marked marks x ∙ sym (rw (drop-of-length-le protected h, or-none) at (m .left x));
   }
 
 -- ---- offsets moved

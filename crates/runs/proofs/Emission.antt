@@ -16,6 +16,7 @@ use Rattle.definition.specs.CompileExpr.{ClassifiedCmp, constantOf, classify, e
 use Rattle.definition.specs.Expr.{emitExpr}
 use Rattle.definition.specs.Stmt.{LoopLabels, Loops, labels, jumpTo, exitOf, nextOf, continues, continuesStmt, continuesArms, branchUnlessBy, branchUnless, elsePart, testAgainst, testLabel, testLabels, armBody, emitArm, loopBody, endTestBy, emitFor, whileBy, emitWhile, repeatBy, emitRepeat, emitPlain, emitLoop, sourceOf, recordPosition, emitStmt, emitBlock, emitRest, emitArms, emitStmts}
 use Rattle.definition.specs.Claims.{left, right}
+use Rattle.field.proofs.Tests.{or-left, or-right}
 use Rattle.field.proofs.Results.{never}
 use Rattle.runs.proofs.Heights.{Binds, sooner, further, binds, inside, Sound, With, wider, _⨾_, opens, leaves, silent, loads, stores, pushes, pools, emits, returns, binding, resets, places, refuses, jumps, unless, compares}
 
@@ -56,14 +57,6 @@ target-wider f (at {l = l} p e) = at p (f l e)
 
 open-wider : {Λ : ℕ → ℕ} {E F : ℕ → Type 0} {c d : ℕ → Bool} {loops : Loops} → ((l : ℕ) → E l → F l) → ((i : ℕ) → d i ≡ true → c i ≡ true) → Open Λ E c loops → Open Λ F d loops
 open-wider f g o = record { exits = λ i. target-wider f (o .exits i); nexts = λ i e. target-wider f (o .nexts i (g i e)) }
-
-or-left : (a b : Bool) → a ≡ true → (a || b) ≡ true
-or-left true b e = refl
-or-left false b e = never (cc)
-
-or-right : (a b : Bool) → b ≡ true → (a || b) ≡ true
-or-right true b e = refl
-or-right false b e = e
 
 -- inside loop i, whose CONTINUEs lead to `next` if b says that there are some
 module _ {Λ : ℕ → ℕ} {E F : ℕ → Type 0} (i end next : ℕ) (b : ℕ → Bool) (loops : Loops) (f : (l : ℕ) → E l → F l) (pe : Λ end ≡ 0) (e : E end)

@@ -23,11 +23,12 @@ use Rattle.definition.specs.Runs.{State, target, run, start}
 use Rattle.field.proofs.Results.{never}
 use Rattle.runs.proofs.Heights.{Bound}
 use Rattle.definition.specs.Claims.{Either, left, right, Fine, branchPlaces, inTurn, LeadsTo, Each, empty, _also_, BranchLeads, Branches, OneHeight}
+use Rattle.field.proofs.Lists.{has-first, has-later}
 use Rattle.runs.proofs.Rows.{Row, bytes-of, place-at, aim-at, row-of, row-inside, row-aim, row-bytes, height-first, place-first, place-end, place-within, patchHere, patchesBy, patches-same, each-patch, Linked}
 use Rattle.runs.proofs.Emitted.{Stands, Placed, Acted, created, emitted}
 use Rattle.runs.proofs.Passes.{Reads, Fine as FineMatcher, decode-rows, looked-moved, Piped, optimize-piped, moved-in-turn}
 use Rattle.runs.proofs.Patched.{aimedRows, aimed-first, aimed-heights, aimed-count, aimed-linked, aimed-places, aimed-patches, aimedRow, aimed-aims, aimed-row, aimed-byte, aimed-long, patchWith, movedPatch, patchJumps-with, patched-rows, row-target, inside-rows}
-use Rattle.runs.proofs.Running.{has-first, has-later, row-at, run-fine, row-fine, row-leads, branch-places, height-of, height-place, start-row}
+use Rattle.runs.proofs.Running.{row-at, run-fine, row-fine, row-leads, branch-places, height-of, height-place, start-row}
 
 -- ---- patches and what holds of each
 

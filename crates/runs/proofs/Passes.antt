@@ -20,6 +20,7 @@ use Rattle.definition.specs.Optimize.{Pipeline, mapThrough, run, identity, opti
 use Rattle.rules.proofs.Pairs.{Pair, rewritten, read-accepted, matched, variable-size}
 use Rattle.field.proofs.Results.{never, some-is}
 use Rattle.definition.specs.Claims.{unmoved, passMap, inTurn}
+use Rattle.field.proofs.Tests.{or-false}
 use Rattle.runs.proofs.Decoding.{joined, Wholes, decode-joined}
 use Rattle.runs.proofs.Rows.{Row, bytes-of, place-at, place-first, row-of, height-at, first-height, patchesBy, Linked, finished, follows}
 use Rattle.runs.proofs.Rewritten.{kept, apply, past, move, Fits, over, alone, pair, Outer, rewrite-linked, height-moved, move-within, patches-moved, branch-kept}
@@ -49,10 +50,6 @@ pub decode-rows : {Λ : ℕ → ℕ} {D e : ℕ} {rs : List Row} (s : Sheet) →
 decode-rows {rs = rs} s back l = ap (λ c. decode s c) (bytes-joined s rs) ∙ decode-joined s (map (insOf s) rs) (rows-whole s back l)
 
 -- ---- the actions of a pass
-
-or-false : (a b : Bool) → (a || b) ≡ false → b ≡ false
-or-false true b e = never (cc)
-or-false false b e = e
 
 -- what a matcher answers for rows is a pair that may be rewritten
 abbrev pub Fine : Sheet → Matcher → Type 0
@@ -116,7 +113,7 @@ module _ (s : Sheet) (m : Matcher) (protected : List ℕ) (fine : Fine s m) wher
 
       by-rule : (x : Option (Action × Action)) → m (instruction s (insOf s r)) (instruction s (insOf s q)) ≡ x → (has protected at || has protected a₁) ≡ false → Skip → Leap
           → Fitted protected (elim x [ some two ↦ two .0 ∷ two .1 ∷ actions s m protected a₂ (map (insOf s) rs) | none ↦ keep ∷ actions s m protected a₁ (map (insOf s) (q ∷ rs)) ]) at (r ∷ q ∷ rs)
-      by-rule (some two) e nk f g = leapt r q two (or-false (has protected at) (has protected a₁) nk) e g
+      by-rule (some two) e nk f g = leapt r q two (or-false (has protected at) (has protected a₁) nk .1) e g
       by-rule none e nk f g = skipped r f
 
       by-place : (b : Bool) → (has protected at || has protected a₁) ≡ b → Skip → Leap

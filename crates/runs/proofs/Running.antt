@@ -22,6 +22,7 @@ use Rattle.runs.proofs.Rows.{Row, next-height, bytes-of, place-at, aim-
 use Rattle.runs.proofs.Emitted.{Stands}
 use Rattle.runs.proofs.Passes.{insOf, Reads, decode-rows}
 use Rattle.definition.specs.Claims.{Either, left, right, branches, Fine, isBranch, branchesFrom, branchPlaces, LeadsTo}
+use Rattle.field.proofs.Lists.{has-first, has-later}
 
 -- ---- what the bytes of rows say at row i
 
@@ -34,18 +35,6 @@ pub record RowAt (Λ : ℕ → ℕ) (D : ℕ) (s : Sheet) (at : ℕ) (rs : List 
   pub inside : place-at rs i < length (bytes-of s rs)
   pub byte : getD (bytes-of s rs) (place-at rs i) 0 ≡ opcode s (r .role)
   pub start : has (startsFrom at (map (insOf s) rs)) (at + place-at rs i) ≡ true
-
-pub has-first : (x : ℕ) (ys : List ℕ) (y : ℕ) → y ≡ x → has (x ∷ ys) y ≡ true
-unfolding has
-has-first x ys y e = ap (λ b. elim b as (λ c. Bool) [ true ↦ true | false ↦ has ys y ]) (eq-eqb y x e)
-
-pub has-later : (x : ℕ) (ys : List ℕ) (y : ℕ) → has ys y ≡ true → has (x ∷ ys) y ≡ true
-unfolding has
-has-later x ys y e = by (eqb y x)
-  where
-    by : (b : Bool) → elim b [ true ↦ true | false ↦ has ys y ] ≡ true
-    by true = refl
-    by false = e
 
 pub row-at : {Λ : ℕ → ℕ} {D e : ℕ} (s : Sheet) (at : ℕ) {rs : List Row} → Linked Λ D rs e → (i : ℕ) → i < length rs → (r : Row) × RowAt Λ D s at rs e i r
 unfolding aim-at height-at place-at bytes-of startsFrom insOf

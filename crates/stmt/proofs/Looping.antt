@@ -18,6 +18,7 @@ use Rattle.definition.specs.Walk.{Calls, say}
 use Rattle.definition.specs.Walk as walk
 use Rattle.definition.specs.Expr.{emitExpr}
 use Rattle.definition.specs.Stmt.{Loops, continues, branchUnless, branchUnlessBy, loopBody, whileBy, emitWhile, repeatBy, emitRepeat, emitPlain, emitLoop, emitBlock, emitRest}
+use Rattle.field.proofs.Tests.{or-none}
 use Rattle.program.specs.declared.Cursor.{Cursor}
 use Rattle.program.specs.Walk.{cursorOf, Near, Skipped}
 use Rattle.program_shape.specs.Shape.{blockAt, Shaped}
@@ -36,7 +37,7 @@ use Rattle.stmt.specs.Blocks.{loopCalls}
 use Rattle.stmt_parts.specs.Parts.{Enters, PoolsFirst, BindsNext, whileFrom, whileEnd, poolFirst}
 use Rattle.stmt.specs.Lent.{Opens}
 use Rattle.stmt.specs.Ran.{Ran, RanBlock, RanBody, RanPlain, RanWhile, RanRepeat, RanLoop}
-use Rattle.stmt_parts.proofs.Marks.{or-false, marked-same, marked-then, loops-marked}
+use Rattle.stmt_parts.proofs.Marks.{marked-same, marked-then, loops-marked}
 use Rattle.stmt.proofs.Shapes.{while-shape, while-exits, unless-quiet, repeat-quiet}
 use Rattle.stmt_parts.proofs.Walks.{booked-on, created-on, pooled-on, coded-on}
 use Rattle.stmt.proofs.Walks.{at-loops, re}
@@ -184,7 +185,7 @@ unfolding loopCalls emitLoop emitRest continues
 while-calls i first rest x e r = record {
   place = r .place;
   slots = r .slots;
-  marks = r .marks ∙ marked-same _ _ _ (λ j. rw (unless-quiet i j first x (while-exits i first rest x e)) (sym (or-false _)));
+  marks = r .marks ∙ marked-same _ _ _ (λ j. rw (unless-quiet i j first x (while-exits i first rest x e)) (sym (or-none _)));
   filled = rw (← e, unless-quiet i i first x (while-exits i first rest x e)) (r .filled);
 }
 
@@ -206,7 +207,7 @@ unfolding loopCalls emitLoop
 loop-repeat s inside vars text i b d {x} e on r = record {
   place = record { is = r .place .is ∙ on .is; near = r .place .near };
   slots = r .slots;
-  marks = r .marks ∙ marked-same _ _ _ (λ j. rw (repeat-quiet i j b d x e) (sym (or-false _)));
+  marks = r .marks ∙ marked-same _ _ _ (λ j. rw (repeat-quiet i j b d x e) (sym (or-none _)));
   filled = rw (← e) (r .filled);
 }
 

@@ -11,19 +11,12 @@ use lib.Seq.{getD-set-same, getD-set-other}
 use lib.Dec.{eqb}
 use Rattle.definition.specs.Stmt.{Loops, LoopLabels, labels, continues, continuesStmt}
 use Rattle.definition.specs.Tree.{Stmt, Block}
+use Rattle.field.proofs.Tests.{or-none, or-any}
 use Rattle.stmt_parts.specs.Loops.{loopSize, Open, openAt, opensIn, loopsOf, marked, foundAt, Finds}
 
 or-assoc : (a b c : Bool) → (a || b) || c ≡ a || (b || c)
 or-assoc true b c = refl
 or-assoc false b c = refl
-
-pub or-false : (a : Bool) → a || false ≡ a
-or-false true = refl
-or-false false = refl
-
-or-true : (a : Bool) → a || true ≡ true
-or-true true = refl
-or-true false = refl
 
 and-false : (a : Bool) → a && false ≡ false
 and-false true = refl
@@ -45,7 +38,7 @@ marked-same c d (o ∷ os) h = rw (h (o .labels .loop), marked-same (λ i. not (
 pub marked-off : (c : ℕ → Bool) (os : List Open) → ((i : ℕ) → c i ≡ false) → marked c os ≡ os
 unfolding marked
 marked-off c [] h = refl
-marked-off c (o ∷ os) h = rw (h (o .labels .loop), or-false (o .used), marked-off (λ i. not (eqb i (o .labels .loop)) && c i) os (λ i. ap (λ (b : Bool). not (eqb i (o .labels .loop)) && b) (h i) ∙ and-false (not (eqb i (o .labels .loop)))))
+marked-off c (o ∷ os) h = rw (h (o .labels .loop), or-none (o .used), marked-off (λ i. not (eqb i (o .labels .loop)) && c i) os (λ i. ap (λ (b : Bool). not (eqb i (o .labels .loop)) && b) (h i) ∙ and-false (not (eqb i (o .labels .loop)))))
 
 -- one part after another
 pub marked-then : (c d : ℕ → Bool) (os : List Open) → marked d (marked c os) ≡ marked (λ i. c i || d i) os
@@ -68,11 +61,11 @@ loops-marked c (o ∷ os) = rw (loops-marked (λ i. not (eqb i (o .labels .loop)
 module _ (i : ℕ) (o : Open) (os : List Open) where
   mark-here : o .labels .loop ≡ i → marked (λ j. eqb j i) (o ∷ os) ≡ record { labels = o .labels; used = true } ∷ os
   unfolding marked
-  mark-here e = rw (eq-eqb (o .labels .loop) i e, or-true (o .used), marked-off (λ j. not (eqb j (o .labels .loop)) && eqb j i) os (λ j. rw e (not-and (eqb j i))))
+  mark-here e = rw (eq-eqb (o .labels .loop) i e, or-any (o .used), marked-off (λ j. not (eqb j (o .labels .loop)) && eqb j i) os (λ j. rw e (not-and (eqb j i))))
 
   mark-later : (o .labels .loop ≡ i → ⊥) → marked (λ j. eqb j i) (o ∷ os) ≡ o ∷ marked (λ j. eqb j i) os
   unfolding marked
-  mark-later h = rw (ne-eqb (o .labels .loop) i h, or-false (o .used), marked-same (λ j. not (eqb j (o .labels .loop)) && eqb j i) (λ j. eqb j i) os (λ j. go j (eqb j i) refl))
+  mark-later h = rw (ne-eqb (o .labels .loop) i h, or-none (o .used), marked-same (λ j. not (eqb j (o .labels .loop)) && eqb j i) (λ j. eqb j i) os (λ j. go j (eqb j i) refl))
     where
       go : (j : ℕ) (b : Bool) → eqb j i ≡ b → not (eqb j (o .labels .loop)) && b ≡ b
       go j true e = rw (ne-eqb j (o .labels .loop) (λ q. h (sym q ∙ eqb-true j i e)))
