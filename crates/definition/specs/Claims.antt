@@ -34,13 +34,17 @@ pub data Either (A B : Type 0) : Type 0 where
 
 -- ---- runs
 
--- a run stands at an instruction's start or at the end, has not broken off (so it never popped an empty stack), is at most `depth` high,
+-- a run stands at one of the starts or at the end, has not broken off (so it never popped an empty stack), is at most `depth` high,
 -- and is at height 0 if it has finished
-pub record Fine (s : Sheet) (code : List ℕ) (depth : ℕ) (y : Stand) : Type 0 where
-  pub place : Either (has (startsFrom 0 (decode s code)) (y .state .place) ≡ true) (y .state .place ≡ length code)
+pub record FineOver (starts code : List ℕ) (depth : ℕ) (y : Stand) : Type 0 where
+  pub place : Either (has starts (y .state .place) ≡ true) (y .state .place ≡ length code)
   pub whole : (b : Break) → y .how ≡ breaks b → ⊥
   pub low : y .state .height ≤ depth
   pub empty : y .how ≡ finishes → y .state .height ≡ 0
+
+-- over the starts that decoding gives
+abbrev pub Fine : Sheet → List ℕ → ℕ → Stand → Type 0
+Fine s code depth y = FineOver (startsFrom 0 (decode s code)) code depth y
 
 -- ---- branches
 

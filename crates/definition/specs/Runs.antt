@@ -72,15 +72,16 @@ unfoldable pub executeIf : Option Role → List ℕ → State → Step
 executeIf none code x = breaks offCode
 executeIf (some r) code x = execute r code x
 
--- one step: the end finishes, and every other place must be a start
-unfoldable pub step : Sheet → List ℕ → State → Step
-step s code x = elim (eqb (x .place) (length code)) [
+-- one step over a list of starts: the end finishes, and every other place must be one of them
+unfoldable pub stepOver : List ℕ → Sheet → List ℕ → State → Step
+stepOver starts s code x = elim (eqb (x .place) (length code)) [
   | true ↦ finishes
-  | false ↦ elim (has (startsFrom 0 (decode s code)) (x .place)) [
-    | true ↦ executeIf (roleOf s (getD code (x .place) 0)) code x
-    | false ↦ breaks offCode
-  ]
+  | false ↦ elim (has starts (x .place)) [ true ↦ executeIf (roleOf s (getD code (x .place) 0)) code x | false ↦ breaks offCode ]
 ]
+
+-- over the starts that decoding gives
+unfoldable pub step : Sheet → List ℕ → State → Step
+step s code x = stepOver (startsFrom 0 (decode s code)) s code x
 
 -- where a run stands, and how
 pub record Stand : Type 0 where
@@ -94,9 +95,12 @@ stand x waits more = record { state = x; how = waits }
 stand x (breaks b) more = record { state = x; how = breaks b }
 
 -- at most n steps from a state
+unfoldable pub runOver : List ℕ → Sheet → List ℕ → ℕ → State → Stand
+runOver starts s code zero x = record { state = x; how = goes x }
+runOver starts s code (suc n) x = stand x (stepOver starts s code x) (λ y. runOver starts s code n y)
+
 unfoldable pub run : Sheet → List ℕ → ℕ → State → Stand
-run s code zero x = record { state = x; how = goes x }
-run s code (suc n) x = stand x (step s code x) (λ y. run s code n y)
+run s code n x = runOver (startsFrom 0 (decode s code)) s code n x
 
 -- place and height start at 0
 unfoldable pub start : List Bool → State
@@ -104,5 +108,5 @@ start os = record { place = 0; height = 0; outcomes = os }
 
 -- `unfolding open-Runs` names all of this module's definitions at once
 unfoldable pub open-Runs : Unit {0}
-unfolding target jump branch follow outOfOutcomes execute executeIf step stand run start
+unfolding target jump branch follow outOfOutcomes execute executeIf stepOver step stand runOver run start
 open-Runs = tt

@@ -11,6 +11,7 @@ pub mod Later
 pub mod Rewritten
 pub mod Passes
 pub mod Patched
+pub mod Steps
 pub mod Running
 pub mod Finished
 pub mod Conditions

@@ -15,9 +15,10 @@ use Rattle.definition.specs.Field.{has}
 use Rattle.definition.specs.Opcode.{Role, Sheet, opcode, roleOf, size, needs, effect, shift, Flow, onward, away, either, stop, flow}
 use Rattle.definition.specs.Emit.{PendingPatch}
 use Rattle.definition.specs.Rewrite.{opcodeOf, decode, startsFrom}
-use Rattle.definition.specs.Runs.{State, Break, offCode, emptyStack, Step, goes, finishes, waits, breaks, target, jump, branch, follow, outOfOutcomes, execute, executeIf, step, Stand, stand, run}
+use Rattle.definition.specs.Runs.{State, Break, offCode, emptyStack, Step, goes, finishes, waits, breaks, target, jump, branch, follow, outOfOutcomes, execute, executeIf, step, Stand, stand, runOver, run}
 use Rattle.field.proofs.Results.{never}
 use Rattle.runs.proofs.Heights.{falls, Stops}
+use Rattle.runs.proofs.Steps.{over-end, over-start}
 use Rattle.runs.proofs.Rows.{Row, next-height, bytes-of, place-at, aim-at, height-at, height-first, height-end, place-first, place-end, patchHere, patchesBy, patches-same, Leads, nowhere, to, leads-to, RowOk, Linked, finished, follows}
 use Rattle.runs.proofs.Emitted.{Stands}
 use Rattle.runs.proofs.Passes.{insOf, Reads, decode-rows}
@@ -83,18 +84,14 @@ pub data Good (rs : List Row) (D h : ℕ) : Step → Type 0 where
   wait : Good rs D h waits
 
 -- a step, by what it asks of its place
-stepBy : Bool → Bool → Option Role → List ℕ → State → Step
-stepBy end start r code x = elim end [ true ↦ finishes | false ↦ elim start [ true ↦ executeIf r code x | false ↦ breaks offCode ] ]
-
 step-end : (s : Sheet) (code : List ℕ) (x : State) → x .place ≡ length code → step s code x ≡ finishes
-unfolding step stepBy
-step-end s code x e = ap (λ b. stepBy b (has (startsFrom 0 (decode s code)) (x .place)) (roleOf s (getD code (x .place) 0)) code x) (eq-eqb (x .place) (length code) e)
+unfolding step
+step-end s code x e = over-end (startsFrom 0 (decode s code)) s code x e
 
 step-row : (s : Sheet) (code : List ℕ) (x : State) (r : Role) → (x .place ≡ length code → ⊥) → has (startsFrom 0 (decode s code)) (x .place) ≡ true → roleOf s (getD code (x .place) 0) ≡ some r
     → step s code x ≡ execute r code x
-unfolding step stepBy executeIf
-step-row s code x r n h e = ap (λ b. stepBy b (has (startsFrom 0 (decode s code)) (x .place)) (roleOf s (getD code (x .place) 0)) code x) (ne-eqb (x .place) (length code) n)
-    ∙ (ap (λ b. stepBy false b (roleOf s (getD code (x .place) 0)) code x) h ∙ ap (λ y. stepBy false true y code x) e)
+unfolding step
+step-row s code x r n h e = over-start (startsFrom 0 (decode s code)) s code x n r h e
 
 module _ {Λ : ℕ → ℕ} {D : ℕ} (s : Sheet) (rs : List Row) (linked : Linked Λ D rs 0) (T : ℕ → ℕ)
     (leads : (i l : ℕ) → aim-at rs i ≡ some l → (target (bytes-of s rs) (place-at rs (suc i)) ≡ some (T l)) × Stands rs 0 (T l) (Λ l)) where
@@ -196,7 +193,7 @@ module _ {Λ : ℕ → ℕ} {D : ℕ} (s : Sheet) (rs : List Row) (linked : Link
 
     -- after any number of steps, over any outcomes
     pub run-fine : (n : ℕ) (x : State) → Stands rs 0 (x .place) (x .height) → x .height ≤ D → FineRow (run s (bytes-of s rs) n x)
-    unfolding run
+    unfolding run runOver step
     run-fine zero x st le = record { stands = st; whole = λ b e. never (cc); low = le; empty = λ e. never (cc) }
     run-fine (suc n) x st le = stand-fine x (step s (bytes-of s rs) x) (λ y. run s (bytes-of s rs) n y) st le (step-good x st) (λ y t l. run-fine n y t l)
 

@@ -78,7 +78,7 @@ executes ret m p st vs os = enough ret (m .bytecode) p (length st) os (omega ari
 -- A step with values is a step over the outcome that they decide, if it is at a conditional branch, with the other outcomes left; it finishes or
 -- breaks off where the other does. At a zero divisor the machine stops and Runs goes on.
 pub same-step : (m : Image) (x : State) (os : List Bool) → runs.step (m .sheet) (m .bytecode) (inRuns x (decided m x ++ os)) ≡ stepInRuns x os (step m x)
-unfolding runs.step runs.executeIf step executeIf decided inRuns stepInRuns isStart roleAt
+unfolding runs.step runs.stepOver runs.executeIf step executeIf decided inRuns stepInRuns isStart roleAt
 same-step m x os = go (eqb (x .place) (length (m .bytecode))) (isStart m (x .place)) (roleAt m (x .place))
   where
     go : (b c : Bool) (r : Option Role) → let y = inRuns x (outcomeOf r m x ++ os) in
@@ -94,7 +94,7 @@ same-step m x os = go (eqb (x .place) (length (m .bytecode))) (isStart m (x .pla
 -- A run with values that goes on for n steps stands, at the same place and height, where the run over their outcomes does.
 pub same-run : (m : Image) (n : ℕ) (x y : State) → afterSteps m n x ≡ some y → (os : List Bool)
     → runs.run (m .sheet) (m .bytecode) n (inRuns x (decidedIn m n x ++ os)) ≡ record { state = inRuns y os; how = runs.goes (inRuns y os) }
-unfolding afterSteps decidedIn andThen stepInRuns runs.run runs.stand
+unfolding afterSteps decidedIn andThen stepInRuns runs.run runs.runOver runs.step runs.stand
 same-run m zero x y e os = let q : x ≡ y = cc in ap (λ (z : State). record { state = inRuns z os; how = runs.goes (inRuns z os) }) q
 same-run m (suc n) x y e os =
     ap (λ ds. runs.run (m .sheet) (m .bytecode) (suc n) (inRuns x ds)) (append-assoc (decided m x) (andThen (step m x) [] (λ z. decidedIn m n z)) os)
