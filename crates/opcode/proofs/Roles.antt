@@ -14,8 +14,9 @@ use Rattle.opcode.specs.declared.BoolOp.the-variants.{BoolAnd, BoolOr, B
 use Rattle.opcode.specs.declared.CompareOp.the-variants.{Eq, Ne, Lt, Le, Gt, Ge}
 use Rattle.opcode.specs.declared.Role.{Role}
 use Rattle.opcode.specs.declared.Effect.{Effect}
+use Rattle.opcode.specs.declared.Flow.{Flow}
 use Rattle.opcode.specs.declared.Traits.{Traits}
-use Rattle.opcode.specs.View.{roleView, effectView, AreTraits}
+use Rattle.opcode.specs.View.{roleView, effectView, flowView, AreTraits}
 use Rattle.opcode.specs.declared.Role.the-variants.{Dup, Pop, LoadVar, StoreVar, LoadConst, LoadTrue, LoadFalse, Arithmetic, Logic, Neg, BoolNot, Compare, Jmp, JmpIfNot, CmpBr, Ret}
 
 pub compare-number : (c : def.CompareOp) → number (compare c) ≡ 17 + compareIndex c
@@ -64,6 +65,6 @@ shift-down zero e = absurd (e refl)
 shift-down (suc h) e = sub-one (suc h)
 
 -- the traits that code gives, at a role that is known
-pub are-traits : {p q : Role} {r : Traits} {e : Effect} → p ≡ q → (r .size ≡ traits (roleView q) .size) × (r .needs ≡ traits (roleView q) .needs) × (r .effect ≡ e) → effectView e ≡ traits (roleView q) .effect
-    → AreTraits (traits (roleView p)) r
-are-traits k f g = rw k (record { size = f .0; needs = f .1; effect = ap effectView (f .2) ∙ g })
+pub are-traits : {p q : Role} {r : Traits} {e : Effect} {w : Flow} → p ≡ q → (r .size ≡ traits (roleView q) .size) × (r .needs ≡ traits (roleView q) .needs) × (r .effect ≡ e) × (r .flow ≡ w)
+    → effectView e ≡ traits (roleView q) .effect → flowView w ≡ traits (roleView q) .flow → AreTraits (traits (roleView p)) r
+are-traits k f g h = rw k (record { size = f .0; needs = f .1; effect = ap effectView (f .2) ∙ g; flow = ap flowView (f .3) ∙ h })

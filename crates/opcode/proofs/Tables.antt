@@ -1,18 +1,20 @@
 -- A table: what it holds of its sheet, and how the role numbers come into it.
 use mathlib.Core.Path.{_≡_, refl, ap, sym, _∙_}
+use mathlib.Core.Bool.{false}
 use mathlib.Core.Option.{some}
 use mathlib.Core.List.{List, _∷_, _++_, map}
 use Prim.Native.Nat.{ℕ, zero, suc, _+_, _-_, _<_, _≤_}
 use native.Mathlib.Omega.{arith}
 use native.Mathlib.Decide.{ℕ-discrete}
 use borrow.Author.Tests.{eq-eqb, ne-eqb}
-use lib.ListN.{length, getD, take, drop, set, replicate, take-append-drop, length-append, length-drop, length-set, length-map, length-replicate, getD-replicate}
-use lib.Seq.{getD-take, getD-drop, getD-append-add, getD-set-same, getD-set-other, take-at, take-set-le, drop-cons, slice-empty, ext-getD, length-take-le}
-use Rattle.definition.specs.Opcode.{Role, roleCount, CompareOp, number, compareIndex, ret, roles, beside, roleOf, opcode, comparisonByte, Sheet}
+use lib.ListN.{length, getD, take, drop, set, replicate, take-append-drop, length-append, length-drop, length-set, length-map, length-replicate, getD-replicate, drop-of-length-le}
+use lib.Seq.{getD-take, getD-drop, getD-append-add, getD-set-same, getD-set-other, take-at, take-set-le, drop-cons, slice-empty, ext-getD, length-take-le, take-all}
+use Rattle.definition.specs.Opcode.{Role, roleCount, comparisonCount, CompareOp, number, compareIndex, ret, roles, beside, roleOf, opcode, comparisonByte, Sheet}
+use Rattle.definition.specs.Field.{has}
 use Rattle.definition.specs.Rules.{roleNumbered}
 use Rattle.definition.specs.Sheet.{fieldCount, opcodesOf}
 use Rattle.store.specs.Fill.{setFrom}
-use Rattle.field.proofs.Lists.{inside}
+use Rattle.field.proofs.Lists.{inside, drop-take}
 use Rattle.opcode.specs.Table.{byteCount, unlisted, tableSize, sheetIn, IsTable, numberIn, numberOr, tableOf, upFrom}
 use Rattle.opcode.proofs.Roles.{compare-index, seen-at}
 use Rattle.opcode.proofs.Sheets.{number-below, number-role, up-from}
@@ -26,6 +28,17 @@ table-opcode t r = sym (getD-take roleCount (take fieldCount t) (number r) 0 (nu
 pub table-comparison : (t : List ℕ) (c : CompareOp) → getD t (roleCount + compareIndex c) 0 ≡ comparisonByte (sheetIn t) c
 unfolding comparisonByte
 table-comparison t c = sym (getD-drop roleCount (take fieldCount t) (compareIndex c) 0 ∙ getD-take fieldCount t (roleCount + compareIndex c) 0 (omega (arith, compare-index c)))
+
+-- the part of a table that holds the comparison bytes: none, cut off, whole
+pub no-comparisons : (t : List ℕ) (b : ℕ) → length t < roleCount → false ≡ has (sheetIn t .comparisons) b
+unfolding has
+no-comparisons t b h = sym (ap (λ xs. has xs b) (ap (λ xs. drop roleCount xs) (take-all fieldCount t (omega arith)) ∙ drop-of-length-le t {i = roleCount} (omega arith)))
+
+pub some-comparisons : (t : List ℕ) → length t < fieldCount → take (length t - roleCount) (drop roleCount t) ≡ sheetIn t .comparisons
+some-comparisons t h = sym (drop-take roleCount (length t) t) ∙ ap (λ xs. drop roleCount xs) (take-all (length t) t (omega arith) ∙ sym (take-all fieldCount t (omega arith)))
+
+pub all-comparisons : (t : List ℕ) → take comparisonCount (drop roleCount t) ≡ sheetIn t .comparisons
+all-comparisons t = sym (drop-take roleCount fieldCount t)
 
 -- the role numbers of a sheet
 abbrev pub listed : Sheet → List ℕ

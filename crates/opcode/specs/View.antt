@@ -17,6 +17,8 @@ use Rattle.opcode.specs.declared.Role.{Role}
 use Rattle.opcode.specs.declared.Role.the-variants.{Dup, Pop, LoadVar, StoreVar, LoadConst, LoadTrue, LoadFalse, Arithmetic, Logic, Neg, BoolNot, Compare, Jmp, JmpIfNot, CmpBr, Ret}
 use Rattle.opcode.specs.declared.Effect.{Effect}
 use Rattle.opcode.specs.declared.Effect.the-variants.{Up, Down, Same}
+use Rattle.opcode.specs.declared.Flow.{Flow}
+use Rattle.opcode.specs.declared.Flow.the-variants.{Onward, Away, Either, Stop}
 use Rattle.opcode.specs.declared.Traits.{Traits}
 
 abbrev pub arithmeticView : ArithmeticOp → def.ArithmeticOp
@@ -74,8 +76,15 @@ effectView Up = def.up
 effectView Down = def.down
 effectView Same = def.same
 
--- what code gives of a role's traits: all but its flow
+abbrev pub flowView : Flow → def.Flow
+flowView Onward = def.onward
+flowView Away = def.away
+flowView Either = def.either
+flowView Stop = def.stop
+
+-- what code gives of a role's traits
 pub record AreTraits (t : def.Traits) (r : Traits) : Type 0 where
   pub size : r .size ≡ t .size
   pub needs : r .needs ≡ t .needs
   pub effect : effectView (r .effect) ≡ t .effect
+  pub flow : flowView (r .flow) ≡ t .flow

@@ -105,11 +105,20 @@ pub enum Effect {
     Same,
 }
 
-// What the sheet's table says of a role: bytes, values that must be on the stack, height change.
+// Where a run goes on: behind the instruction, at its target, at either by the outcome, or nowhere.
+pub enum Flow {
+    Onward,
+    Away,
+    Either,
+    Stop,
+}
+
+// What the sheet's table says of a role: bytes, values that must be on the stack, height change, flow.
 pub struct Traits {
     pub size: u8,
     pub needs: u8,
     pub effect: Effect,
+    pub flow: Flow,
 }
 
 impl Effect {
@@ -256,33 +265,34 @@ impl Role {
         ensures { λ r. ⌜ AreTraits (traits (roleView self)) r ⌝ }
     {
         match self {
-            Role::Dup => traits_of(1, 1, Effect::Up),
-            Role::Pop => traits_of(1, 1, Effect::Down),
-            Role::LoadVar => traits_of(3, 0, Effect::Up),
-            Role::StoreVar => traits_of(3, 1, Effect::Down),
-            Role::LoadConst => traits_of(3, 0, Effect::Up),
-            Role::LoadTrue => traits_of(1, 0, Effect::Up),
-            Role::LoadFalse => traits_of(1, 0, Effect::Up),
-            Role::Arithmetic(_) => traits_of(1, 2, Effect::Down),
-            Role::Logic(_) => traits_of(1, 2, Effect::Down),
-            Role::Neg => traits_of(1, 1, Effect::Same),
-            Role::BoolNot => traits_of(1, 1, Effect::Same),
-            Role::Compare(_) => traits_of(1, 2, Effect::Down),
-            Role::Jmp => traits_of(3, 0, Effect::Same),
-            Role::JmpIfNot => traits_of(3, 1, Effect::Down),
-            Role::CmpBr => traits_of(8, 0, Effect::Same),
-            Role::Ret => traits_of(1, 0, Effect::Same),
+            Role::Dup => traits_of(1, 1, Effect::Up, Flow::Onward),
+            Role::Pop => traits_of(1, 1, Effect::Down, Flow::Onward),
+            Role::LoadVar => traits_of(3, 0, Effect::Up, Flow::Onward),
+            Role::StoreVar => traits_of(3, 1, Effect::Down, Flow::Onward),
+            Role::LoadConst => traits_of(3, 0, Effect::Up, Flow::Onward),
+            Role::LoadTrue => traits_of(1, 0, Effect::Up, Flow::Onward),
+            Role::LoadFalse => traits_of(1, 0, Effect::Up, Flow::Onward),
+            Role::Arithmetic(_) => traits_of(1, 2, Effect::Down, Flow::Onward),
+            Role::Logic(_) => traits_of(1, 2, Effect::Down, Flow::Onward),
+            Role::Neg => traits_of(1, 1, Effect::Same, Flow::Onward),
+            Role::BoolNot => traits_of(1, 1, Effect::Same, Flow::Onward),
+            Role::Compare(_) => traits_of(1, 2, Effect::Down, Flow::Onward),
+            Role::Jmp => traits_of(3, 0, Effect::Same, Flow::Away),
+            Role::JmpIfNot => traits_of(3, 1, Effect::Down, Flow::Either),
+            Role::CmpBr => traits_of(8, 0, Effect::Same, Flow::Either),
+            Role::Ret => traits_of(1, 0, Effect::Same, Flow::Stop),
         }
     }
 }
 
-fn traits_of(size: u8, needs: u8, effect: Effect) -> Traits
-    ensures { λ r. ⌜ (r .size ≡ size) × (r .needs ≡ needs) × (r .effect ≡ effect) ⌝ }
+fn traits_of(size: u8, needs: u8, effect: Effect, flow: Flow) -> Traits
+    ensures { λ r. ⌜ (r .size ≡ size) × (r .needs ≡ needs) × (r .effect ≡ effect) × (r .flow ≡ flow) ⌝ }
 {
     Traits {
         size: size,
         needs: needs,
         effect: effect,
+        flow: flow,
     }
 }
 

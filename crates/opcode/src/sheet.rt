@@ -78,6 +78,20 @@ fn contains(bytes: &[u8], b: u8) -> bool
     false
 }
 
+// Is the byte one of the comparison bytes, as far as the table goes?
+pub fn is_comparison(sheet: &[u8], b: u8) -> bool
+    ensures { λ r. ⌜ r ≡ has (sheetIn (now (sheet .entry)) .comparisons) b ⌝ }
+{
+    let size = sheet.len();
+    if size < ROLE_COUNT {
+        return false;
+    }
+    if size < FIELD_COUNT {
+        return contains(&sheet[ROLE_COUNT..size], b);
+    }
+    contains(&sheet[ROLE_COUNT..FIELD_COUNT], b)
+}
+
 // The first field of a field's group: the opcodes or the comparison bytes.
 fn group_start(i: usize) -> usize
     ensures { λ r. ⌜ r ≡ groupStart i ⌝ }
