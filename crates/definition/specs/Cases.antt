@@ -1,5 +1,5 @@
--- Document 01's cases a to k, from the text of the three files on, as entries of one list that is computed; what the listing prints for its example; and
--- what small programs mean, from their text on.
+-- Document 01's cases a to k, from the text of the three files on, as entries of one list that is computed; what the listing prints for its example;
+-- what small programs mean, from their text on; and where small images start and stand.
 use Prim.Native.Nat.{ℕ, _-_, _^_}
 use Prim.Native.String.{String}
 use Prim.Native.String.{[] as []ˢ, _∷_ as _∷ˢ_}
@@ -7,13 +7,14 @@ use Prim.Native.Char.{code}
 use mathlib.Core.Path.{_≡_, refl}
 use mathlib.Core.List.{List, [], _∷_, _++_}
 use mathlib.Core.Bool.{Bool, true, false, _&&_}
+use mathlib.Core.Option.{Option, some, none}
 use lib.Dec.{eqb}
 use Rattle.definition.specs.Limits.{width}
 use Rattle.definition.specs.Res.{Res, ok, refuse, open-Res}
 use Rattle.definition.specs.Field.{open-Field}
-use Rattle.definition.specs.Opcode.{open-Opcode}
+use Rattle.definition.specs.Opcode.{Sheet, open-Opcode}
 use Rattle.definition.specs.Iec.{Values, open-Iec}
-use Rattle.definition.specs.Sheet.{open-Sheet}
+use Rattle.definition.specs.Sheet.{readSheet, open-Sheet}
 use Rattle.definition.specs.Tree.{Program, open-Tree}
 use Rattle.definition.specs.Meaning.{Answer, ends, exits, continues, returns, stops, spent, runBlock, open-Meaning}
 use Rattle.definition.specs.Rules.{open-Rules}
@@ -28,16 +29,18 @@ use Rattle.definition.specs.Optimize.{open-Optimize}
 use Rattle.definition.specs.Lent.{entryNumbers, open-Lent}
 use Rattle.definition.specs.Compile.{FinalizedFunction, compileFiles, open-Compile}
 use Rattle.definition.specs.Alone.{open-Alone}
-use Rattle.definition.specs.Runs.{open-Runs}
+use Rattle.definition.specs.Runs.{offCode, emptyStack, Step, goes, finishes, waits, breaks, Stand, open-Runs}
 use Rattle.definition.specs.Machine.{open-Machine}
 use Rattle.definition.specs.For.{open-For}
+use Rattle.definition.specs.Check as check
+use Rattle.definition.specs.Check.{open-Check}
 use Rattle.definition.specs.Count.{open-Count}
 use Rattle.definition.specs.Listing.{text, listed, open-Listing}
 use Rattle.definition.specs.Passes.{open-Passes}
 
 -- `unfolding open-Definition` names every definition of the crate
 unfoldable pub open-Definition : Unit {0}
-unfolding open-Res open-Field open-Opcode open-Iec open-Sheet open-Rules open-Tree open-Meaning open-Program open-Emit open-Walk open-CompileExpr open-Expr open-Stmt open-Rewrite open-Optimize open-Lent open-Compile open-Alone open-Runs open-Machine open-For open-Count open-Listing open-Passes
+unfolding open-Res open-Field open-Opcode open-Iec open-Sheet open-Rules open-Tree open-Meaning open-Program open-Emit open-Walk open-CompileExpr open-Expr open-Stmt open-Rewrite open-Optimize open-Lent open-Compile open-Alone open-Runs open-Machine open-For open-Check open-Count open-Listing open-Passes
 open-Definition = tt
 
 unfoldable pub bytes : String → List ℕ
@@ -244,3 +247,62 @@ allMeant (m ∷ ms) = isMeant m (readProgram (bytes (m .program))) && allMeant m
 pub meanings-right : allMeant meanings ≡ true
 unfolding open-Definition bytes same minus shown meanings firstly isMeant allMeant
 meanings-right = refl
+
+-- ---- where images start and stand (document 02, L11)
+
+-- code; its starts; outcomes and steps; and how the run then stands (0 goes on, 1 finishes, 2 waits, 3 off the code, 4 at an empty stack), its place and height
+pub record Stood : Type 0 where
+  pub code : List ℕ
+  pub starts : List ℕ
+  pub outcomes : List Bool
+  pub steps : ℕ
+  pub stands : List ℕ
+
+unfoldable pub howNumber : Step → ℕ
+howNumber (goes y) = 0
+howNumber finishes = 1
+howNumber waits = 2
+howNumber (breaks offCode) = 3
+howNumber (breaks emptyStack) = 4
+
+unfoldable pub images : List Stood
+images =
+    record { code = []; starts = []; outcomes = []; steps = 1; stands = 1 ∷ 0 ∷ 0 ∷ [] }
+    -- an unlisted byte behind RET, and one that a JMP passes over
+    ∷ record { code = 0x1B ∷ 0xFF ∷ []; starts = 0 ∷ []; outcomes = []; steps = 1; stands = 1 ∷ 0 ∷ 0 ∷ [] }
+    ∷ record { code = 0x18 ∷ 0x01 ∷ 0x00 ∷ 0xFF ∷ []; starts = 0 ∷ []; outcomes = []; steps = 2; stands = 1 ∷ 4 ∷ 0 ∷ [] }
+    -- a POP with nothing to pop
+    ∷ record { code = 0x02 ∷ 0xFF ∷ []; starts = 0 ∷ []; outcomes = []; steps = 1; stands = 4 ∷ 0 ∷ 0 ∷ [] }
+    -- RET at height 1
+    ∷ record { code = 0x03 ∷ 0x00 ∷ 0x00 ∷ 0x1B ∷ []; starts = 0 ∷ 3 ∷ []; outcomes = []; steps = 2; stands = 1 ∷ 3 ∷ 1 ∷ [] }
+    -- an unlisted comparison byte, and the last listed one
+    ∷ record { code = 0x1A ∷ 0x07 ∷ 0x00 ∷ 0x00 ∷ 0x00 ∷ 0x00 ∷ 0x00 ∷ 0x00 ∷ []; starts = []; outcomes = []; steps = 1; stands = 3 ∷ 0 ∷ 0 ∷ [] }
+    ∷ record { code = 0x1A ∷ 0x06 ∷ 0x00 ∷ 0x00 ∷ 0x00 ∷ 0x00 ∷ 0x00 ∷ 0x00 ∷ []; starts = 0 ∷ []; outcomes = []; steps = 1; stands = 2 ∷ 0 ∷ 0 ∷ [] }
+    ∷ record { code = 0x1A ∷ 0x06 ∷ 0x00 ∷ 0x00 ∷ 0x00 ∷ 0x00 ∷ 0x00 ∷ 0x00 ∷ []; starts = 0 ∷ []; outcomes = true ∷ []; steps = 2; stands = 1 ∷ 8 ∷ 0 ∷ [] }
+    -- a height of 1, and then 0 at the end
+    ∷ record { code = 0x06 ∷ 0x02 ∷ []; starts = 0 ∷ 1 ∷ []; outcomes = []; steps = 1; stands = 0 ∷ 1 ∷ 1 ∷ [] }
+    ∷ record { code = 0x06 ∷ 0x02 ∷ []; starts = 0 ∷ 1 ∷ []; outcomes = []; steps = 3; stands = 1 ∷ 2 ∷ 0 ∷ [] }
+    -- a loop that comes back higher
+    ∷ record { code = 0x06 ∷ 0x18 ∷ 0xFC ∷ 0xFF ∷ []; starts = 0 ∷ 1 ∷ []; outcomes = []; steps = 2; stands = 0 ∷ 0 ∷ 1 ∷ [] }
+    -- a target inside an instruction, and one below 0
+    ∷ record { code = 0x18 ∷ 0xFF ∷ 0xFF ∷ []; starts = 0 ∷ []; outcomes = []; steps = 2; stands = 3 ∷ 2 ∷ 0 ∷ [] }
+    ∷ record { code = 0x18 ∷ 0xFC ∷ 0xFF ∷ []; starts = 0 ∷ []; outcomes = []; steps = 2; stands = 3 ∷ 0 ∷ 0 ∷ [] }
+    -- a fault that nobody reaches, and a loop for ever
+    ∷ record { code = 0x1B ∷ 0x02 ∷ []; starts = 0 ∷ 1 ∷ []; outcomes = []; steps = 2; stands = 1 ∷ 0 ∷ 0 ∷ [] }
+    ∷ record { code = 0x18 ∷ 0xFD ∷ 0xFF ∷ []; starts = 0 ∷ []; outcomes = []; steps = 5; stands = 0 ∷ 0 ∷ 0 ∷ [] }
+    ∷ []
+
+unfoldable pub standing : Stand → List ℕ
+standing y = howNumber (y .how) ∷ y .state .place ∷ y .state .height ∷ []
+
+unfoldable pub isStood : Stood → Option Sheet → Bool
+isStood x none = false
+isStood x (some s) = same (check.starts s (x .code)) (x .starts) && same (standing (check.stands s (x .code) (x .outcomes) (x .steps))) (x .stands)
+
+unfoldable pub allStood : List Stood → Bool
+allStood [] = true
+allStood (x ∷ xs) = isStood x (readSheet plainSheet) && allStood xs
+
+pub images-right : allStood images ≡ true
+unfolding open-Definition bytes plainSheet same howNumber images standing isStood allStood
+images-right = refl

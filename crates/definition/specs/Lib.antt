@@ -23,6 +23,7 @@ pub mod Machine
 pub mod For
 pub mod Fused
 pub mod Claims
+pub mod Check
 pub mod Count
 pub mod Listing
 pub mod Passes

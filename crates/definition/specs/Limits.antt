@@ -1,4 +1,4 @@
--- Document 01's limits, field ranges and refusal numbers. Each stands here and nowhere else.
+-- The limits, field ranges and refusal numbers of documents 01 and 02. Each stands here and nowhere else.
 use Prim.Native.Nat.{ℕ, _/_}
 
 -- ---- limits of emission, and of what is lent for its results
@@ -118,3 +118,11 @@ constantsFull = 13
 -- 14: a lent output shorter than its limit
 abbrev pub outputShort : ℕ
 outputShort = 14
+
+-- 20: an image with a run that reaches a place neither start nor end (document 02, L11)
+abbrev pub astray : ℕ
+astray = 20
+
+-- 21: an image with a height fault (document 02, L11)
+abbrev pub badHeight : ℕ
+badHeight = 21

@@ -1,7 +1,7 @@
-// The limits, counts and refusal numbers of document 01 for code, each shown to be the definition's (specs/Limits.antt, Opcode.antt, Rules.antt).
+// The limits, counts and refusal numbers of documents 01 and 02 for code, each shown to be the definition's (specs/Limits.antt, Opcode.antt, Rules.antt).
 ghost use mathlib.Core.Path.{_≡_};
 ghost use Prim.Native.Nat.{_*_};
-ghost use Rattle.definition.specs.Limits.{maxCode, maxBranches, maxLabels, maxProtected, maxLines, maxConstants, entrySize, maxProgram, maxNesting, maxVariables, maxField, maxRules, passCount, width, badText, badForm, badRange, noLoop, tooDeep, wrongLines, badSheet, badCode, badRule, codeFull, labelsFull, linesFull, constantsFull, outputShort};
+ghost use Rattle.definition.specs.Limits.{maxCode, maxBranches, maxLabels, maxProtected, maxLines, maxConstants, entrySize, maxProgram, maxNesting, maxVariables, maxField, maxRules, passCount, width, badText, badForm, badRange, noLoop, tooDeep, wrongLines, badSheet, badCode, badRule, codeFull, labelsFull, linesFull, constantsFull, outputShort, astray, badHeight};
 ghost use Rattle.definition.specs.Opcode.{roleCount, comparisonCount};
 ghost use Rattle.definition.specs.Rules.{nameable, lastTest, lastAction};
 
@@ -72,6 +72,10 @@ pub const LINES_FULL: u8 = 12;
 pub const CONSTANTS_FULL: u8 = 13;
 // Refusal: a lent output shorter than its limit.
 pub const OUTPUT_SHORT: u8 = 14;
+// Refusal: an image with a run that reaches a place neither start nor end.
+pub const ASTRAY: u8 = 20;
+// Refusal: an image with a height fault.
+pub const BAD_HEIGHT: u8 = 21;
 
 pub fn max_code() -> usize
     ensures { λ r. ⌜ r ≡ maxCode ⌝ }
@@ -270,4 +274,16 @@ pub fn output_short() -> u8
     ensures { λ r. ⌜ r ≡ outputShort ⌝ }
 {
     OUTPUT_SHORT
+}
+
+pub fn astray() -> u8
+    ensures { λ r. ⌜ r ≡ astray ⌝ }
+{
+    ASTRAY
+}
+
+pub fn bad_height() -> u8
+    ensures { λ r. ⌜ r ≡ badHeight ⌝ }
+{
+    BAD_HEIGHT
 }
