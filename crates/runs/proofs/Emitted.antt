@@ -12,7 +12,7 @@ use native.Mathlib.Omega.{arith}
 use native.Mathlib.Nat.{le-max-left, le-max-right, not-suc-le-zero}
 use Rattle.definition.specs.Limits.{maxCode}
 use Rattle.definition.specs.Res.{ok}
-use Rattle.definition.specs.Opcode.{Role, Sheet, opcode, dup, loadVar, storeVar, loadConst, jmp, jmpIfNot, cmpBr, down, effect, shift, needs, size, flow, traitsOf, traits}
+use Rattle.definition.specs.Opcode.{Role, CompareOp, Sheet, opcode, comparisonByte, dup, loadVar, storeVar, loadConst, jmp, jmpIfNot, cmpBr, down, effect, shift, needs, size, flow, traitsOf, traits}
 use Rattle.definition.specs.Tree.{Pos, Block}
 use Rattle.definition.specs.Emit.{le16, Emitter, emitterAt, Last, other, loaded, stored, LineEntry, PendingPatch, added, add, folded, foldStore, loadAfter, withConstant, pooledIf, pooled, patched, labelled, settled, branch, act, acts, Call, createLabel, bindLabel, loadVariable, storeVariable, loadConstant, addConstant, emitOpcode, emitJmp, emitJmpIfNot, emitCmpBr, resetStackDepth, setPosition, refused}
 use Rattle.definition.specs.Walk.{next}
@@ -21,7 +21,7 @@ use Rattle.field.proofs.Results.{never, ok-demand, ok-bind, ok-is}
 use Rattle.runs.proofs.Heights.{falls, Stops, Held, Holds, aim, Step, Safe, ends, goes, Jumps, this, later, Bound, here, there}
 use Rattle.runs.proofs.Emission.{program-sound, Nobody}
 use Rattle.definition.specs.Claims.{Either, left, right, branches, Each, empty, _also_}
-use Rattle.runs.proofs.Rows.{Row, next-height, bytes-of, place-at, height-at, first-height, first-snoc, patchHere, patchesBy, Leads, nowhere, to, RowOk, Linked, finished, bytes-snoc, place-end, height-end, place-snoc, height-snoc, patches-snoc, linked-snoc, linked-init, linked-mono}
+use Rattle.runs.proofs.Rows.{Row, next-height, bytes-of, place-at, height-at, first-height, first-snoc, patchHere, patchesBy, Leads, nowhere, to, RowOk, Compared, each-append, each-front, Linked, finished, bytes-snoc, place-end, height-end, place-snoc, height-snoc, patches-snoc, linked-snoc, linked-init, linked-mono}
 
 pub add-ok : (s : Sheet) (r : Role) (o : List ℕ) (l : Last) (e e′ : Emitter) → add s r o l e ≡ ok e′
     → (xs : List LineEntry) × (e′ ≡ added s r o l xs e) × (length (e .bytecode) + suc (length o) ≤ maxCode)
@@ -67,6 +67,7 @@ pub record Inv (Λ : ℕ → ℕ) (s : Sheet) (h : ℕ) (code : List ℕ) (ls : 
   pub patches : ps ≡ patchesBy (λ i. place-at rows i) rows
   pub short : length code ≤ maxCode
   pub first : first-height rows h ≡ 0
+  pub known : Each (λ r. Compared s r) rows
 
 -- of an emitter that tracks the depth d, has these labels, and branches to labels of J only
 pub record Kept (Λ : ℕ → ℕ) (J : ℕ → Type 0) (s : Sheet) (h d : ℕ) (ls : List (Option ℕ)) (e : Emitter) : Type 0 where
@@ -127,10 +128,10 @@ grown-track (store t) = store (record { front = t .front; row = t .row; split = 
 
 module _ {Λ : ℕ → ℕ} {s : Sheet} where
   -- an instruction more, with its patch
-  added-inv : {code : List ℕ} {ls : List (Option ℕ)} {ps : List PendingPatch} {last : Last} {D : ℕ} (r : Row) (h′ : ℕ) (l : Last) → (i : Inv Λ s (r .height) code ls ps last D) → RowOk Λ (max D (next-height r)) r
+  added-inv : {code : List ℕ} {ls : List (Option ℕ)} {ps : List PendingPatch} {last : Last} {D : ℕ} (r : Row) (h′ : ℕ) (l : Last) → (i : Inv Λ s (r .height) code ls ps last D) → RowOk Λ (max D (next-height r)) r → Compared s r
       → (falls (flow (r .role)) ≡ true → h′ ≡ next-height r) → Track Λ ls (i .rows ++ (r ∷ [])) h′ l → length code + suc (length (r .operand)) ≤ maxCode
       → Inv Λ s h′ (code ++ (opcode s (r .role) ∷ r .operand)) ls (ps ++ patchHere (r .aim) (length code) (r .operand)) l (max D (next-height r))
-  added-inv {code = code} {ls = ls} {D = D} r h′ l i k f t m = record {
+  added-inv {code = code} {ls = ls} {D = D} r h′ l i k cmp f t m = record {
     rows = i .rows ++ (r ∷ []);
     bytes = ap (λ c. c ++ (opcode s (r .role) ∷ r .operand)) (i .bytes) ∙ sym (bytes-snoc s (i .rows) r);
     linked = linked-snoc r h′ (linked-mono (le-max-left D (next-height r)) (i .linked)) k f;
@@ -140,6 +141,7 @@ module _ {Λ : ℕ → ℕ} {s : Sheet} where
         ∙ (ap (λ x. patchesBy (λ j. place-at (i .rows) j) (i .rows) ++ patchHere (r .aim) (length x) (r .operand)) (i .bytes) ∙ sym (patches-snoc s (i .rows) r));
     short = omega (arith, length-append code (opcode s (r .role) ∷ r .operand));
     first = first-snoc (i .rows) r h′ ∙ i .first;
+    known = each-append (i .known) (cmp also empty);
   }
 
   -- DUP before the store that is last
@@ -174,6 +176,7 @@ module _ {Λ : ℕ → ℕ} {s : Sheet} where
             ∙ sym (patches-snoc s (t .front ++ (two ∷ [])) one ∙ (append-nil _ ∙ patches-snoc s (t .front) two)))));
         short = omega (arith, ap length new, ap length c, length-append F W, length-append F (opcode s dup ∷ W));
         first = first-snoc (t .front ++ (two ∷ [])) one (suc h) ∙ (first-snoc (t .front) two (suc g) ∙ (sym (first-snoc (t .front) w h) ∙ (ap (λ x. first-height x h) (sym (t .split)) ∙ i .first)));
+        known = each-append (each-append (each-front (t .front) (w ∷ []) (subst (λ x. Each (λ r. Compared s r) x) (t .split) (i .known))) ((λ q. never (cc)) also empty)) ((λ q. never (cc)) also empty);
       }
 
   set-labels : {h : ℕ} {ps : List PendingPatch} {last : Last} {code : List ℕ} {ls : List (Option ℕ)} {D : ℕ} (i : Inv Λ s h code ls ps last D) (l : ℕ) → Λ l ≡ h → Labels Λ (set ls l (some (length code))) (i .rows) h
@@ -203,12 +206,12 @@ module _ {Λ : ℕ → ℕ} {J : ℕ → Type 0} {s : Sheet} where
   -- an instruction that is no branch
   add-kept : {h d : ℕ} {ls : List (Option ℕ)} (r : Role) (o : List ℕ) (l : Last) (e e′ : Emitter) (k : Kept Λ J s h d ls e) → d ≡ h → suc (length o) ≡ size r → needs r ≤ h → branches (flow r) ≡ false → (Stops (flow r) → h ≡ 0)
       → Track Λ (e .labels) (k .inv .rows ++ (rowFor r o h none ∷ [])) (shift (effect r) h) l → add s r o l e ≡ ok e′ → Kept Λ J s (shift (effect r) h) (shift (effect r) h) ls e′
-  unfolding added rowFor next-height patchHere
+  unfolding added rowFor next-height patchHere branches flow traits traitsOf
   add-kept {h = h} {ls = ls} r o l e e′ k dh z n b st t p =
       let q = add-ok s r o l e e′ p in
       let x : e .depth ≡ h = k .depth ∙ dh in
       let i = added-inv (rowFor r o h none) (shift (effect r) h) l (k .inv)
-      (record { sized = z; enough = n; low = le-max-right (e .maxDepth) (shift (effect r) h); leads = subst (λ c. Leads Λ (shift (effect r) h) c none) (sym b) nowhere; stops = st }) (λ c. refl) t (q .2) in
+      (record { sized = z; enough = n; low = le-max-right (e .maxDepth) (shift (effect r) h); leads = subst (λ c. Leads Λ (shift (effect r) h) c none) (sym b) nowhere; stops = st }) (λ c. let z : branches (flow cmpBr) ≡ false = ap (λ x. branches (flow x)) (sym c) ∙ b in never (cc)) (λ c. refl) t (q .2) in
       subst (λ y. Kept Λ J s (shift (effect r) h) (shift (effect r) h) ls y) (sym (q .1)) (record {
         inv = subst (λ y. Inv Λ s (shift (effect r) h) (e .bytecode ++ (opcode s r ∷ o)) (e .labels) y l (max (e .maxDepth) (shift (effect r) (e .depth)))) (append-nil (e .patches))
             (subst (λ y. Inv Λ s (shift (effect r) h) (e .bytecode ++ (opcode s r ∷ o)) (e .labels) (e .patches ++ []) l (max (e .maxDepth) (shift (effect r) y))) (sym x) i);
@@ -218,15 +221,15 @@ module _ {Λ : ℕ → ℕ} {J : ℕ → Type 0} {s : Sheet} where
       })
 
   -- a branch and its patch; behind it h′ may stand
-  branch-kept : {h d : ℕ} {ls : List (Option ℕ)} (r : Role) (o : List ℕ) (delta m h′ : ℕ) (e e′ : Emitter) → Kept Λ J s h d ls e → J m → d ≡ h → suc (length (o ++ le16 0)) ≡ size r → delta ≡ length (o ++ le16 0) - 1 → needs r ≤ h
+  branch-kept : {h d : ℕ} {ls : List (Option ℕ)} (r : Role) (o : List ℕ) (delta m h′ : ℕ) (e e′ : Emitter) → Kept Λ J s h d ls e → (r ≡ cmpBr → (c : CompareOp) × (getD (o ++ le16 0) 0 0 ≡ comparisonByte s c)) → J m → d ≡ h → suc (length (o ++ le16 0)) ≡ size r → delta ≡ length (o ++ le16 0) - 1 → needs r ≤ h
       → branches (flow r) ≡ true → (Stops (flow r) → ⊥) → Λ m ≡ shift (effect r) h → (falls (flow r) ≡ true → h′ ≡ shift (effect r) h) → branch s r o delta m e ≡ ok e′ → Kept Λ J s h′ (shift (effect r) h) ls e′
   unfolding branch added patched rowFor next-height patchHere
-  branch-kept {h = h} {ls = ls} r o delta m h′ e e′ k j dh z dl n b st am f p =
+  branch-kept {h = h} {ls = ls} r o delta m h′ e e′ k cmp j dh z dl n b st am f p =
       let a = ok-bind _ _ e′ p in
       let q = add-ok s r (o ++ le16 0) other e (a .0) (a .1) in
       let x : e .depth ≡ h = k .depth ∙ dh in
       let i = added-inv (rowFor r (o ++ le16 0) h (some m)) h′ other (k .inv)
-      (record { sized = z; enough = n; low = le-max-right (e .maxDepth) (shift (effect r) h); leads = subst (λ c. Leads Λ (shift (effect r) h) c (some m)) (sym b) (to am); stops = λ c. absurd (st c) }) f free (q .2) in
+      (record { sized = z; enough = n; low = le-max-right (e .maxDepth) (shift (effect r) h); leads = subst (λ c. Leads Λ (shift (effect r) h) c (some m)) (sym b) (to am); stops = λ c. absurd (st c) }) cmp f free (q .2) in
       let P : ℕ → PendingPatch = λ y. record { instructionOffset = length (e .bytecode); operandDelta = y; label = m } in
       becomes (ap (λ y. ok (patched (P delta) y)) (sym (q .1)) ∙ a .2) (record {
         inv = subst (λ y. Inv Λ s h′ (e .bytecode ++ (opcode s r ∷ (o ++ le16 0))) (e .labels) (e .patches ++ (P y ∷ [])) other (max (e .maxDepth) (shift (effect r) (e .depth)))) (sym dl)
@@ -283,13 +286,13 @@ module _ {Λ : ℕ → ℕ} {J : ℕ → Type 0} {s : Sheet} where
   act-kept : {h d h′ d′ : ℕ} {ls : List (Option ℕ)} (c : Call) → ((l : ℕ) → aim c ≡ some l → J l) → (e e′ : Emitter) → Kept Λ J s h d ls e → Step Λ c h d h′ d′ → act s c e ≡ ok e′ → Kept Λ J s h′ d′ (relabelled c (length (e .bytecode)) ls) e′
   unfolding act aim Step relabelled needs effect size flow traits traitsOf shift falls branches Stops labelled settled pooled rowFor le16
   act-kept {h = h} {d = d} (createLabel g) j e e′ k t p = becomes (ok-demand _ _ _ _ e′ p .1) (moves-to (t .0) (t .1) (record {
-    inv = record { rows = k .inv .rows; bytes = k .inv .bytes; linked = k .inv .linked; labels = grown (k .inv .labels); track = grown-track (k .inv .track); patches = k .inv .patches; short = k .inv .short; first = k .inv .first };
+    inv = record { rows = k .inv .rows; bytes = k .inv .bytes; linked = k .inv .linked; labels = grown (k .inv .labels); track = grown-track (k .inv .track); patches = k .inv .patches; short = k .inv .short; first = k .inv .first; known = k .inv .known };
     depth = k .depth;
     table = ap (λ x. x ++ (none ∷ [])) (k .table);
     jumps = k .jumps;
   }))
   act-kept (bindLabel l) j e e′ k t p = becomes p (moves-to (t .0) (t .1) (record {
-    inv = record { rows = k .inv .rows; bytes = k .inv .bytes; linked = k .inv .linked; labels = set-labels (k .inv) l (t .2); track = free; patches = k .inv .patches; short = k .inv .short; first = k .inv .first };
+    inv = record { rows = k .inv .rows; bytes = k .inv .bytes; linked = k .inv .linked; labels = set-labels (k .inv) l (t .2); track = free; patches = k .inv .patches; short = k .inv .short; first = k .inv .first; known = k .inv .known };
     depth = k .depth;
     table = ap (λ x. set x l (some (length (e .bytecode)))) (k .table);
     jumps = k .jumps;
@@ -305,13 +308,13 @@ module _ {Λ : ℕ → ℕ} {J : ℕ → Type 0} {s : Sheet} where
   act-kept (emitOpcode r) j e e′ k t p = moves-to (sym (t .1)) (sym (t .1) ∙ sym (t .2))
       (add-kept r [] other e e′ k (sym (t .0)) (sym (t .3 .size)) (t .3 .enough) (t .3 .plain) (t .3 .stops) free p)
   act-kept {h′ = h′} (emitJmp l) j e e′ k t p = moves-to refl (t .0 ∙ t .1)
-      (branch-kept jmp [] 1 l h′ e e′ k (j l refl) (sym (t .0)) refl refl zero-le refl (λ x. x) (t .2) (λ x. never (cc)) p)
+      (branch-kept jmp [] 1 l h′ e e′ k (λ x. never (cc)) (j l refl) (sym (t .0)) refl refl zero-le refl (λ x. x) (t .2) (λ x. never (cc)) p)
   act-kept {h′ = h′} (emitJmpIfNot l) j e e′ k t p = moves-to refl (ap (λ x. shift down x) (t .1) ∙ sym (t .2))
-      (branch-kept jmpIfNot [] 1 l h′ e e′ k (j l refl) (sym (t .0)) refl refl (subst (λ x. 1 ≤ x) (sym (t .1)) (suc-le-suc zero-le)) refl (λ x. x)
+      (branch-kept jmpIfNot [] 1 l h′ e e′ k (λ x. never (cc)) (j l refl) (sym (t .0)) refl refl (subst (λ x. 1 ≤ x) (sym (t .1)) (suc-le-suc zero-le)) refl (λ x. x)
       (t .3 ∙ sym (ap (λ x. shift down x) (t .1))) (λ x. sym (ap (λ y. shift down y) (t .1))) p)
   act-kept {h′ = h′} (emitCmpBr c v m l) j e e′ k t p =
       let b = ok-bind _ _ e′ p in
-      moves-to refl (sym (t .2)) (branch-kept cmpBr _ 6 l h′ (b .0) e′ (pool-kept _ m e (b .0) k (b .1)) (j l refl) (sym (t .0)) refl refl zero-le refl (λ x. x) (t .3) (λ x. t .1) (b .2))
+      moves-to refl (sym (t .2)) (branch-kept cmpBr _ 6 l h′ (b .0) e′ (pool-kept _ m e (b .0) k (b .1)) (λ x. (c, refl)) (j l refl) (sym (t .0)) refl refl zero-le refl (λ x. x) (t .3) (λ x. t .1) (b .2))
   act-kept (resetStackDepth x) j e e′ k t p = becomes p (moves-to (t .0) (sym (t .1)) (record { inv = k .inv; depth = refl; table = k .table; jumps = k .jumps }))
   act-kept (setPosition x) j e e′ k t p = becomes p (moves-to (t .0) (t .1) (record { inv = k .inv; depth = k .depth; table = k .table; jumps = k .jumps }))
   act-kept (refused f) j e e′ k t p = never (cc)
@@ -435,7 +438,7 @@ pub emitted : (s : Sheet) (b : Block) (p : Pos) (e : Emitter) → acts s (emitSt
 unfolding emitterAt bytes-of patchesBy first-height Nobody
 emitted s b p e q =
     acts-kept (emitterAt p) e (λ l j. elim (program-sound b .closed 0 l (program-holds b) j) [ left x ↦ absurd x | right x ↦ x ]) (record {
-      inv = record { rows = []; bytes = refl; linked = finished; labels = record { stands = λ m x y. never (cc) }; track = free; patches = refl; short = zero-le; first = refl };
+      inv = record { rows = []; bytes = refl; linked = finished; labels = record { stands = λ m x y. never (cc) }; track = free; patches = refl; short = zero-le; first = refl; known = empty };
       depth = refl;
       table = refl;
       jumps = empty;

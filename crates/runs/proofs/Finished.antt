@@ -3,7 +3,7 @@
 use Prim.Native.Nat.{ℕ, _+_, _-_, suc, zero, _≤_, _<_, zero-le}
 use mathlib.Core.Path.{_≡_, refl, sym, _∙_, ap, subst}
 use mathlib.Core.List.{List, [], _∷_, _++_, map, map-map, map-append}
-use mathlib.Core.Bool.{Bool, true}
+use mathlib.Core.Bool.{Bool, true, false}
 use mathlib.Core.Option.{Option, some, none}
 use lib.ListN.{length, getD}
 use native.Mathlib.Omega.{arith}
@@ -11,12 +11,18 @@ use native.Mathlib.Nat.{le-trans}
 use Rattle.definition.specs.Limits.{maxCode}
 use Rattle.definition.specs.Res.{ok}
 use Rattle.definition.specs.Field.{has}
-use Rattle.definition.specs.Opcode.{Sheet, opcode}
-use Rattle.definition.specs.Rules.{Rule, matches}
+use Rattle.definition.specs.Opcode.{cmpBr, number, compareIndex, Sheet, opcode, comparisonByte}
+use Rattle.definition.specs.Rules.{Rule, matches, hasRole, roleNumbered}
+use Rattle.definition.specs.Check.{listed}
+use Rattle.opcode.specs.Table.{Good}
+use Rattle.opcode.proofs.Sheets.{role-number}
+use Rattle.opcode.proofs.Roles.{compare-index}
+use lib.Dec.{eqb}
+use borrow.Author.Tests.{eqb-true}
 use Rattle.definition.specs.Tree.{Program}
 use Rattle.definition.specs.Emit.{Emitter, PendingPatch, Call}
 use Rattle.definition.specs.Stmt.{emitStmts}
-use Rattle.definition.specs.Rewrite.{decode, startsFrom, OffsetMap, movedTo}
+use Rattle.definition.specs.Rewrite.{opcodeOf, decode, startsFrom, OffsetMap, movedTo}
 use Rattle.definition.specs.Optimize.{optimize}
 use Rattle.definition.specs.Compile.{boundOr0, boundLabel, jumpTargets, finalizeFunction, emitProgram}
 use Rattle.definition.specs.Runs.{State, target, run, start}
@@ -24,10 +30,10 @@ use Rattle.field.proofs.Results.{never}
 use Rattle.runs.proofs.Heights.{Bound}
 use Rattle.definition.specs.Claims.{Either, left, right, Fine, branchPlaces, inTurn, LeadsTo, Each, empty, _also_, BranchLeads, Branches, OneHeight}
 use Rattle.field.proofs.Lists.{has-first, has-later}
-use Rattle.runs.proofs.Rows.{Row, bytes-of, place-at, aim-at, row-of, row-inside, row-aim, row-bytes, height-first, place-first, place-end, place-within, patchHere, patchesBy, patches-same, each-patch, Linked}
+use Rattle.runs.proofs.Rows.{Row, bytes-of, place-at, aim-at, row-of, row-inside, row-aim, row-bytes, height-first, place-first, place-end, place-within, patchHere, patchesBy, patches-same, each-patch, Compared, Linked}
 use Rattle.runs.proofs.Emitted.{Stands, Placed, Acted, created, emitted}
-use Rattle.runs.proofs.Passes.{Reads, Fine as FineMatcher, decode-rows, looked-moved, Piped, optimize-piped, moved-in-turn}
-use Rattle.runs.proofs.Patched.{aimedRows, aimed-first, aimed-heights, aimed-count, aimed-linked, aimed-places, aimed-patches, aimedRow, aimed-aims, aimed-row, aimed-byte, aimed-long, patchWith, movedPatch, patchJumps-with, patched-rows, row-target, inside-rows}
+use Rattle.runs.proofs.Passes.{Reads, Fine as FineMatcher, insOf, decode-rows, looked-moved, Piped, optimize-piped, moved-in-turn}
+use Rattle.runs.proofs.Patched.{aimedRows, aimed-first, aimed-heights, aimed-count, aimed-linked, aimed-places, aimed-patches, aimedRow, aimed-aims, aimed-row, aimed-byte, aimed-compared, aimed-long, patchWith, movedPatch, patchJumps-with, patched-rows, row-target, inside-rows}
 use Rattle.runs.proofs.Running.{row-at, run-fine, row-fine, row-leads, branch-places, height-of, height-place, start-row}
 
 -- ---- patches and what holds of each
@@ -79,6 +85,28 @@ each-has B ps = go ps (λ x e. e)
     go : (qs : List PendingPatch) → ((x : ℕ) → has (map (λ (p : PendingPatch). B (p .label)) qs) x ≡ true → has targets x ≡ true) → Each (λ (p : PendingPatch). has targets (B (p .label)) ≡ true) qs
     go [] f = empty
     go (q ∷ qs) f = f _ (has-first _ _ _ refl) also go qs (λ x e. f x (has-later _ _ _ e))
+
+-- ---- comparison bytes are listed
+
+has-at : (xs : List ℕ) (i : ℕ) → i < length xs → has xs (getD xs i 0) ≡ true
+has-at [] i lt = absurd (omega arith)
+has-at (x ∷ xs) zero lt = has-first x xs x refl
+has-at (x ∷ xs) (suc i) lt = has-later x xs (getD xs i 0) (has-at xs i (omega arith))
+
+row-listed : (s : Sheet) → Reads s → Good s → (r : Row) → Compared s r → listed s (insOf s r) ≡ true
+unfolding listed insOf opcodeOf hasRole comparisonByte
+row-listed s back g r c = ap {B = Bool} (λ x. elim (hasRole cmpBr x) as (λ b. Bool) [ true ↦ has (s .comparisons) (getD (r .operand) 0 0) | false ↦ true ]) (back (r .role)) ∙ by (eqb (number cmpBr) (number (r .role))) refl
+  where
+    by : (b : Bool) → eqb (number cmpBr) (number (r .role)) ≡ b → elim b [ true ↦ has (s .comparisons) (getD (r .operand) 0 0) | false ↦ true ] ≡ true
+    by true q =
+        let z : r .role ≡ cmpBr = sym (sym (role-number cmpBr) ∙ (ap roleNumbered (eqb-true (number cmpBr) (number (r .role)) q) ∙ role-number (r .role))) in
+        let x = c z in
+        ap (λ y. has (s .comparisons) y) (x .1) ∙ has-at (s .comparisons) (compareIndex (x .0)) (let l = compare-index (x .0) in let k = g .comparisons .long in omega arith)
+    by false q = refl
+
+rows-listed : (s : Sheet) → Reads s → Good s → {rs : List Row} → Each (λ r. Compared s r) rs → Each (λ i. listed s i ≡ true) (map (insOf s) rs)
+rows-listed s back g empty = empty
+rows-listed s back g (_also_ {x = r} c cs) = row-listed s back g r c also rows-listed s back g cs
 
 -- ---- the rows of finished code
 
@@ -303,6 +331,16 @@ module _ (s : Sheet) (back : Reads s) (rules : List Rule) (fine : (pass : ℕ) �
 
   pub program-branches : Branches s rules e (finalizeFunction s rules e .bytecode)
   program-branches = record { emitted = emitted-places; finished = finished-places; leads = each-leads }
+
+  -- ---- comparison bytes
+
+  known-rows : Each (λ r. Compared s r) rows
+  unfolding rows rows₀
+  known-rows = aimed-compared T s 0 (piped .linked) (piped .known (acted .inv .known))
+
+  -- a CMP_BR's comparison byte is listed
+  pub program-listed : Good s → Each (λ i. listed s i ≡ true) (decode s (finalizeFunction s rules e .bytecode))
+  program-listed g = subst (λ is. Each (λ i. listed s i ≡ true) is) (sym (ap (λ c. decode s c) code-rows ∙ decode-rows s back linked)) (rows-listed s back g known-rows)
 
   -- ---- heights by place
 

@@ -17,5 +17,6 @@ pub mod Finished
 pub mod Conditions
 pub mod Tested
 pub mod Decided
+pub mod Passing
 pub mod Safe
 pub mod Values

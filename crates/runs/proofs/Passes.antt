@@ -19,11 +19,11 @@ use Rattle.definition.specs.Rewrite.{Bytes, opcodeOf, decode, boundariesFrom, i
 use Rattle.definition.specs.Optimize.{Pipeline, mapThrough, run, identity, optimize}
 use Rattle.rules.proofs.Pairs.{Pair, rewritten, read-accepted, matched, variable-size}
 use Rattle.field.proofs.Results.{never, some-is}
-use Rattle.definition.specs.Claims.{unmoved, passMap, inTurn}
+use Rattle.definition.specs.Claims.{unmoved, passMap, inTurn, Each}
 use Rattle.field.proofs.Tests.{or-false}
 use Rattle.runs.proofs.Decoding.{joined, Wholes, decode-joined}
-use Rattle.runs.proofs.Rows.{Row, bytes-of, place-at, place-first, row-of, height-at, first-height, patchesBy, Linked, finished, follows}
-use Rattle.runs.proofs.Rewritten.{kept, apply, past, move, Fits, over, alone, pair, Outer, rewrite-linked, height-moved, move-within, patches-moved, branch-kept}
+use Rattle.runs.proofs.Rows.{Row, bytes-of, place-at, place-first, row-of, height-at, first-height, patchesBy, Compared, Linked, finished, follows}
+use Rattle.runs.proofs.Rewritten.{kept, apply, past, move, Fits, over, alone, pair, Outer, rewrite-linked, height-moved, move-within, patches-moved, branch-kept, apply-compared}
 
 unfoldable pub insOf : Sheet → Row → Bytes
 insOf s r = opcode s (r .role) ∷ r .operand
@@ -252,6 +252,7 @@ pub record Piped (Λ : ℕ → ℕ) (D : ℕ) (s : Sheet) (rows₀ : List Row) (
   pub heights : (i : ℕ) → i ≤ length rows₀ → has protected₀ (place-at rows₀ i) ≡ true → height-at rows 0 (go i) ≡ height-at rows₀ 0 i
   pub branches : (f : ℕ → ℕ) → patchesBy f rows ≡ patchesBy (λ i. f (go i)) rows₀
   pub keeps : (i l : ℕ) (r : Row) → row-of rows₀ i ≡ some r → r .aim ≡ some l → row-of rows (go i) ≡ some r
+  pub known : Each (λ r. Compared s r) rows₀ → Each (λ r. Compared s r) rows
 
 abbrev result : Sheet → Matcher → List ℕ → List Bytes → List ℕ × OffsetMap
 result s m protected is = (output (actions s m protected 0 is) is, offsets (actions s m protected 0 is) is 0 0)
@@ -277,6 +278,7 @@ module _ {Λ : ℕ → ℕ} {D : ℕ} (s : Sheet) (back : Reads s) {rows₀ : Li
         heights = λ i le h. height-moved 0 (f .fits) (x .go i) (f .outer (x .go i) (at-0 _ (x .protects i le h))) (x .linked) ∙ x .heights i le h;
         branches = λ g. patches-moved g (f .fits) (x .linked) ∙ x .branches (λ i. g (move acts i));
         keeps = λ i l r p a. branch-kept (f .fits) (x .linked) (x .go i) l r (x .keeps i l r p a) a;
+        known = λ e. apply-compared s (f .fits) (x .known e);
       })
     where
       is : List Bytes
@@ -314,6 +316,7 @@ module _ {Λ : ℕ → ℕ} {D : ℕ} (s : Sheet) (back : Reads s) {rows₀ : Li
     heights = λ i le h. refl;
     branches = λ f. refl;
     keeps = λ i l r p a. p;
+    known = λ e. e;
   }
 
   -- a pass's own map moves a place further

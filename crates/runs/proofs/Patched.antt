@@ -10,7 +10,7 @@ use lib.Dec.{leb, ltb}
 use borrow.Author.Tests.{ltb-true, ltb-false, leb-false}
 use native.Mathlib.Omega.{arith}
 use Rattle.definition.specs.Limits.{maxCode}
-use Rattle.definition.specs.Opcode.{Sheet, opcode, flow}
+use Rattle.definition.specs.Opcode.{Sheet, opcode, size, traits, traitsOf, flow}
 use Rattle.definition.specs.Emit.{le16, PendingPatch}
 use Rattle.definition.specs.Rewrite.{OffsetMap, movedTo}
 use Rattle.definition.specs.Compile.{boundLabel, displacement, overwrite, patchJump, patchJumps}
@@ -18,7 +18,7 @@ use Rattle.definition.specs.Runs.{target}
 use Rattle.definition.specs.Claims.{branches, Each, empty, _also_}
 use Rattle.field.proofs.Results.{never, some-is}
 use Rattle.runs.proofs.Roles.{branch-size}
-use Rattle.runs.proofs.Rows.{Row, next-height, bytes-of, place-at, place-first, aim-at, row-of, height-at, first-height, patchHere, patchesBy, patches-same, Leads, nowhere, to, RowOk, Linked, finished, follows}
+use Rattle.runs.proofs.Rows.{Row, next-height, bytes-of, place-at, place-first, aim-at, row-of, height-at, first-height, patchHere, patchesBy, patches-same, Leads, nowhere, to, RowOk, Compared, Linked, finished, follows}
 
 -- ---- the displacement, written and read
 
@@ -224,6 +224,18 @@ aimed-byte T next op (some l) o (suc k) lt =
     let w : length (take n o) ≡ n = length-take-le n o (omega arith) in
     List·getD-append (take n o) (le16 (displacement (T l) next)) 0 k (subst (λ x. k < x) (sym w) (omega arith))
     ∙ (sym (List·getD-append (take n o) (drop n o) 0 k (subst (λ x. k < x) (sym w) (omega arith))) ∙ ap (λ x. getD x k 0) (take-append-drop n o))
+
+-- nor does patching
+pub aimed-compared : {Λ : ℕ → ℕ} {D e : ℕ} (T : ℕ → ℕ) (s : Sheet) (at : ℕ) {rs : List Row} → Linked Λ D rs e → Each (λ r. Compared s r) rs → Each (λ r. Compared s r) (aimedRows T at rs)
+unfolding aimedRows aimedRow size traits traitsOf
+aimed-compared T s at finished c = empty
+aimed-compared T s at (follows {r = r} {rs = rs} k f l) (c also cs) = one also aimed-compared T s (at + suc (length (r .operand))) l cs
+  where
+    one : Compared s (aimedRow T (at + suc (length (r .operand))) r)
+    one q =
+        let x = c q in
+        let z : suc (length (r .operand)) ≡ 8 = k .sized ∙ ap size q in
+        (x .0, aimed-byte T (at + suc (length (r .operand))) 0 (r .aim) (r .operand) 1 (omega arith) ∙ x .1)
 
 pub aimed-long : (T : ℕ → ℕ) (next : ℕ) (a : Option ℕ) (o : List ℕ) (k : ℕ) → k < length o - 1 → k < suc (length (aimedOperand T next a o))
 unfolding aimedOperand le16

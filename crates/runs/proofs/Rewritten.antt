@@ -6,14 +6,14 @@ use mathlib.Core.Bool.{true}
 use mathlib.Core.Option.{some, none}
 use lib.ListN.{length}
 use native.Mathlib.Omega.{arith}
-use Rattle.definition.specs.Opcode.{shift, onward, effect, flow}
-use Rattle.definition.specs.Rules.{Action, keep, remove, rewriteOperand, allowed}
+use Rattle.definition.specs.Opcode.{Sheet, cmpBr, shift, onward, effect, flow}
+use Rattle.definition.specs.Rules.{Action, keep, remove, rewriteOperand, allowed, isVariable}
 use Rattle.definition.specs.Emit.{le16}
-use Rattle.definition.specs.Claims.{branches}
+use Rattle.definition.specs.Claims.{branches, Each, empty, _also_}
 use Rattle.rules.proofs.Pairs.{Pair, Keeps, neither, former, latter, both, keeps, rewritten, variable-size}
 use Rattle.field.proofs.Results.{never, some-is}
 use Rattle.runs.proofs.Heights.{falls}
-use Rattle.runs.proofs.Rows.{Row, next-height, row-of, height-at, first-height, height-first, patchHere, patchesBy, leads-nowhere, RowOk, Linked, follows}
+use Rattle.runs.proofs.Rows.{Row, next-height, row-of, height-at, first-height, height-first, patchHere, patchesBy, leads-nowhere, RowOk, Compared, Linked, follows}
 
 -- what an action leaves of a row
 unfoldable pub kept : Action → Row → List Row
@@ -82,6 +82,20 @@ module _ {Λ : ℕ → ℕ} {D : ℕ} where
   rewrite-linked e (pair {a = a} {b = b} {xs = xs} {r = r} {q = q} {rs = rs} ok t) (follows k f (follows j g l)) =
       let i = rewrite-linked e t l in
       link-keeps a b r q (apply xs rs) e (keeps a b (r .role) (q .role) ok) (ok .one) (ok .two) k j (onward-falls r (q ∷ rs) e (ok .first) f) (i .1 ∙ onward-falls q rs e (ok .second) g) (i .0)
+
+-- no pass touches a comparison byte
+kept-compared : (s : Sheet) (a : Action) (r : Row) (rs : List Row) → allowed a (r .role) ≡ true → Compared s r → Each (λ r. Compared s r) rs → Each (λ r. Compared s r) (kept a r ++ rs)
+unfolding kept isVariable
+kept-compared s keep r rs w c e = c also e
+kept-compared s remove r rs w c e = e
+kept-compared s (rewriteOperand m) r rs w c e = (λ (q : r .role ≡ cmpBr). let z : isVariable cmpBr ≡ true = ap isVariable (sym q) ∙ rewritten m (r .role) w .0 in never (cc)) also e
+
+pub apply-compared : (s : Sheet) {xs : List Action} {rs : List Row} → Fits xs rs → Each (λ r. Compared s r) rs → Each (λ r. Compared s r) (apply xs rs)
+unfolding apply kept
+apply-compared s over e = e
+apply-compared s (alone t) (c also e) = c also apply-compared s t e
+apply-compared s (pair {a = a} {b = b} {xs = xs} {r = r} {q = q} {rs = rs} ok t) (c also (d also e)) =
+    kept-compared s a r (kept b q ++ apply xs rs) (ok .one) c (kept-compared s b q (apply xs rs) (ok .two) d (apply-compared s t e))
 
 past-kept : (a : Action) (r : Row) (ys : List Row) (e i : ℕ) → height-at (kept a r ++ ys) e (past a i) ≡ height-at ys e i
 unfolding kept past height-at

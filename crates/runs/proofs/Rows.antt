@@ -8,7 +8,7 @@ use lib.ListN.{length, getD, length-append, List·getD-append}
 use lib.Seq.{getD-append-add}
 use native.Mathlib.Omega.{arith}
 use native.Mathlib.Nat.{le-trans, le-of-suc-le-suc, not-suc-le-zero}
-use Rattle.definition.specs.Opcode.{Role, Sheet, opcode, size, needs, effect, flow, shift}
+use Rattle.definition.specs.Opcode.{Role, cmpBr, CompareOp, Sheet, opcode, comparisonByte, size, needs, effect, flow, shift}
 use Rattle.definition.specs.Emit.{PendingPatch}
 use Rattle.definition.specs.Claims.{branches, Each, empty, _also_}
 use Rattle.field.proofs.Results.{never, some-is}
@@ -129,6 +129,18 @@ pub record RowOk (Λ : ℕ → ℕ) (D : ℕ) (r : Row) : Type 0 where
 pub data Linked (Λ : ℕ → ℕ) (D : ℕ) : List Row → ℕ → Type 0 where
   finished : {e : ℕ} → Linked Λ D [] e
   follows : {r : Row} {rs : List Row} {e : ℕ} → RowOk Λ D r → (falls (flow (r .role)) ≡ true → first-height rs e ≡ next-height r) → Linked Λ D rs e → Linked Λ D (r ∷ rs) e
+
+-- a CMP_BR's comparison byte is that of a comparison
+abbrev pub Compared : Sheet → Row → Type 0
+Compared s r = r .role ≡ cmpBr → (c : CompareOp) × (getD (r .operand) 0 0 ≡ comparisonByte s c)
+
+pub each-append : {A : Type 0} {P : A → Type 0} {xs ys : List A} → Each P xs → Each P ys → Each P (xs ++ ys)
+each-append empty q = q
+each-append (p also ps) q = p also each-append ps q
+
+pub each-front : {A : Type 0} {P : A → Type 0} (xs ys : List A) → Each P (xs ++ ys) → Each P xs
+each-front [] ys e = empty
+each-front (x ∷ xs) ys (p also ps) = p also each-front xs ys ps
 
 -- ---- one more row
 

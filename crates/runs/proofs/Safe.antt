@@ -1,11 +1,12 @@
--- The call: an answer of number 0 holds finished code of which demand 3's claims hold (`compiled-safe`), and each of whose places has one
--- height (`compiled-heights`).
+-- The call: an answer of number 0 holds finished code of which demand 3's claims hold (`compiled-safe`), each of whose places has one
+-- height (`compiled-heights`), and which passes L11's check with its own depth (`compiled-passes`, `compiled-checks`).
 use Prim.Native.Nat.{ℕ, _-_, _≤_}
-use mathlib.Core.Path.{_≡_, sym, _∙_, ap, subst}
+use mathlib.Core.Path.{_≡_, refl, sym, _∙_, ap, subst}
 use mathlib.Core.List.{List}
-use mathlib.Core.Option.{some}
+use mathlib.Core.Option.{some, none}
 use lib.ListN.{length, take}
 use lib.Seq.{take-append-seam}
+use native.Mathlib.Omega.{arith}
 use Rattle.definition.specs.Limits.{maxCode}
 use Rattle.definition.specs.Res.{ok}
 use Rattle.definition.specs.Opcode.{Sheet}
@@ -17,12 +18,14 @@ use Rattle.definition.specs.Emit.{Emitter}
 use Rattle.definition.specs.Lent.{zeros, filled}
 use Rattle.definition.specs.Compile.{FinalizedFunction, finalizeFunction, emitProgram, compileProgram, compileFiles, Room, compileInto, Answer, answer, Compiles}
 use Rattle.definition.specs.Claims.{SafeCode, Safe, OneHeight}
+use Rattle.definition.specs.Check.{Passes, Checks, refusesSheet, refusesLength, answers}
 use Rattle.opcode.proofs.Faults.{good}
 use Rattle.opcode.proofs.Sheets.{role-of-opcode}
-use Rattle.field.proofs.Results.{ok-demand, ok-bind, ok-is, ok-given}
+use Rattle.field.proofs.Results.{never, some-is, ok-demand, ok-bind, ok-is, ok-given}
 use Rattle.runs.proofs.Answers.{call-numbered, finished}
 use Rattle.runs.proofs.Passes.{Reads, Fine as FineMatcher, rules-fine}
-use Rattle.runs.proofs.Finished.{program-runs, program-branches, program-short, program-heights}
+use Rattle.runs.proofs.Finished.{program-runs, program-branches, program-short, program-heights, program-listed}
+use Rattle.runs.proofs.Passing.{passes}
 use Rattle.runs.proofs.Decided.{program-fused}
 
 -- what the call read and emitted, where it gave back f
@@ -101,6 +104,17 @@ module _ {sheet rules program : List ℕ} {f : FinalizedFunction} (made : Compil
   answer-heights room = subst (λ y. OneHeight (made .s) y (f .depth)) (sym (lent (room .code) (f .bytecode)))
       (subst (λ g. OneHeight (made .s) (g .bytecode) (g .depth)) (sym (made .finish)) (program-heights (made .s) back (made .rs) fine (made .p) (made .e) (made .emission)))
 
+  code-passes : Passes (made .s) (f .bytecode) (f .depth)
+  unfolding finalizeFunction
+  code-passes = subst (λ g. Passes (made .s) (g .bytecode) (g .depth)) (sym (made .finish)) (passes (made .s) _ _
+      (program-listed (made .s) back (made .rs) fine (made .p) (made .e) (made .emission) (good sheet (made .s) (made .sheetRead)))
+      (program-runs (made .s) back (made .rs) fine (made .p) (made .e) (made .emission))
+      (program-heights (made .s) back (made .rs) fine (made .p) (made .e) (made .emission)))
+
+  answer-passes : (room : Room) → Passes (made .s) (take (answer room (ok f) .codeLength) (answer room (ok f) .code)) (answer room (ok f) .depth)
+  unfolding answer
+  answer-passes room = subst (λ y. Passes (made .s) y (f .depth)) (sym (lent (room .code) (f .bytecode))) code-passes
+
 -- ---- the call
 
 module _ (room : Room) (sheet rules program : List ℕ) (a : Answer) (k : Compiles room sheet rules program a) (z : a .number ≡ 0) where
@@ -125,3 +139,16 @@ module _ (room : Room) (sheet rules program : List ℕ) (a : Answer) (k : Compil
   -- Each place of it has one height.
   pub compiled-heights : (s : Sheet) × (readSheet sheet ≡ some s) × OneHeight s (take (a .codeLength) (a .code)) (a .depth)
   compiled-heights = (made .s, made .sheetRead, subst (λ x. OneHeight (made .s) (take (x .codeLength) (x .code)) (x .depth)) (sym is-answer) (answer-heights made room))
+
+  -- It passes with its own depth (document 02, L11).
+  pub compiled-passes : (s : Sheet) × (readSheet sheet ≡ some s) × Passes s (take (a .codeLength) (a .code)) (a .depth)
+  compiled-passes = (made .s, made .sheetRead, subst (λ x. Passes (made .s) (take (x .codeLength) (x .code)) (x .depth)) (sym is-answer) (answer-passes made room))
+
+  -- So its check answers 0, and place 0.
+  pub compiled-checks : {n place : ℕ} → Checks sheet (take (a .codeLength) (a .code)) (a .depth) n place → (n ≡ 0) × (place ≡ 0)
+  compiled-checks (refusesSheet e f) = let z : none ≡ some (made .s) = sym e ∙ made .sheetRead in never (cc)
+  compiled-checks (refusesLength e l) = let w = compiled-safe .whole in let f = compiled-safe .fits in absurd (omega arith)
+  compiled-checks (answers {s = s} {n = n} e l x) =
+      let p = compiled-passes in
+      let q : p .0 ≡ s = some-is (sym (p .1) ∙ e) in
+      (x .passes .1 (subst (λ y. Passes y (take (a .codeLength) (a .code)) (a .depth)) q (p .2)), refl)
