@@ -1,9 +1,11 @@
-// The library for the phone, the rig and the log reader (`rt staticlib mezhukan`, for a program in C or Rust to link): the call, and rewriting called alone.
+// The library for the phone, the rig and the log reader (`rt staticlib mezhukan`, for a program in C or Rust to link): the call, rewriting called alone, and the
+// check of an image.
 ghost use mathlib.Core.Path.{_≡_};
-ghost use lib.ListN.{length};
+ghost use lib.ListN.{length, getD};
 ghost use Rattle.definition.specs.Compile.{Compiles};
 ghost use Rattle.definition.specs.Alone.{Rewrites};
 ghost use Rattle.definition.specs.Claims.{Safe, Faithful};
+ghost use Rattle.definition.specs.Check.{Checks};
 ghost use Rattle.compile.specs.Call as call;
 ghost use Rattle.optimize.specs.View as alone;
 ghost use Rattle.mezhukan.specs.Exported.{compiled, rewritten};
@@ -13,6 +15,8 @@ use emit::Constant;
 const COMPILED: usize = 6;
 // Numbers of an answer of rewriting called alone: number, place, bytes, protected offsets, line entries.
 const REWRITTEN: usize = 5;
+// Numbers of an answer of the check of an image: number, place.
+const CHECKED: usize = 2;
 
 // The call. A refusal's number is answered, or 0.
 #[no_mangle]
@@ -75,5 +79,21 @@ pub extern "C" fn mezhukan_rewrite_alone(
         a.protected as u64,
         a.entries as u64,
     ];
+    a.number
+}
+
+// Code of an image from the old configurator, checked against a sheet and its declared depth. A refusal's number is answered, or 0 if it passes.
+#[no_mangle]
+pub extern "C" fn mezhukan_check_image(
+    sheet: &[u8],
+    code: &[u8],
+    depth: u64,
+    answer: &mut [u64; CHECKED],
+) -> u8
+    ensures { λ r. ⌜ Checks (now (sheet .entry)) (now (code .entry)) depth (getD (now (answer .exit)) 0 0) (getD (now (answer .exit)) 1 0) ⌝ }
+    ensures { λ r. ⌜ r ≡ getD (now (answer .exit)) 0 0 ⌝ }
+{
+    let a = image_check::check_image(sheet, code, depth);
+    *answer = [a.number as u64, a.place as u64];
     a.number
 }

@@ -1,0 +1,13 @@
+pub mod Marks
+pub mod Traversal
+pub mod Starts
+pub mod Nodes
+pub mod Meeting
+pub mod Looking
+pub mod Expanding
+pub mod Going
+pub mod Marking
+pub mod Checking
+pub mod One
+pub mod Tells
+pub mod Example

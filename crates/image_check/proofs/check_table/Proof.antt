@@ -1,0 +1,24 @@
+-- Made by `answers` from crates/image_check/answers/check_table.txt: edit that file, not this one.
+use native.Mathlib.Omega.{arith}
+use Prim.Native.Nat.{ℕ}
+use lib.ListN.{length-replicate}
+use Rattle.rewrite.specs.View.{smallSlots, slotCount}
+use Rattle.image_check.proofs.Checking.{cleared}
+use borrow.Author.Needs.{needs}
+use Rattle.image_check.proofs.check_table.Statement.{statement}
+use Rattle.image_check.proofs.check_table.Tie as tie
+
+pub check-table-spec : {M : Type 1} → statement M
+check-table-spec =
+    tie.close
+    (tie.spec
+    (λ c. search needs)  -- slice-aggregate-check-over
+    (λ c. search needs)  -- slice-aggregate-check-over-2
+    (λ c. search needs)  -- slice-aggregate-check-over-3
+    (λ c κs. (c .before .before .before .before .before .before .pre .0, (c .before .before .before .before .before .before .pre .1, (cleared smallSlots (omega (arith, c .before .before .before .if1 .taken)), (cleared smallSlots (omega (arith, c .before .before .before .if1 .taken)), omega (arith, c .before .before .before .if1 .taken, length-replicate {A = ℕ} smallSlots 0))))))  -- check-over-requires
+    (λ c. search needs)  -- slice-aggregate-check-over-4
+    (λ c. search needs)  -- slice-aggregate-check-over-5
+    (λ c. search needs)  -- slice-aggregate-check-over-6
+    (λ c κs. (c .before .before .before .before .before .before .pre .0, (c .before .before .before .before .before .before .pre .1, (cleared slotCount (omega (arith, c .before .before .before .before .before .before .pre .1)), (cleared slotCount (omega (arith, c .before .before .before .before .before .before .pre .1)), omega (arith, c .before .before .before .before .before .before .pre .1, length-replicate {A = ℕ} slotCount 0))))))  -- check-over-requires-2
+    (λ c. search needs)  -- returns
+    (λ c. search needs))  -- returns-2
