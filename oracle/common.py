@@ -39,9 +39,9 @@ def functions_of(script):
 
 
 @cache
-def made(script):
-    """Runs oracle/assemble or oracle/build; the folder or the program that it prints. Where it fails it has said why."""
-    run = subprocess.run([ROOT / "oracle" / script], stdout=subprocess.PIPE, text=True)
+def made(script, *words):
+    """Runs oracle/assemble, oracle/build or oracle/link; the folder or the program that it prints. Where it fails it has said why."""
+    run = subprocess.run([ROOT / "oracle" / script, *words], stdout=subprocess.PIPE, text=True)
     if run.returncode:
         sys.exit(2)
     return Path(run.stdout.strip())

@@ -4,14 +4,15 @@ use oracle::alone::{self, Unread};
 use oracle::listing::{self, Fault};
 use oracle::reader::{self, Refusal};
 
-use crate::runs;
+use crate::{images, runs};
 
-/// What an input is for: one of our two programs, or the interpreter.
+/// What an input is for: one of our two programs, the interpreter, or the check of images.
 #[derive(Clone, Copy)]
 pub enum Program {
     Listing,
     Passes,
     Meaning,
+    Images,
 }
 
 /// The answer, or what went wrong in the published code.
@@ -25,6 +26,7 @@ pub fn is_from_rust(program: Program, answer: &str) -> bool {
     match program {
         Program::Listing | Program::Meaning => answer != UNPARSED,
         Program::Passes => answer.starts_with("0,"),
+        Program::Images => false,
     }
 }
 
@@ -34,6 +36,7 @@ pub fn answer(program: Program, input: &[u8], reading: bool) -> Answer {
         Program::Listing => listed(input, reading),
         Program::Passes => passed(input),
         Program::Meaning => runs::answer(input, reading),
+        Program::Images => images::answer(input),
     }
 }
 

@@ -4,16 +4,21 @@ mod answer;
 mod compare;
 mod generate;
 mod head;
+mod heights;
+mod image_inputs;
+mod images;
 mod limits;
 mod machine;
 mod meaning;
 #[cfg(feature = "ours")]
 mod ours;
+mod outcomes;
 mod passes;
 mod programs;
 mod random;
 mod runs;
 mod short;
+mod short_images;
 
 use std::hint::black_box;
 use std::io::{self, Read, Write};
@@ -28,13 +33,15 @@ use compare::Compared;
 use generate::Kind;
 
 const USE: &str = "use: oracle [--reader] [--fold-constants] COMMAND
-  listing | passes | meaning           one input, one answer
-  batch listing|passes|meaning         a line ==== ends each input, and each answer
+  listing | passes | meaning | images  one input, one answer
+  batch listing|passes|meaning|images  a line ==== ends each input, and each answer
   generate KIND FROM TO                the inputs of these seeds, as a batch
   answers KIND FROM TO                 their answers, as a batch
   compare KIND FROM TO FOLDER PROGRAM [WORD..]   a program held against the oracle
-  bench listing|passes RUNS            ns for a run of the published code on one input
-KIND: programs, short or passes; or meaning, whose inputs have a line of starting values on top: PROGRAM's listing is run on them
+  compare images|short-images FROM TO FOLDER     our check of images, linked as a library, held against the oracle
+  bench listing|passes|images RUNS     ns for a run on one input: the published code (images: the check by heights), and ours
+KIND: programs, short or passes; or meaning, whose inputs have a line of starting values on top: PROGRAM's listing is run on them;
+  or images or short-images (NOT from the Rust), whose inputs are the lines sheet, depth and code
 --reader: the plain reader's refusals by number and place (NOT from the Rust), instead of `unparsed`
 --fold-constants: constant loads folded, as published";
 
@@ -72,8 +79,13 @@ fn run() -> Result<(), String> {
             let command: Vec<String> = command.iter().map(|word| word.to_string()).collect();
             compare(self::kind(kind)?, seed(from)?, seed(to)?, Path::new(folder), &command)
         }
+        ["compare", kind @ ("images" | "short-images"), from, to, folder] => {
+            compare(self::kind(kind)?, seed(from)?, seed(to)?, Path::new(folder), &[])
+        }
         ["bench", name, runs] => bench(program(name)?, seed(runs)?),
-        ["listing" | "passes" | "meaning"] => write(answer(program(words[0])?, &input()?, reading)?.as_bytes()),
+        ["listing" | "passes" | "meaning" | "images"] => {
+            write(answer(program(words[0])?, &input()?, reading)?.as_bytes())
+        }
         _ => Err(unknown("command", &words.join(" "))),
     }
 }
@@ -87,6 +99,7 @@ fn program(name: &str) -> Result<Program, String> {
         "listing" => Ok(Program::Listing),
         "passes" => Ok(Program::Passes),
         "meaning" => Ok(Program::Meaning),
+        "images" => Ok(Program::Images),
         _ => Err(unknown("program", name)),
     }
 }
@@ -150,6 +163,10 @@ fn answers(kind: Kind, from: u64, to: u64, reading: bool) -> Result<(), String> 
 fn compare(kind: Kind, from: u64, to: u64, folder: &Path, command: &[String]) -> Result<(), String> {
     let Compared { counts, differences } = match kind {
         Kind::Meaning => runs::compare(from, to, folder, command)?,
+        Kind::Images | Kind::ShortImages if command.is_empty() => images::compare(kind, from, to, folder)?,
+        Kind::Images | Kind::ShortImages => {
+            return Err("images are held against our library, not a program".to_string())
+        }
         _ => compare::compare(kind, from, to, folder, command)?,
     };
     write(format!("{}: {counts}, {differences} differences\n", kind.name()).as_bytes())?;
@@ -181,6 +198,15 @@ fn bench(program: Program, runs: u64) -> Result<(), String> {
             format!("compile,{compile}\nread and compile,{whole}\n{}", our_call(&text, runs, compile, whole)?)
         }
         Program::Meaning => return Err(unknown("program to time", "meaning")),
+        Program::Images => {
+            let image = images::Image::of(&text)?;
+            if images::ours(&image)? != images::by_heights(&image) {
+                return Err("our check differs: nothing was timed".to_string());
+            }
+            let plain = time(runs, || drop(black_box(images::by_heights(&image))));
+            let ours = time(runs, || drop(black_box(images::ours(&image))));
+            format!("by heights,{plain}\nours,{ours}\nratio,{}\n", ratio(ours, plain))
+        }
         Program::Passes => {
             let request = oracle::alone::read(&text).map_err(|_| "a bad input cannot be timed")?;
             let rewritten = oracle::alone::rewrite(&request);
@@ -223,7 +249,6 @@ fn our_rewriting(text: &[u8], runs: u64, optimize: u128) -> Result<String, Strin
     Ok(format!("rewrite_alone,{alone}\nratio,{}\n", ratio(alone, optimize)))
 }
 
-#[cfg(feature = "ours")]
 fn ratio(ours: u128, theirs: u128) -> String {
     format!("{:.2}", ours as f64 / theirs.max(1) as f64)
 }

@@ -1,9 +1,10 @@
-//! Our own call and our rewriting called alone, linked as a static library (crates/mezhukan): for the times.
+//! Our own call, our rewriting called alone and our check of images, linked as a static library (crates/mezhukan): the first two for the times.
 
 use oracle::limits::{CODE, CONSTANTS, ENTRIES, LABELS};
 use oracle::reader::split_line;
 
 use crate::answer::fields;
+use crate::images::Image;
 
 extern "C" {
     #[allow(improper_ctypes)]
@@ -29,6 +30,9 @@ extern "C" {
         entries: &mut [u16],
         answer: &mut [u64; 5],
     ) -> u8;
+
+    #[allow(improper_ctypes)]
+    fn mezhukan_check_image(sheet: &[u8], code: &[u8], depth: u64, answer: &mut [u64; 2]) -> u8;
 }
 
 /// The sheet file, the rule file and what follows them, of an input that the oracle's reader accepts.
@@ -118,5 +122,18 @@ impl Rewrite {
         let Rewrite { sheet, rules, code, protected, lines, bytes, offsets, entries, answer } = self;
         // SAFETY: the function has no requirement, and the slices are those of live vectors.
         unsafe { mezhukan_rewrite_alone(sheet, rules, code, protected, lines, bytes, offsets, entries, answer) }
+    }
+}
+
+/// What our check answers for an image; the result must be the answer's number.
+pub fn checked(image: &Image) -> String {
+    let sheet = [image.sheet.as_slice(), b"\n"].concat();
+    let mut answer = [u64::MAX; 2];
+    // SAFETY: the function has no requirement, and the slices are those of live vectors.
+    let result = unsafe { mezhukan_check_image(&sheet, &image.code, image.depth, &mut answer) };
+    let [number, place] = answer;
+    match u64::from(result) == number {
+        true => format!("{number},{place}\n"),
+        false => format!("{number},{place}\nbut the result: {result}\n"),
     }
 }

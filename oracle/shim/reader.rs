@@ -90,7 +90,8 @@ pub fn numbers(line: &[u8], greatest: i64) -> Option<Vec<i64>> {
     line.split(|byte| *byte == b',').map(|field| number(field, false).filter(|value| *value <= greatest)).collect()
 }
 
-fn read_sheet(line: &[u8]) -> Result<Sheet, Refusal> {
+/// The sheet of a line without its LF.
+pub fn read_sheet(line: &[u8]) -> Result<Sheet, Refusal> {
     let fields: Vec<&[u8]> = line.split(|byte| *byte == b',').collect();
     if fields.len() != ROLES + COMPARISONS {
         return Err(Refusal::at(7, 0));
