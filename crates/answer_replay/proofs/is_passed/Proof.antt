@@ -1,11 +1,11 @@
--- Made by `answers` from crates/passes_test/answers/is_answered.txt: edit that file, not this one.
+-- Made by `answers` from crates/answer_replay/answers/is_passed.txt: edit that file, not this one.
 use Rattle.text.proofs.Told.{told-within, told-part}
 use borrow.Author.Needs.{needs}
-use Rattle.passes_test.proofs.is_answered.Statement.{statement}
-use Rattle.passes_test.proofs.is_answered.Tie as tie
+use Rattle.answer_replay.proofs.is_passed.Statement.{statement}
+use Rattle.answer_replay.proofs.is_passed.Tie as tie
 
-pub is-answered-spec : {M : Type 1} → statement M
-is-answered-spec =
+pub is-passed-spec : {M : Type 1} → statement M
+is-passed-spec =
     tie.close
     (tie.spec
     (λ c κs. search needs)  -- answer-requires

@@ -1,11 +1,11 @@
--- Made by `answers` from crates/listing_replay/answers/is_answered.txt: edit that file, not this one.
+-- Made by `answers` from crates/answer_replay/answers/is_listed.txt: edit that file, not this one.
 use Rattle.text.proofs.Told.{told-within, told-part}
 use borrow.Author.Needs.{needs}
-use Rattle.listing_replay.proofs.is_answered.Statement.{statement}
-use Rattle.listing_replay.proofs.is_answered.Tie as tie
+use Rattle.answer_replay.proofs.is_listed.Statement.{statement}
+use Rattle.answer_replay.proofs.is_listed.Tie as tie
 
-pub is-answered-spec : {M : Type 1} → statement M
-is-answered-spec =
+pub is-listed-spec : {M : Type 1} → statement M
+is-listed-spec =
     tie.close
     (tie.spec
     (λ c κs. search needs)  -- answer-requires
