@@ -1,11 +1,11 @@
-/* Mezhukan for C: a dial program turned into branch code, and rewriting called alone. The library is target/staticlib/libmezhukan.a
- * (`rt staticlib mezhukan`, x86-64); what is proved of the two functions stands in crates/mezhukan/src/lib.rt.
+/* Mezhukan for C: a dial program turned into branch code, rewriting called alone, and the check of an image. The library is
+ * target/staticlib/libmezhukan.a (`rt staticlib mezhukan`, x86-64); what is proved of the three functions stands in crates/mezhukan/src/lib.rt.
  *
  * A list is a pointer and a count of elements. Nothing is required of the contents of any list, nor of its length. What C must see to itself:
  * a pointer is not null and is aligned for its elements, even where the count is 0; so many elements stand there; no output overlaps
  * another list. No heap is used and nothing is kept between calls, so threads may call at once. A call takes
- * stack, the more the deeper a program nests (docs/DECISIONS.md has what was measured): give a thread MEZHUKAN_STACK. examples/c/dial.c is a
- * whole program. */
+ * stack, the more the deeper a program nests (docs/DECISIONS.md has what was measured): give a thread MEZHUKAN_STACK. examples/c has
+ * whole programs. */
 #ifndef MEZHUKAN_H
 #define MEZHUKAN_H
 
@@ -52,12 +52,15 @@ extern "C" {
 #define MEZHUKAN_LINES_FULL 12      /* line entries over their limit */
 #define MEZHUKAN_CONSTANTS_FULL 13  /* constants over their limit */
 #define MEZHUKAN_OUTPUT_SHORT 14    /* an output shorter than its limit */
+#define MEZHUKAN_ASTRAY 20          /* check of an image: a run reaches a place that is neither start nor end, heights ignored */
+#define MEZHUKAN_BAD_HEIGHT 21      /* check of an image: an empty stack popped, the depth exceeded, an unempty end, or a start at two heights */
 
 /* What stands where in an answer: first the refusal's number, or 0, and its place, or 0; after a refusal all others are 0. */
 enum {
     MEZHUKAN_NUMBER = 0,
     MEZHUKAN_PLACE = 1,
-    MEZHUKAN_CODE_LENGTH = 2, /* bytes of code given back */
+    MEZHUKAN_CHECKED = 2,     /* of the check: numbers of its answer */
+    MEZHUKAN_CODE_LENGTH = 2, /* of the other two: bytes of code given back */
 
     MEZHUKAN_DEPTH = 3,          /* of the call: no run of the code goes above this height of the stack */
     MEZHUKAN_CONSTANT_COUNT = 4, /* of the call: constants given back */
@@ -90,6 +93,15 @@ uint8_t mezhukan_rewrite_alone(
     uint16_t *offsets, size_t offsets_length,           /* out: the protected offsets as moved, then 0; at least MEZHUKAN_MAX_PROTECTED */
     uint16_t *entries, size_t entries_length,           /* out: the line entries kept, then 0; at least MEZHUKAN_MAX_LINES * MEZHUKAN_ENTRY_SIZE */
     uint64_t answer[MEZHUKAN_REWRITTEN]);               /* out: every element is set */
+
+/* The check of an image: code, made by whatever, against the sheet and its declared depth. Starts are those met by decoding from the first byte
+ * on, up to an unlisted opcode or comparison byte or a cut instruction; what lies behind is no fault if no run gets there. Which variables and
+ * constants the code names is not looked at. The result is the answer's number: 0 if it passes, else the first of 7, 10, 20 and 21 that holds. */
+uint8_t mezhukan_check_image(
+    const uint8_t *sheet, size_t sheet_length, /* the opcode sheet */
+    const uint8_t *code, size_t code_length,   /* the image's code */
+    uint64_t depth,                            /* its declared depth, any number */
+    uint64_t answer[MEZHUKAN_CHECKED]);        /* out: every element is set */
 
 #ifdef __cplusplus
 }

@@ -6,7 +6,8 @@
  * end, start: each list ends, or starts, at a page that faults, and on its other side stand bytes that must stay as they are; so must the inputs.
  * heap: each list is a block of its own and outputs are not initialised, for valgrind and AddressSanitizer. The threads do so too, with stacks of
  * MEZHUKAN_STACK bytes.
- * A request: its kind, each input's count and elements, the counts of the three outputs; 32-bit numbers in this machine's order.
+ * A request: its kind, each input's count and elements, each output's count; 32-bit numbers in this machine's order. The depth of an image is an
+ * input too, of one 64-bit number.
  * An answer: its numbers, and of each output the part in use in hexadecimal, a line each. What lies behind it is seen to be 0.
  * A fault is one line on standard error and exit status 1; 2 where it could not run. */
 #define _DEFAULT_SOURCE
@@ -19,29 +20,30 @@
 
 #include "mezhukan.h"
 
-enum { COMPILE, ALONE, KINDS };
+enum { COMPILE, ALONE, CHECK, KINDS };
 enum where { END, START, HEAP };
-enum { MOST_INPUTS = 5, OUTPUTS = 3, PAGE = 4096, FILL = 0xA5, MOST_THREADS = 64 };
+enum { MOST_INPUTS = 5, MOST_OUTPUTS = 3, PAGE = 4096, FILL = 0xA5, MOST_THREADS = 64 };
 
 /* What the lists of a call are: bytes of an element of each, how many numbers it answers, and which of them count its outputs. */
 static const struct kind {
-    size_t inputs, input_size[MOST_INPUTS], output_size[OUTPUTS], numbers, counts[OUTPUTS];
+    size_t inputs, input_size[MOST_INPUTS], outputs, output_size[MOST_OUTPUTS], numbers, counts[MOST_OUTPUTS];
 } kinds[KINDS] = {
-    {3, {1, 1, 1}, {1, 4, 2}, MEZHUKAN_COMPILED, {MEZHUKAN_CODE_LENGTH, MEZHUKAN_CONSTANT_COUNT, MEZHUKAN_ENTRY_COUNT}},
-    {5, {1, 1, 1, 2, 2}, {1, 2, 2}, MEZHUKAN_REWRITTEN, {MEZHUKAN_CODE_LENGTH, MEZHUKAN_ALONE_PROTECTED_COUNT, MEZHUKAN_ALONE_ENTRY_COUNT}},
+    {3, {1, 1, 1}, 3, {1, 4, 2}, MEZHUKAN_COMPILED, {MEZHUKAN_CODE_LENGTH, MEZHUKAN_CONSTANT_COUNT, MEZHUKAN_ENTRY_COUNT}},
+    {5, {1, 1, 1, 2, 2}, 3, {1, 2, 2}, MEZHUKAN_REWRITTEN, {MEZHUKAN_CODE_LENGTH, MEZHUKAN_ALONE_PROTECTED_COUNT, MEZHUKAN_ALONE_ENTRY_COUNT}},
+    {3, {1, 1, sizeof(uint64_t)}, 0, {0}, MEZHUKAN_CHECKED, {0}},
 };
 
 struct request {
     size_t at;
     const struct kind *kind;
     const uint8_t *input[MOST_INPUTS];
-    size_t count[MOST_INPUTS], room[OUTPUTS];
+    size_t count[MOST_INPUTS], room[MOST_OUTPUTS];
 };
 
 struct result {
     uint64_t numbers[MEZHUKAN_COMPILED];
-    uint8_t *output[OUTPUTS];
-    size_t used[OUTPUTS]; /* bytes */
+    uint8_t *output[MOST_OUTPUTS];
+    size_t used[MOST_OUTPUTS]; /* bytes */
 };
 
 /* A list, and the pages or the block in which it stands. */
@@ -95,6 +97,9 @@ static uint8_t call(const struct request *r, struct lent *in, struct lent *out, 
         return mezhukan_compile(in[0].at, c[0], in[1].at, c[1], in[2].at, c[2], out[0].at, room[0], (uint32_t *)(void *)out[1].at, room[1],
                                 (uint16_t *)(void *)out[2].at, room[2], n);
     }
+    if (r->kind == &kinds[CHECK]) {
+        return mezhukan_check_image(in[0].at, c[0], in[1].at, c[1], *(uint64_t *)(void *)in[2].at, n);
+    }
     return mezhukan_rewrite_alone(in[0].at, c[0], in[1].at, c[1], in[2].at, c[2], (uint16_t *)(void *)in[3].at, c[3],
                                   (uint16_t *)(void *)in[4].at, c[4], out[0].at, room[0], (uint16_t *)(void *)out[1].at, room[1],
                                   (uint16_t *)(void *)out[2].at, room[2], n);
@@ -115,13 +120,13 @@ static void take(const struct request *r, size_t i, struct lent out, struct resu
 
 static struct result run(const struct request *r, enum where where) {
     const struct kind *k = r->kind;
-    struct lent in[MOST_INPUTS], out[OUTPUTS], numbers = lend(where, k->numbers * sizeof(uint64_t));
+    struct lent in[MOST_INPUTS], out[MOST_OUTPUTS], numbers = lend(where, k->numbers * sizeof(uint64_t));
     struct result a = {{0}, {NULL}, {0}};
     for (size_t i = 0; i < k->inputs; i++) {
         in[i] = lend(where, r->count[i] * k->input_size[i]);
         memcpy(in[i].at, r->input[i], in[i].bytes);
     }
-    for (size_t i = 0; i < OUTPUTS; i++) out[i] = lend(where, r->room[i] * k->output_size[i]);
+    for (size_t i = 0; i < k->outputs; i++) out[i] = lend(where, r->room[i] * k->output_size[i]);
     uint8_t number = call(r, in, out, (uint64_t *)(void *)numbers.at);
     memcpy(a.numbers, numbers.at, numbers.bytes);
     if (number != a.numbers[MEZHUKAN_NUMBER]) stop(1, "result and first number differ", r->at);
@@ -129,12 +134,12 @@ static struct result run(const struct request *r, enum where where) {
         if (number && a.numbers[i]) stop(1, "a number of a refusal is not 0", r->at);
     }
     if (!number && a.numbers[MEZHUKAN_PLACE]) stop(1, "a place without a refusal", r->at);
-    for (size_t i = 0; i < OUTPUTS; i++) take(r, i, out[i], &a);
+    for (size_t i = 0; i < k->outputs; i++) take(r, i, out[i], &a);
     for (size_t i = 0; i < k->inputs; i++) {
         if (memcmp(in[i].at, r->input[i], in[i].bytes)) stop(1, "an input was written to", r->at);
         if (!release(in[i])) stop(1, "written beside an input", r->at);
     }
-    for (size_t i = 0; i < OUTPUTS; i++) {
+    for (size_t i = 0; i < k->outputs; i++) {
         if (!release(out[i])) stop(1, "written beside an output", r->at);
     }
     if (!release(numbers)) stop(1, "written beside the answer", r->at);
@@ -142,21 +147,21 @@ static struct result run(const struct request *r, enum where where) {
 }
 
 static void forget(struct result *a) {
-    for (size_t i = 0; i < OUTPUTS; i++) free(a->output[i]);
+    for (size_t i = 0; i < MOST_OUTPUTS; i++) free(a->output[i]);
 }
 
 static void print(const struct request *r, const struct result *a) {
     for (size_t i = 0; i < r->kind->numbers; i++) printf(i ? ",%lu" : "%lu", (unsigned long)a->numbers[i]);
-    for (size_t i = 0; i < OUTPUTS; i++) {
+    for (size_t i = 0; i < r->kind->outputs; i++) {
         printf("\n");
         for (size_t b = 0; b < a->used[i]; b++) printf("%02x", a->output[i][b]);
     }
     printf("\n");
 }
 
-static bool same(const struct result *a, const struct result *b) {
+static bool same(const struct request *r, const struct result *a, const struct result *b) {
     bool equal = !memcmp(a->numbers, b->numbers, sizeof a->numbers);
-    for (size_t i = 0; i < OUTPUTS; i++) equal = equal && a->used[i] == b->used[i] && !memcmp(a->output[i], b->output[i], a->used[i]);
+    for (size_t i = 0; i < r->kind->outputs; i++) equal = equal && a->used[i] == b->used[i] && !memcmp(a->output[i], b->output[i], a->used[i]);
     return equal;
 }
 
@@ -172,7 +177,7 @@ static void *work(void *given) {
     for (size_t n = 0; n < w->rounds * request_count; n++) {
         size_t at = (w->first + n) % request_count;
         struct result a = run(&requests[at], HEAP);
-        if (!same(&a, &answers[at])) stop(1, "another answer beside other threads", at);
+        if (!same(&requests[at], &a, &answers[at])) stop(1, "another answer beside other threads", at);
         forget(&a);
     }
     return NULL;
@@ -224,7 +229,7 @@ static struct request next(const uint8_t **at, const uint8_t *end) {
         if ((size_t)(end - *at) < r.count[i] * r.kind->input_size[i]) stop(2, "the file is cut", request_count);
         *at += r.count[i] * r.kind->input_size[i];
     }
-    for (size_t i = 0; i < OUTPUTS; i++) r.room[i] = number(at, end);
+    for (size_t i = 0; i < r.kind->outputs; i++) r.room[i] = number(at, end);
     return r;
 }
 

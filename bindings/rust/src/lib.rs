@@ -1,6 +1,6 @@
-//! Mezhukan for Rust: a dial program turned into branch code, and rewriting called alone.
+//! Mezhukan for Rust: a dial program turned into branch code, rewriting called alone, and the check of an image.
 //!
-//! What is proved of the two functions behind this crate stands in `crates/mezhukan/src/lib.rt` of the repository: for every content of the
+//! What is proved of the three functions behind this crate stands in `crates/mezhukan/src/lib.rt` of the repository: for every content of the
 //! inputs, and outputs of every length, the answer is the definition's. So nothing is required of a caller, and nothing here panics on
 //! account of an input. This crate itself is not proved: it hands slices over and takes the answer apart.
 //!
@@ -25,8 +25,8 @@
 //!
 //! A call keeps nothing between calls, so threads may call at once. It takes its room from the stack, the more the deeper a program nests;
 //! `docs/DECISIONS.md` of the repository has what was measured. Give a thread [`STACK`] bytes; Rust's own threads have more. The library uses
-//! no heap: [`compile`] and [`rewrite_alone`] make vectors for the outputs, [`compile_into`] and [`rewrite_alone_into`] do not, and are all
-//! that is left without the feature `alloc`.
+//! no heap: [`compile`] and [`rewrite_alone`] make vectors for the outputs, [`compile_into`], [`rewrite_alone_into`] and [`check_image`] do not,
+//! and are all that is left without the feature `alloc`.
 
 #![no_std]
 #![deny(missing_docs)]
@@ -80,6 +80,15 @@ extern "C" {
         entries: *mut u16,
         entries_length: usize,
         answer: *mut [u64; REWRITTEN],
+    ) -> u8;
+
+    fn mezhukan_check_image(
+        sheet: *const u8,
+        sheet_length: usize,
+        code: *const u8,
+        code_length: usize,
+        depth: u64,
+        answer: *mut [u64; CHECKED],
     ) -> u8;
 }
 
@@ -212,4 +221,28 @@ pub fn rewrite_alone_into<'a>(
         protected: &offsets[..moved as usize],
         lines: &entries[..kept as usize],
     })
+}
+
+/// Checks an image, code made by whatever, against the sheet and its declared depth; allocates nothing.
+///
+/// It passes exactly if no run, over all branch outcomes, leaves the instruction starts and the end, pops an empty stack, exceeds the depth or
+/// ends unempty, and no start is reached at two heights; else the refusal is the first of 7, 10, 20 and 21 that holds. Which variables and
+/// constants the code names is not looked at. What [`compile`] gives back passes with its own depth.
+///
+/// ```
+/// # let sheet = b"1,2,3,4,5,6,7,8,9,10,11,12,13,14,15,16,17,18,19,20,21,22,23,24,25,26,27,1,2,3,4,5,6\n";
+/// let push_pop = [6, 2];
+/// mezhukan::check_image(sheet, &push_pop, 1)?;
+///
+/// let refusal = mezhukan::check_image(sheet, &push_pop, 0).unwrap_err();
+/// assert_eq!(refusal.reason(), Some(mezhukan::Reason::BadHeight));
+/// # Ok::<(), mezhukan::Refusal>(())
+/// ```
+pub fn check_image(sheet: &[u8], code: &[u8], depth: u64) -> Result<(), Refusal> {
+    let mut answer = [0; CHECKED];
+    // SAFETY: as in `compile_into`.
+    let number =
+        unsafe { mezhukan_check_image(sheet.as_ptr(), sheet.len(), code.as_ptr(), code.len(), depth, &mut answer) };
+    let [_, place] = answer;
+    refusal::none(number, place)
 }

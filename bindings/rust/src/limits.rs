@@ -32,6 +32,7 @@ pub const WIDTH: usize = 32;
 /// Bytes of stack for a thread that calls.
 pub const STACK: usize = 524288;
 
-// Numbers of an answer of the call, and of rewriting called alone.
+// Numbers of an answer of the call, of rewriting called alone, and of the check of an image.
 pub(crate) const COMPILED: usize = 6;
 pub(crate) const REWRITTEN: usize = 5;
+pub(crate) const CHECKED: usize = 2;

@@ -38,9 +38,13 @@ pub enum Reason {
     ConstantsFull = 13,
     /// A lent output shorter than its limit: only where outputs are lent.
     OutputShort = 14,
+    /// Check of an image: a run reaches a place that is neither start nor end, heights ignored.
+    Astray = 20,
+    /// Check of an image: an empty stack popped, the depth exceeded, an unempty end, or a start at two heights.
+    BadHeight = 21,
 }
 
-const REASONS: [Reason; 14] = [
+const REASONS: [Reason; 16] = [
     Reason::BadText,
     Reason::BadForm,
     Reason::BadRange,
@@ -55,6 +59,8 @@ const REASONS: [Reason; 14] = [
     Reason::LinesFull,
     Reason::ConstantsFull,
     Reason::OutputShort,
+    Reason::Astray,
+    Reason::BadHeight,
 ];
 
 /// One refusal: its number and its place.
@@ -101,6 +107,10 @@ impl fmt::Display for Reason {
             Reason::LinesFull => write!(f, "over {MAX_LINES} line entries"),
             Reason::ConstantsFull => write!(f, "over {MAX_CONSTANTS} constants"),
             Reason::OutputShort => f.write_str("a lent output shorter than its limit"),
+            Reason::Astray => f.write_str("a run reaches a place that is neither start nor end"),
+            Reason::BadHeight => {
+                f.write_str("empty stack popped, depth exceeded, unempty end, or a start at two heights")
+            }
         }
     }
 }

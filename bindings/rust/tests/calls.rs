@@ -35,12 +35,52 @@ fn rewrites() {
 }
 
 #[test]
+fn checks_images() {
+    let most = [27; MAX_CODE + 1];
+    let bad_field = [&SHEET[..SHEET.len() - 2], b"5\n"].concat();
+    let answers: [(&[u8], &[u8], u64, _); 12] = [
+        (SHEET, &[27, 255], 0, Ok(())),
+        (SHEET, &[6, 2], 1, Ok(())),
+        (SHEET, &most[1..], 0, Ok(())),
+        (SHEET, &most, 0, Err(refusal(10, 0))),
+        (&SHEET[2..], &most, 0, Err(refusal(7, 0))),
+        (&bad_field, &[2, 255], 0, Err(refusal(7, 33))),
+        (SHEET, &[2, 255], 0, Err(refusal(20, 0))),
+        (SHEET, &[24, 255, 255], 0, Err(refusal(20, 0))),
+        (SHEET, &[2], 0, Err(refusal(21, 0))),
+        (SHEET, &[6, 2], 0, Err(refusal(21, 0))),
+        (SHEET, &[3, 0, 0, 27], 1, Err(refusal(21, 0))),
+        (SHEET, &[6, 24, 252, 255], u64::MAX, Err(refusal(21, 0))),
+    ];
+    for (sheet, code, depth, answer) in answers {
+        assert_eq!(check_image(sheet, code, depth), answer, "for {code:?} at {depth}");
+    }
+}
+
+/// A depth is not cut to fewer bits.
+#[test]
+fn any_depth() {
+    for depth in [1, 65535, 65536, 1 << 32, u64::MAX] {
+        assert_eq!(check_image(SHEET, &[6, 2], depth), Ok(()), "at {depth}");
+    }
+}
+
+#[test]
+fn finished_code_passes() {
+    let Compiled { code, depth, .. } = compile(SHEET, b"", b"P,1,1,1,0\nA,1,1,0\nO,0\nD,0\nD,0\n").unwrap();
+    assert_eq!((depth, check_image(SHEET, &code, depth)), (2, Ok(())));
+    assert_eq!(check_image(SHEET, &code, depth - 1), Err(refusal(21, 0)));
+}
+
+#[test]
 fn empty_inputs() {
     assert_eq!(compile(b"", b"", b""), Err(refusal(7, 0)));
     assert_eq!(compile(SHEET, b"", b""), Err(refusal(1, 0)));
     assert_eq!(rewrite_alone(b"", b"", b"", &[], &[]), Err(refusal(7, 0)));
     let none = Rewritten { code: vec![], protected: vec![], lines: vec![] };
     assert_eq!(rewrite_alone(SHEET, b"", b"", &[], &[]), Ok(none));
+    assert_eq!(check_image(b"", b"", 0), Err(refusal(7, 0)));
+    assert_eq!(check_image(SHEET, b"", 0), Ok(()));
 }
 
 /// Each output in turn as long as its limit, longer, one too short, empty: an answer and zeros, or 14 and zeros.
@@ -125,11 +165,16 @@ fn what_a_refusal_says() {
         (12, 0, "12,0: over 4096 line entries"),
         (13, 0, "13,0: over 1024 constants"),
         (14, 0, "14,0: a lent output shorter than its limit"),
-        (15, 3, "15,3: a refusal that this crate does not know"),
+        (20, 0, "20,0: a run reaches a place that is neither start nor end"),
+        (21, 0, "21,0: empty stack popped, depth exceeded, unempty end, or a start at two heights"),
     ];
     for (number, place, text) in texts {
         assert_eq!(refusal(number, place).to_string(), text);
-        assert_eq!(refusal(number, place).reason().map(|reason| reason as u8), (number < 15).then_some(number));
+        assert_eq!(refusal(number, place).reason().map(|reason| reason as u8), Some(number));
+    }
+    for number in [0, 15, 19, 22, 255] {
+        let unknown = format!("{number},3: a refusal that this crate does not know");
+        assert_eq!((refusal(number, 3).to_string(), refusal(number, 3).reason()), (unknown, None));
     }
     let boxed: Box<dyn std::error::Error + Send + Sync> = compile(SHEET, b"", b"").unwrap_err().into();
     assert_eq!(boxed.to_string(), texts[0].2);

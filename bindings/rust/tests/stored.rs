@@ -1,9 +1,17 @@
-//! Rewriting called alone on the stored answers of the published Rust: crates/passes_test/stdin (oracle/README.md says how it was made).
+//! Stored answers (oracle/README.md says how they were made): rewriting called alone on the published Rust's, crates/passes_test/stdin, and the
+//! check of images on the oracle's, crates/images_test/stdin.
 
-use mezhukan::{rewrite_alone, LineEntry, Refusal, Rewritten};
+use mezhukan::{check_image, rewrite_alone, LineEntry, Refusal, Rewritten};
 
-const STORED: &str = concat!(env!("CARGO_MANIFEST_DIR"), "/../../crates/passes_test/stdin");
+const CRATES: &str = concat!(env!("CARGO_MANIFEST_DIR"), "/../../crates");
 const LEAST: usize = 300;
+
+/// The inputs of a crate's stdin, each with its answer.
+fn stored(name: &str) -> Vec<(String, String)> {
+    let text = std::fs::read_to_string(format!("{CRATES}/{name}/stdin")).expect("the stored answers");
+    let parts: Vec<&str> = text.split("====\n").collect();
+    parts.chunks_exact(2).map(|case| (case[0].to_string(), case[1].to_string())).collect()
+}
 
 /// What stands in an input. A line that is not read as numbers is empty: the answer is then one that comes before it.
 struct Given {
@@ -58,18 +66,38 @@ fn expected(answer: &str) -> Option<Result<Rewritten, Refusal>> {
 
 #[test]
 fn the_stored_answers() {
-    let stored = std::fs::read_to_string(STORED).expect("the stored answers");
-    let parts: Vec<&str> = stored.split("====\n").collect();
     let mut compared = 0;
-    for case in parts.chunks_exact(2) {
-        let (Some(given), Some(expected)) = (read(case[0]), expected(case[1])) else {
+    for (input, answer) in stored("passes_test") {
+        let (Some(given), Some(expected)) = (read(&input), expected(&answer)) else {
             continue;
         };
         let Given { sheet, rules, code, protected, lines } = &given;
         let got = rewrite_alone(sheet.as_bytes(), rules.as_bytes(), code, protected, lines);
-        assert_eq!(got, expected, "for {}", case[0]);
+        assert_eq!(got, expected, "for {input}");
         compared += 1;
     }
     println!("{compared} compared");
     assert!(compared >= LEAST, "{compared} compared");
+}
+
+/// An image's answer as its input's three lines give it, written as stored.
+fn checked(input: &str) -> String {
+    let lines: Vec<&str> = input.split_inclusive('\n').collect();
+    let [sheet, depth, code] = lines[..] else { panic!("not three lines: {input}") };
+    let depth = depth.trim_end().parse().expect("a depth");
+    let code: Vec<u8> = code.trim_end().split_terminator(',').map(|byte| byte.parse().expect("a byte")).collect();
+    match check_image(sheet.as_bytes(), &code, depth) {
+        Ok(()) => "0,0\n".to_string(),
+        Err(Refusal { number, place }) => format!("{number},{place}\n"),
+    }
+}
+
+#[test]
+fn the_stored_images() {
+    let images = stored("images_test");
+    for (input, answer) in &images {
+        assert_eq!(&checked(input), answer, "for {input}");
+    }
+    println!("{} compared", images.len());
+    assert!(images.len() >= LEAST, "{} compared", images.len());
 }
