@@ -1,6 +1,6 @@
 -- What `look` and `is_listed` read.
 use Prim.Native.Nat.{ℕ, _+_, _≤_}
-use mathlib.Core.Path.{_≡_, refl, sym, _∙_, ap}
+use mathlib.Core.Path.{_≡_, refl, sym, _∙_, ap, subst}
 use mathlib.Core.List.{List}
 use mathlib.Core.Bool.{Bool, true, false}
 use mathlib.Core.Option.{Option, some, none}
@@ -25,7 +25,7 @@ use Rattle.opcode.proofs.Sheets.{role-number, number-below}
 use Rattle.field.proofs.Results.{never}
 use Rattle.runs.proofs.Roles.{branch-size}
 use Rattle.image_check.specs.Place.{halts, endNode, roleNode}
-use Rattle.image_check.specs.View.{Looks}
+use Rattle.image_check.specs.View.{TraitsAt, Looks}
 use Rattle.image_check.proofs.Starts.{start-holds}
 use Rattle.image_check.proofs.Nodes.{node-end, node-role}
 
@@ -33,31 +33,30 @@ pub looks-end : (sheet code : List ℕ) (p : ℕ) → p ≡ length code → Look
 unfolding endNode exits halts branches
 looks-end sheet code p e = record { nd = endNode; is = node-end (sheetIn sheet) code p e; needed = refl; shifts = refl; leads = refl; stopped = refl; offset = λ b. never (cc) }
 
-module _ (sheet code : List ℕ) (p n : ℕ) (role : Role) (tr : Traits) (at : Either (has (starts (sheetIn sheet) code) p ≡ true) (p ≡ length code)) (inside : p ≡ length code → ⊥)
-    (listed : n ≡ numberOr (roleOf (sheetIn sheet) (getD code p 0))) (numbered : roleView role ≡ roleNumbered n) (are : AreTraits (traits (roleView role)) tr) where
-  start : has (starts (sheetIn sheet) code) p ≡ true
-  start = elim at [ left h ↦ h | right e ↦ absurd (inside e) ]
+-- what stands at a start has a role
+pub traits-is : (sheet code : List ℕ) (p n : ℕ) (role : Role) (tr : Traits) → has (starts (sheetIn sheet) code) p ≡ true → n ≡ numberOr (roleOf (sheetIn sheet) (getD code p 0)) → roleView role ≡ roleNumbered n → AreTraits (traits (roleView role)) tr → TraitsAt sheet code p tr
+unfolding numberOr
+traits-is sheet code p n role tr start listed numbered are =
+    let h = start-holds (sheetIn sheet) code p start in
+    record { role = h .1; known = h .2; are = subst (λ r. AreTraits (traits r) tr) (numbered ∙ (ap roleNumbered (listed ∙ ap numberOr (h .2)) ∙ role-number (h .1))) are }
 
+pub at-start : (sheet code : List ℕ) (p : ℕ) → Either (has (starts (sheetIn sheet) code) p ≡ true) (p ≡ length code) → (p ≡ length code → ⊥) → has (starts (sheetIn sheet) code) p ≡ true
+at-start sheet code p at inside = elim at [ left h ↦ h | right e ↦ absurd (inside e) ]
+
+module _ (sheet code : List ℕ) (p : ℕ) (tr : Traits) (start : has (starts (sheetIn sheet) code) p ≡ true) (is : TraitsAt sheet code p tr) where
   abbrev r : def.Role
-  r = start-holds (sheetIn sheet) code p start .1
-
-  known : roleOf (sheetIn sheet) (getD code p 0) ≡ some r
-  known = start-holds (sheetIn sheet) code p start .2
-
-  is-role : roleView role ≡ r
-  unfolding numberOr
-  is-role = numbered ∙ (ap roleNumbered (listed ∙ ap numberOr known) ∙ role-number r)
+  r = is .role
 
   pub looks-role : Looks sheet code p tr
   unfolding roleNode size needs effect flow
   looks-role =
-      let z : tr .size ≡ size r = are .size ∙ ap size is-role in
-      let f : flowView (tr .flow) ≡ flow r = are .flow ∙ ap flow is-role in
+      let z : tr .size ≡ size r = is .are .size in
+      let f : flowView (tr .flow) ≡ flow r = is .are .flow in
       record {
         nd = roleNode code p r;
-        is = node-role (sheetIn sheet) code p r start known;
-        needed = are .needs ∙ ap needs is-role;
-        shifts = are .effect ∙ ap effect is-role;
+        is = node-role (sheetIn sheet) code p r start (is .known);
+        needed = is .are .needs;
+        shifts = is .are .effect;
         leads = sym (ap (λ x. exits (flowView (tr .flow)) code (p + x)) z ∙ ap (λ x. exits x code (p + size r)) f);
         stopped = ap halts f;
         offset = λ b. let l = branch-size r (ap branches (sym f) ∙ b) in omega arith;

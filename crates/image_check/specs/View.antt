@@ -8,11 +8,11 @@ use lib.ListN.{length, getD, drop}
 use lib.Dec.{eqb, ltb}
 use Rattle.definition.specs.Limits.{maxCode}
 use Rattle.definition.specs.Field.{has}
-use Rattle.definition.specs.Opcode.{shift, same}
+use Rattle.definition.specs.Opcode.{Role, traits, roleOf, shift, same}
 use Rattle.definition.specs.Rewrite.{decode, startsFrom}
 use Rattle.definition.specs.Claims.{branches}
 use Rattle.definition.specs.Check.{upToUnlisted, starts, exits}
-use Rattle.opcode.specs.View.{effectView, flowView}
+use Rattle.opcode.specs.View.{effectView, flowView, AreTraits}
 use Rattle.opcode.specs.Table.{sheetIn, IsTable}
 use Rattle.opcode.specs.declared.Effect.{Effect}
 use Rattle.opcode.specs.declared.Traits.{Traits}
@@ -85,6 +85,12 @@ pub record Meets (end : ℕ) (flags marks work : List ℕ) (t : Trip) (h q : ℕ
 
 abbrev pub nodeIn : List ℕ → List ℕ → ℕ → Option Node
 nodeIn sheet code p = nodeAt (sheetIn sheet) code (starts (sheetIn sheet) code) p
+
+-- the traits of what stands at a start, as code has them
+pub record TraitsAt (sheet code : List ℕ) (p : ℕ) (r : Traits) : Type 0 where
+  pub role : Role
+  pub known : roleOf (sheetIn sheet) (getD code p 0) ≡ some role
+  pub are : AreTraits (traits role) r
 
 -- the node at a place, by its traits as code has them
 pub record Looks (sheet code : List ℕ) (p : ℕ) (r : Traits) : Type 0 where

@@ -12,7 +12,7 @@ ghost use Rattle.opcode.specs.View.{flowView};
 ghost use Rattle.opcode.specs.Table.{IsTable, sheetIn};
 ghost use Rattle.rewrite.specs.View.{Clear};
 ghost use Rattle.image_check.specs.Place.{halts};
-ghost use Rattle.image_check.specs.View.{isPlace, placeOr, wrongBy, behindBy, blanks, Ready, Meets, Looks, Image, Expands, Traverses};
+ghost use Rattle.image_check.specs.View.{isPlace, placeOr, wrongBy, behindBy, blanks, Ready, Meets, TraitsAt, Looks, Image, Expands, Traverses};
 use definition::ASTRAY;
 use definition::BAD_HEIGHT;
 use definition::CODE_FULL;
@@ -101,12 +101,12 @@ fn meet(
     }
 }
 
-// Where a branch leads, whose offset bytes stand before `next`; past the end where that is below 0.
-fn target_of(code: &[u8], next: usize) -> usize
+// Where a branch leads, whose offset bytes stand before `next`; `other` where that is below 0.
+pub fn target_of(code: &[u8], next: usize, other: usize) -> usize
     requires { ⌜ 2 ≤ next ⌝ }
     requires { ⌜ next ≤ length (now code) + 255 ⌝ }
     requires { ⌜ length (now code) ≤ maxCode ⌝ }
-    ensures { λ r. ⌜ r ≡ placeOr (length (now (code .entry)) + 1) (target (now (code .entry)) next) ⌝ }
+    ensures { λ r. ⌜ r ≡ placeOr other (target (now (code .entry)) next) ⌝ }
 {
     let low = field::byte_or(code, next - 2, 0);
     let high = field::byte_or(code, next - 1, 0);
@@ -118,7 +118,18 @@ fn target_of(code: &[u8], next: usize) -> usize
     if back <= next {
         return next - back;
     }
-    code.len() + 1
+    other
+}
+
+// The traits of the instruction at a start.
+pub fn traits_at(sheet: &[u8], code: &[u8], p: usize) -> Traits
+    requires { ⌜ IsTable (now sheet) ⌝ }
+    requires { ⌜ has (starts (sheetIn (now sheet)) (now code)) p ≡ true ⌝ }
+    ensures { λ r. ⌜ TraitsAt (now (sheet .entry)) (now (code .entry)) p r ⌝ }
+{
+    let n = sheet::role_number(sheet, code[p]);
+    let role = Role::numbered(n);
+    role.traits()
 }
 
 // The traits of what stands at a place, a start or the end: a run stops at the end as at a RET.
@@ -136,9 +147,7 @@ fn look(sheet: &[u8], code: &[u8], p: usize) -> Traits
             flow: Flow::Stop,
         };
     }
-    let n = sheet::role_number(sheet, code[p]);
-    let role = Role::numbered(n);
-    role.traits()
+    traits_at(sheet, code, p)
 }
 
 // Does a run finish there?
@@ -240,12 +249,12 @@ fn expand(
     match flow {
         Flow::Onward => meet(flags, end, marks, work, u, h, next),
         Flow::Away => {
-            let q = target_of(code, next);
+            let q = target_of(code, next, end + 1);
             meet(flags, end, marks, work, u, h, q)
         }
         Flow::Either => {
             let v = meet(flags, end, marks, work, u, h, next);
-            let q = target_of(code, next);
+            let q = target_of(code, next, end + 1);
             meet(flags, end, marks, work, v, h, q)
         }
         Flow::Stop => u,
@@ -306,7 +315,7 @@ fn is_listed(sheet: &[u8], i: &[u8]) -> bool
 }
 
 // The starts of some code are flagged.
-fn mark_starts(sheet: &[u8], code: &[u8], flags: &mut [u8])
+pub fn mark_starts(sheet: &[u8], code: &[u8], flags: &mut [u8])
     requires { ⌜ IsTable (now sheet) ⌝ }
     requires { ⌜ length (now code) ≤ maxCode ⌝ }
     requires { ⌜ Clear (length (now code)) (now flags) ⌝ }
@@ -328,23 +337,20 @@ fn mark_starts(sheet: &[u8], code: &[u8], flags: &mut [u8])
     }
 }
 
-// The answer's number, over lent tables that hold 0.
-fn check_over(
+// The answer's number for code whose starts are flagged, over lent tables.
+pub fn check_over(
     sheet: &[u8],
     code: &[u8],
     depth: u64,
-    flags: &mut [u8],
+    flags: &[u8],
     marks: &mut [u32],
     work: &mut [u16],
 ) -> u8
-    requires { ⌜ IsTable (now sheet) ⌝ }
-    requires { ⌜ length (now code) ≤ maxCode ⌝ }
-    requires { ⌜ Clear (length (now code)) (now flags) ⌝ }
+    requires { ⌜ Image (now sheet) (now code) (now flags) ⌝ }
     requires { ⌜ Clear (length (now code)) (now marks) ⌝ }
     requires { ⌜ length (now code) < length (now work) ⌝ }
     ensures { λ r. ⌜ Answers (sheetIn (now (sheet .entry))) (now (code .entry)) depth r ⌝ }
 {
-    mark_starts(sheet, code, flags);
     let end = code.len();
     let none = Trip {
         count: 0,
@@ -372,12 +378,14 @@ fn check_table(sheet: &[u8], code: &[u8], depth: u64) -> u8
         let mut flags = [0u8; rewrite::SMALL_SLOTS];
         let mut marks = [0u32; rewrite::SMALL_SLOTS];
         let mut work = [0u16; rewrite::SMALL_SLOTS];
-        check_over(sheet, code, depth, &mut flags, &mut marks, &mut work)
+        mark_starts(sheet, code, &mut flags);
+        check_over(sheet, code, depth, &flags, &mut marks, &mut work)
     } else {
         let mut flags = [0u8; rewrite::SLOTS];
         let mut marks = [0u32; rewrite::SLOTS];
         let mut work = [0u16; rewrite::SLOTS];
-        check_over(sheet, code, depth, &mut flags, &mut marks, &mut work)
+        mark_starts(sheet, code, &mut flags);
+        check_over(sheet, code, depth, &flags, &mut marks, &mut work)
     }
 }
 

@@ -12,13 +12,17 @@ pub check-table-spec : {M : Type 1} → statement M
 check-table-spec =
     tie.close
     (tie.spec
+    (λ c. search needs)  -- slice-aggregate-mark-starts
+    (λ c κs. (c .before .before .before .before .pre .0, (c .before .before .before .before .pre .1, cleared smallSlots (omega (arith, c .before .if1 .taken)))))  -- mark-starts-requires
     (λ c. search needs)  -- slice-aggregate-check-over
     (λ c. search needs)  -- slice-aggregate-check-over-2
     (λ c. search needs)  -- slice-aggregate-check-over-3
-    (λ c κs. (c .before .before .before .before .before .before .pre .0, (c .before .before .before .before .before .before .pre .1, (cleared smallSlots (omega (arith, c .before .before .before .if1 .taken)), (cleared smallSlots (omega (arith, c .before .before .before .if1 .taken)), omega (arith, c .before .before .before .if1 .taken, length-replicate {A = ℕ} smallSlots 0))))))  -- check-over-requires
+    (λ c κs. (c .before .before .before .before .mark-starts .ensures, (cleared smallSlots (omega (arith, c .before .before .before .before .before .before .if1 .taken)), omega (arith, c .before .before .before .before .before .before .if1 .taken, length-replicate {A = ℕ} smallSlots 0))))  -- check-over-requires
+    (λ c. search needs)  -- slice-aggregate-mark-starts-2
+    (λ c κs. (c .before .before .before .before .pre .0, (c .before .before .before .before .pre .1, cleared slotCount (omega (arith, c .before .before .before .before .pre .1)))))  -- mark-starts-requires-2
     (λ c. search needs)  -- slice-aggregate-check-over-4
     (λ c. search needs)  -- slice-aggregate-check-over-5
     (λ c. search needs)  -- slice-aggregate-check-over-6
-    (λ c κs. (c .before .before .before .before .before .before .pre .0, (c .before .before .before .before .before .before .pre .1, (cleared slotCount (omega (arith, c .before .before .before .before .before .before .pre .1)), (cleared slotCount (omega (arith, c .before .before .before .before .before .before .pre .1)), omega (arith, c .before .before .before .before .before .before .pre .1, length-replicate {A = ℕ} slotCount 0))))))  -- check-over-requires-2
+    (λ c κs. (c .before .before .before .before .mark-starts2 .ensures, (cleared slotCount (omega (arith, c .before .before .before .before .before .before .before .before .before .pre .1)), omega (arith, c .before .before .before .before .before .before .before .before .before .pre .1, length-replicate {A = ℕ} slotCount 0))))  -- check-over-requires-2
     (λ c. search needs)  -- returns
     (λ c. search needs))  -- returns-2

@@ -37,10 +37,12 @@ expand-spec =
     (λ c. search needs)  -- enum-told
     (λ c κs. (c .before .before .before .before .before .before .before .before .before .before .before .before .before .before .before .before .before .before .before .pre .0, behind-low _ _ _ (c .before .before .before .before .before .before .before .before .before .before .before .before .before .before .before .before .before .before .before .pre .1) _ _ (c .before .before .before .before .before .before .before .before .before .before .before .before .before .before .before .before .before .before .before .args .t) _ _ (c .before .before .before .before .before .before .before .before .before .before .before .before .before .before .before .before .before .before .before .pre .0) (c .before .before .before .before .before .before .before .before .before .before .before .look .result) (c .before .before .before .before .before .before .before .before .before .before .before .look .ensures) _ _ _ _ _ (c .before .before .before .before .before .before .before .before .height-of .ensures) (c .before .before .before .before .before .before .before .stops .ensures) (c .before .before .before .before .before .before .is-wrong .ensures) (c .before .before .before .before .before .height-behind .ensures) (c .before .before .before .before .either .ensures)))  -- meet-requires
     (λ c. search needs)  -- enum-told-2
+    (λ c. search needs)  -- add-target-of
     target-of-requires
     (λ c κs. (c .before .before .before .before .before .before .before .before .before .before .before .before .before .before .before .before .before .before .before .before .pre .0, behind-low _ _ _ (c .before .before .before .before .before .before .before .before .before .before .before .before .before .before .before .before .before .before .before .before .pre .1) _ _ (c .before .before .before .before .before .before .before .before .before .before .before .before .before .before .before .before .before .before .before .before .args .t) _ _ (c .before .before .before .before .before .before .before .before .before .before .before .before .before .before .before .before .before .before .before .before .pre .0) (c .before .before .before .before .before .before .before .before .before .before .before .before .look .result) (c .before .before .before .before .before .before .before .before .before .before .before .before .look .ensures) _ _ _ _ _ (c .before .before .before .before .before .before .before .before .before .height-of .ensures) (c .before .before .before .before .before .before .before .before .stops .ensures) (c .before .before .before .before .before .before .before .is-wrong .ensures) (c .before .before .before .before .before .before .height-behind .ensures) (c .before .before .before .before .before .either .ensures)))  -- meet-requires-2
     (λ c. search needs)  -- enum-told-3
     (λ c κs. (c .before .before .before .before .before .before .before .before .before .before .before .before .before .before .before .before .before .before .before .pre .0, behind-low _ _ _ (c .before .before .before .before .before .before .before .before .before .before .before .before .before .before .before .before .before .before .before .pre .1) _ _ (c .before .before .before .before .before .before .before .before .before .before .before .before .before .before .before .before .before .before .before .args .t) _ _ (c .before .before .before .before .before .before .before .before .before .before .before .before .before .before .before .before .before .before .before .pre .0) (c .before .before .before .before .before .before .before .before .before .before .before .look .result) (c .before .before .before .before .before .before .before .before .before .before .before .look .ensures) _ _ _ _ _ (c .before .before .before .before .before .before .before .before .height-of .ensures) (c .before .before .before .before .before .before .before .stops .ensures) (c .before .before .before .before .before .before .is-wrong .ensures) (c .before .before .before .before .before .height-behind .ensures) (c .before .before .before .before .either .ensures)))  -- meet-requires-3
+    (λ c. search needs)  -- add-target-of-2
     target-of-requires-2
     (λ c κs. (c .before .before .before .before .before .before .before .meet3 .ensures .ready, omega (arith, behind-low _ _ _ (c .before .before .before .before .before .before .before .before .before .before .before .before .before .before .before .before .before .before .before .before .before .before .before .before .before .before .before .pre .1) _ _ (c .before .before .before .before .before .before .before .before .before .before .before .before .before .before .before .before .before .before .before .before .before .before .before .before .before .before .before .args .t) _ _ (c .before .before .before .before .before .before .before .before .before .before .before .before .before .before .before .before .before .before .before .before .before .before .before .before .before .before .before .pre .0) (c .before .before .before .before .before .before .before .before .before .before .before .before .before .before .before .before .before .before .before .look .result) (c .before .before .before .before .before .before .before .before .before .before .before .before .before .before .before .before .before .before .before .look .ensures) _ _ _ _ _ (c .before .before .before .before .before .before .before .before .before .before .before .before .before .before .before .before .height-of .ensures) (c .before .before .before .before .before .before .before .before .before .before .before .before .before .before .before .stops .ensures) (c .before .before .before .before .before .before .before .before .before .before .before .before .before .before .is-wrong .ensures) (c .before .before .before .before .before .before .before .before .before .before .before .before .before .height-behind .ensures) (c .before .before .before .before .before .before .before .before .before .before .before .before .either .ensures), c .before .before .before .before .before .before .before .meet3 .ensures .fewer)))  -- meet-requires-4
     (λ c. search needs)  -- enum-told-4

@@ -21,5 +21,4 @@ target-of-spec =
     (λ c. leads-on _ _ _ _ (c .before .before .byte-or .ensures) (c .before .byte-or2 .ensures) (c .if1 .taken) _)  -- returns
     (λ c. search needs)  -- sub-back
     (λ c. leads-back _ _ _ _ (c .before .before .before .byte-or .ensures) (c .before .before .byte-or2 .ensures) (c .before .if1 .left) (omega arith) (c .if2 .taken) _)  -- returns-2
-    (λ c. search needs)  -- add-result-2
     (λ c. leads-below _ _ _ _ (c .before .before .before .byte-or .ensures) (c .before .before .byte-or2 .ensures) (c .before .if1 .left) (c .if2 .left) _))  -- returns-3
