@@ -6,7 +6,7 @@ use mathlib.Core.Bool.{Bool, true, false}
 use mathlib.Core.Option.{Option, some, none}
 use lib.ListN.{length, getD, replicate, length-replicate}
 use native.Mathlib.Omega.{arith}
-use Rattle.definition.specs.Limits.{maxCode, codeFull, astray, badHeight}
+use Rattle.definition.specs.Limits.{maxCode, badSheet, codeFull, astray, badHeight}
 use Rattle.definition.specs.Check.{Answers, Checks, refusesSheet, refusesLength, answers as answersIt}
 use Rattle.store.proofs.Fills.{replicate-none}
 use Rattle.opcode.specs.Table.{IsTable}
@@ -16,7 +16,7 @@ use Rattle.opcode.specs.declared.sheet.SheetRead.{SheetRead}
 use Rattle.opcode.specs.declared.sheet.SheetRead.the-variants as sheets
 use Rattle.opcode.specs.Table.{sheetIn}
 use Rattle.image_check.specs.Graph.{Node, Table, andThen, meet, one, blank, nothing, verdict, traverse, traversed}
-use Rattle.image_check.specs.View.{stackOf, tableOf, view, blanks, Ready, Image, Meets, nodeIn, onFrom, Traverses}
+use Rattle.image_check.specs.View.{stackOf, tableOf, view, blanks, Ready, Image, Meets, nodeIn, onFrom, Traverses, Admitted, Admits}
 use Rattle.image_check.specs.declared.Trip.{Trip}
 use Rattle.image_check.proofs.Meeting.{view-on, view-lost}
 use Rattle.image_check.proofs.Expanding.{met-node}
@@ -78,17 +78,18 @@ cleared n {end = end} l = record { slots = subst (λ k. end < k) (sym (length-re
 
 -- ---- the call
 
-module _ (sheet table code : List ℕ) (depth : ℕ) (f : SheetRead) (h : Reads sheet table (answerOf f)) where
-  pub checks-sheet : {n p : ℕ} → f ≡ sheets.Refused n p → Checks sheet code depth n p
-  checks-sheet {n = n} {p = p} e =
+module _ (sheet table code : List ℕ) (f : SheetRead) (h : Reads sheet table (answerOf f)) where
+  pub admits-sheet : {n p : ℕ} → f ≡ sheets.Refused n p → Admits sheet code table n p
+  admits-sheet {n = n} {p = p} e =
       let d : Refuses sheet table n p = rw e at h in
-      subst (λ k. Checks sheet code depth k p) (sym (d .number)) (refusesSheet (d .is) (d .fault))
+      let k : n ≡ badSheet = d .number in
+      record { admits = λ z. absurd (omega arith); refuses = λ z depth. subst (λ k. Checks sheet code depth k p) (sym k) (refusesSheet (d .is) (d .fault)) }
 
-  pub is-table : f ≡ sheets.Accepted → IsTable table
-  is-table e = let d : Accepts sheet table = rw e at h in d .ready
+  pub admits-length : f ≡ sheets.Accepted → maxCode < length code → Admits sheet code table codeFull 0
+  admits-length e l = let d : Accepts sheet table = rw e at h in record { admits = λ z. absurd (omega arith); refuses = λ z depth. refusesLength (d .is) l }
 
-  pub checks-length : f ≡ sheets.Accepted → maxCode < length code → Checks sheet code depth codeFull 0
-  checks-length e l = let d : Accepts sheet table = rw e at h in refusesLength (d .is) l
+  pub admits-code : f ≡ sheets.Accepted → length code ≤ maxCode → Admits sheet code table 0 0
+  admits-code e l = let d : Accepts sheet table = rw e at h in record { admits = λ z. record { ready = d .ready; read = d .is; small = l; nowhere = refl }; refuses = λ z. absurd (z refl) }
 
-  pub checks-code : f ≡ sheets.Accepted → length code ≤ maxCode → {n : ℕ} → Answers (sheetIn table) code depth n → Checks sheet code depth n 0
-  checks-code e l a = let d : Accepts sheet table = rw e at h in answersIt (d .is) l a
+pub checks-code : {sheet code table : List ℕ} {depth place n : ℕ} → Admitted sheet code table place → Answers (sheetIn table) code depth n → Checks sheet code depth n 0
+checks-code a x = answersIt (a .read) (a .small) x

@@ -11,7 +11,8 @@ use Rattle.definition.specs.Field.{has}
 use Rattle.definition.specs.Opcode.{Role, traits, roleOf, shift, same}
 use Rattle.definition.specs.Rewrite.{decode, startsFrom}
 use Rattle.definition.specs.Claims.{branches}
-use Rattle.definition.specs.Check.{upToUnlisted, starts, exits}
+use Rattle.definition.specs.Sheet.{readSheet}
+use Rattle.definition.specs.Check.{upToUnlisted, starts, exits, Checks}
 use Rattle.opcode.specs.View.{effectView, flowView, AreTraits}
 use Rattle.opcode.specs.Table.{sheetIn, IsTable}
 use Rattle.opcode.specs.declared.Effect.{Effect}
@@ -128,3 +129,17 @@ pub record Going (sheet code flags marks₀ work₀ : List ℕ) (t₀ : Trip) (d
 
 unfoldable pub Traverses : List ℕ → List ℕ → List ℕ → List ℕ → Trip → ℕ → List ℕ → List ℕ → Trip → Type 0
 Traverses sheet code marks₀ work₀ t₀ depth marks work t = view t marks work ≡ andThen (view t₀ marks₀ work₀) (λ x. onFrom sheet code depth (suc (length code)) x)
+
+-- ---- what stands before the check
+
+-- the table is the sheet's, and the code is within its limit
+pub record Admitted (sheet code table : List ℕ) (place : ℕ) : Type 0 where
+  pub ready : IsTable table
+  pub read : readSheet sheet ≡ some (sheetIn table)
+  pub small : length code ≤ maxCode
+  pub nowhere : place ≡ 0
+
+-- else it is refused, whatever the depth
+pub record Admits (sheet code table : List ℕ) (number place : ℕ) : Type 0 where
+  pub admits : number ≡ 0 → Admitted sheet code table place
+  pub refuses : (number ≡ 0 → ⊥) → (depth : ℕ) → Checks sheet code depth number place

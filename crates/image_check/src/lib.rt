@@ -9,10 +9,10 @@ ghost use Rattle.definition.specs.Runs.{target};
 ghost use Rattle.definition.specs.Check.{starts, listed, Answers, Checks};
 ghost use Rattle.definition.specs.Claims.{Either};
 ghost use Rattle.opcode.specs.View.{flowView};
-ghost use Rattle.opcode.specs.Table.{IsTable, sheetIn};
+ghost use Rattle.opcode.specs.Table.{tableSize, IsTable, sheetIn};
 ghost use Rattle.rewrite.specs.View.{Clear};
 ghost use Rattle.image_check.specs.Place.{halts};
-ghost use Rattle.image_check.specs.View.{isPlace, placeOr, wrongBy, behindBy, blanks, Ready, Meets, TraitsAt, Looks, Image, Expands, Traverses};
+ghost use Rattle.image_check.specs.View.{isPlace, placeOr, wrongBy, behindBy, blanks, Ready, Meets, TraitsAt, Looks, Image, Expands, Traverses, Admits};
 use definition::ASTRAY;
 use definition::BAD_HEIGHT;
 use definition::CODE_FULL;
@@ -395,12 +395,12 @@ pub struct Checked {
     pub place: u32,
 }
 
-// Code of an image against a sheet and its declared depth, from any bytes.
-pub fn check_image(sheet: &[u8], code: &[u8], depth: u64) -> Checked
-    ensures { λ r. ⌜ Checks (now (sheet .entry)) (now (code .entry)) depth (r .number) (r .place) ⌝ }
+// A sheet read into a table, and the code's length tested: 7, 10, or 0.
+pub fn admit(sheet: &[u8], code: &[u8], table: &mut [u8]) -> Checked
+    requires { ⌜ length (now table) ≡ tableSize ⌝ }
+    ensures { λ r. ⌜ Admits (now (sheet .entry)) (now (code .entry)) (now (table .exit)) (r .number) (r .place) ⌝ }
 {
-    let mut table = [0u8; sheet::TABLE_SIZE];
-    match sheet::read_sheet(sheet, &mut table) {
+    match sheet::read_sheet(sheet, table) {
         SheetRead::Refused(number, place) => Checked {
             number: number,
             place: place,
@@ -412,11 +412,26 @@ pub fn check_image(sheet: &[u8], code: &[u8], depth: u64) -> Checked
                     place: 0,
                 };
             }
-            let n = check_table(&table, code, depth);
             Checked {
-                number: n,
+                number: 0,
                 place: 0,
             }
         }
+    }
+}
+
+// Code of an image against a sheet and its declared depth, from any bytes.
+pub fn check_image(sheet: &[u8], code: &[u8], depth: u64) -> Checked
+    ensures { λ r. ⌜ Checks (now (sheet .entry)) (now (code .entry)) depth (r .number) (r .place) ⌝ }
+{
+    let mut table = [0u8; sheet::TABLE_SIZE];
+    let a = admit(sheet, code, &mut table);
+    if a.number != 0 {
+        return a;
+    }
+    let n = check_table(&table, code, depth);
+    Checked {
+        number: n,
+        place: 0,
     }
 }
