@@ -1,6 +1,6 @@
 -- Document 01's cases a to k, from the text of the three files on, as entries of one list that is computed; what the listing prints for its example;
--- what small programs mean, from their text on; and where small images start and stand.
-use Prim.Native.Nat.{ℕ, _-_, _^_}
+-- what small programs mean, from their text on; where small images start and stand; and how long their runs are.
+use Prim.Native.Nat.{ℕ, _-_, _^_, suc, zero, max}
 use Prim.Native.String.{String}
 use Prim.Native.String.{[] as []ˢ, _∷_ as _∷ˢ_}
 use Prim.Native.Char.{code}
@@ -9,6 +9,7 @@ use mathlib.Core.List.{List, [], _∷_, _++_}
 use mathlib.Core.Bool.{Bool, true, false, _&&_}
 use mathlib.Core.Option.{Option, some, none}
 use lib.Dec.{eqb}
+use lib.ListN.{length}
 use Rattle.definition.specs.Limits.{width}
 use Rattle.definition.specs.Res.{Res, ok, refuse, open-Res}
 use Rattle.definition.specs.Field.{open-Field}
@@ -29,18 +30,20 @@ use Rattle.definition.specs.Optimize.{open-Optimize}
 use Rattle.definition.specs.Lent.{entryNumbers, open-Lent}
 use Rattle.definition.specs.Compile.{FinalizedFunction, compileFiles, open-Compile}
 use Rattle.definition.specs.Alone.{open-Alone}
-use Rattle.definition.specs.Runs.{offCode, emptyStack, Step, goes, finishes, waits, breaks, Stand, open-Runs}
+use Rattle.definition.specs.Runs.{offCode, emptyStack, Step, goes, finishes, waits, breaks, Stand, start, open-Runs}
 use Rattle.definition.specs.Machine.{open-Machine}
 use Rattle.definition.specs.For.{open-For}
+use Rattle.definition.specs.Claims.{open-Claims}
 use Rattle.definition.specs.Check as check
 use Rattle.definition.specs.Check.{open-Check}
+use Rattle.definition.specs.Slowest.{isBack, executed, outcomeBytes, open-Slowest}
 use Rattle.definition.specs.Count.{open-Count}
 use Rattle.definition.specs.Listing.{text, listed, open-Listing}
 use Rattle.definition.specs.Passes.{open-Passes}
 
 -- `unfolding open-Definition` names every definition of the crate
 unfoldable pub open-Definition : Unit {0}
-unfolding open-Res open-Field open-Opcode open-Iec open-Sheet open-Rules open-Tree open-Meaning open-Program open-Emit open-Walk open-CompileExpr open-Expr open-Stmt open-Rewrite open-Optimize open-Lent open-Compile open-Alone open-Runs open-Machine open-For open-Check open-Count open-Listing open-Passes
+unfolding open-Res open-Field open-Opcode open-Iec open-Sheet open-Rules open-Tree open-Meaning open-Program open-Emit open-Walk open-CompileExpr open-Expr open-Stmt open-Rewrite open-Optimize open-Lent open-Compile open-Alone open-Runs open-Machine open-For open-Claims open-Check open-Slowest open-Count open-Listing open-Passes
 open-Definition = tt
 
 unfoldable pub bytes : String → List ℕ
@@ -306,3 +309,79 @@ allStood (x ∷ xs) = isStood x (readSheet plainSheet) && allStood xs
 pub images-right : allStood images ≡ true
 unfolding open-Definition bytes plainSheet same howNumber images standing isStood allStood
 images-right = refl
+
+-- ---- how long runs are (document 02, L12)
+
+-- code; how many branches of it wait for an outcome; the greatest number of instructions, and the outcomes that give it
+pub record Long : Type 0 where
+  pub code : List ℕ
+  pub asking : ℕ
+  pub count : ℕ
+  pub outcomes : List Bool
+
+unfoldable pub longRuns : List Long
+longRuns =
+    record { code = []; asking = 0; count = 0; outcomes = [] }
+    -- a RET counts, and what lies behind it is not run, wherever it leads
+    ∷ record { code = 0x1B ∷ []; asking = 0; count = 1; outcomes = [] }
+    ∷ record { code = 0x1B ∷ 0x18 ∷ 0x50 ∷ 0x00 ∷ []; asking = 0; count = 1; outcomes = [] }
+    -- a branch to the byte behind it: at a tie it falls through
+    ∷ record { code = 0x06 ∷ 0x19 ∷ 0x00 ∷ 0x00 ∷ []; asking = 1; count = 2; outcomes = false ∷ [] }
+    -- the jump is longer
+    ∷ record { code = 0x06 ∷ 0x19 ∷ 0x01 ∷ 0x00 ∷ 0x1B ∷ 0x06 ∷ 0x02 ∷ 0x1B ∷ []; asking = 1; count = 5; outcomes = true ∷ [] }
+    -- equal runs that end at two RETs
+    ∷ record { code = 0x06 ∷ 0x19 ∷ 0x04 ∷ 0x00 ∷ 0x1B ∷ 0x18 ∷ 0x01 ∷ 0x00 ∷ 0x1B ∷ []; asking = 1; count = 3; outcomes = false ∷ [] }
+    -- case e
+    ∷ record { code = 0x1A ∷ 0x04 ∷ 0x00 ∷ 0x00 ∷ 0x00 ∷ 0x00 ∷ 0x06 ∷ 0x00 ∷ 0x05 ∷ 0x01 ∷ 0x00 ∷ 0x04 ∷ 0x01 ∷ 0x00 ∷ []; asking = 1; count = 3; outcomes = false ∷ [] }
+    ∷ []
+
+-- the most instructions over lists of n outcomes more
+unfoldable pub mostOver : Sheet → List ℕ → ℕ → List Bool → ℕ
+mostOver s code zero os = executed s code (suc (length code)) (start os)
+mostOver s code (suc n) os = max (mostOver s code n (false ∷ os)) (mostOver s code n (true ∷ os))
+
+-- the outcomes are followed to a finish with none left, in so many instructions, and no list of outcomes gives more
+unfoldable pub isLong : Long → Option Sheet → Bool
+isLong x none = false
+isLong x (some s) =
+    let y = check.stands s (x .code) (x .outcomes) (suc (x .count)) in
+    same (howNumber (y .how) ∷ outcomeBytes (y .state .outcomes)) (1 ∷ []) && (eqb (executed s (x .code) (suc (x .count)) (start (x .outcomes))) (x .count) && eqb (mostOver s (x .code) (x .asking) []) (x .count))
+
+unfoldable pub allLong : List Long → Bool
+allLong [] = true
+allLong (x ∷ xs) = isLong x (readSheet plainSheet) && allLong xs
+
+pub longRuns-right : allLong longRuns ≡ true
+unfolding open-Definition bytes plainSheet same howNumber longRuns mostOver isLong allLong
+longRuns-right = refl
+
+-- code, and at which of its starts a branch stands that leads to its own start or before it
+unfoldable pub backs : List (List ℕ × List ℕ)
+backs =
+    -- one that nobody reaches
+    (0x1B ∷ 0x18 ∷ 0xFD ∷ 0xFF ∷ [], 1 ∷ [])
+    -- to the byte before it, to itself, into itself; below 0; forward, past the end
+    ∷ (0x06 ∷ 0x19 ∷ 0xFC ∷ 0xFF ∷ [], 1 ∷ [])
+    ∷ (0x1A ∷ 0x01 ∷ 0x00 ∷ 0x00 ∷ 0x00 ∷ 0x00 ∷ 0xF8 ∷ 0xFF ∷ [], 0 ∷ [])
+    ∷ (0x18 ∷ 0xFE ∷ 0xFF ∷ [], [])
+    ∷ (0x1B ∷ 0x18 ∷ 0x00 ∷ 0x80 ∷ [], 1 ∷ [])
+    ∷ (0x1B ∷ 0x18 ∷ 0x50 ∷ 0x00 ∷ [], [])
+    -- behind a stop of decoding
+    ∷ (0x1B ∷ 0xFF ∷ 0x18 ∷ 0xFD ∷ 0xFF ∷ [], [])
+    ∷ []
+
+unfoldable pub backsOf : Sheet → List ℕ → List ℕ → List ℕ
+backsOf s code [] = []
+backsOf s code (p ∷ ps) = elim (isBack s code p) [ true ↦ p ∷ backsOf s code ps | false ↦ backsOf s code ps ]
+
+unfoldable pub isBackAt : List ℕ × List ℕ → Option Sheet → Bool
+isBackAt x none = false
+isBackAt x (some s) = same (backsOf s (x .0) (check.starts s (x .0))) (x .1)
+
+unfoldable pub allBackAt : List (List ℕ × List ℕ) → Bool
+allBackAt [] = true
+allBackAt (x ∷ xs) = isBackAt x (readSheet plainSheet) && allBackAt xs
+
+pub backs-right : allBackAt backs ≡ true
+unfolding open-Definition bytes plainSheet same backs backsOf isBackAt allBackAt
+backs-right = refl

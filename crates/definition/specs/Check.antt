@@ -97,7 +97,7 @@ pub record Answers (s : Sheet) (code : List ℕ) (depth answer : ℕ) : Type 0 w
   pub passes : (answer ≡ 0) ↔ Passes s code depth
   pub neither : (answer ≡ 0) ↔ ((Astray s code → ⊥) × (HeightFault s code depth → ⊥))
 
--- what the call answers, number and place, "tested after 7 and 10"; 7's place is one at fault, any of them
+-- what the call answers, number and place, "tested after 14, 7 and 10" (nothing is lent here that 14 could test); 7's place is one at fault, any of them
 pub data Checks (sheet code : List ℕ) (depth : ℕ) : ℕ → ℕ → Type 0 where
   refusesSheet : {place : ℕ} → readSheet sheet ≡ none → sheetFault sheet place ≡ true → Checks sheet code depth badSheet place
   refusesLength : {s : Sheet} → readSheet sheet ≡ some s → maxCode < length code → Checks sheet code depth codeFull 0

@@ -24,6 +24,7 @@ pub mod For
 pub mod Fused
 pub mod Claims
 pub mod Check
+pub mod Slowest
 pub mod Count
 pub mod Listing
 pub mod Passes

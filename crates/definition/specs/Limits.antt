@@ -27,6 +27,10 @@ maxLines = 4096
 abbrev pub maxConstants : ℕ
 maxConstants = 1024
 
+-- branch outcomes of a slowest run (document 02, L12)
+abbrev pub maxOutcomes : ℕ
+maxOutcomes = 21845
+
 -- numbers that a line entry takes in a lent list: offset, line, column
 abbrev pub entrySize : ℕ
 entrySize = 3

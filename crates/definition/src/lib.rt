@@ -1,7 +1,7 @@
 // The limits, counts and refusal numbers of documents 01 and 02 for code, each shown to be the definition's (specs/Limits.antt, Opcode.antt, Rules.antt).
 ghost use mathlib.Core.Path.{_≡_};
 ghost use Prim.Native.Nat.{_*_};
-ghost use Rattle.definition.specs.Limits.{maxCode, maxBranches, maxLabels, maxProtected, maxLines, maxConstants, entrySize, maxProgram, maxNesting, maxVariables, maxField, maxRules, passCount, width, badText, badForm, badRange, noLoop, tooDeep, wrongLines, badSheet, badCode, badRule, codeFull, labelsFull, linesFull, constantsFull, outputShort, astray, badHeight};
+ghost use Rattle.definition.specs.Limits.{maxCode, maxBranches, maxLabels, maxProtected, maxLines, maxConstants, maxOutcomes, entrySize, maxProgram, maxNesting, maxVariables, maxField, maxRules, passCount, width, badText, badForm, badRange, noLoop, tooDeep, wrongLines, badSheet, badCode, badRule, codeFull, labelsFull, linesFull, constantsFull, outputShort, astray, badHeight};
 ghost use Rattle.definition.specs.Opcode.{roleCount, comparisonCount};
 ghost use Rattle.definition.specs.Rules.{nameable, lastTest, lastAction};
 
@@ -19,6 +19,8 @@ pub const MAX_LINES: usize = 4096;
 pub const ENTRY_SIZE: usize = 3;
 // Constants in the pool.
 pub const MAX_CONSTANTS: usize = 1024;
+// Branch outcomes of a slowest run.
+pub const MAX_OUTCOMES: usize = 21845;
 // Bytes of a program.
 pub const MAX_PROGRAM: usize = 65536;
 // Nesting levels of a program.
@@ -118,6 +120,12 @@ pub fn max_constants() -> usize
     ensures { λ r. ⌜ r ≡ maxConstants ⌝ }
 {
     MAX_CONSTANTS
+}
+
+pub fn max_outcomes() -> usize
+    ensures { λ r. ⌜ r ≡ maxOutcomes ⌝ }
+{
+    MAX_OUTCOMES
 }
 
 pub fn max_program() -> usize
