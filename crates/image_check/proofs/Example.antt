@@ -14,17 +14,17 @@ use Rattle.runs.proofs.Safe.{compiled-checks}
 use Rattle.image_check.proofs.Tells.{checks-by, open-Traversal}
 
 -- IF v0 > 3 THEN v0 := v0 + 1; ELSE RETURN; END_IF
-unfoldable text : List ℕ
+unfoldable pub text : List ℕ
 text = bytes "P,1,1,1,1\nI,1,1,1,1\nC,4\nD,0\nK,3\nA,2,1,0\nO,0\nD,0\nK,1\nR,3,1\n"
 
-unfoldable room : Room
+unfoldable pub room : Room
 room = record { code = maxCode; constants = maxConstants; lines = maxLines * entrySize }
 
 -- what the call answers
-unfoldable given : Answer
+unfoldable pub given : Answer
 given = answer room (compileInto 0 room plainSheet [] text)
 
-unfoldable open-Example : Unit {0}
+unfoldable pub open-Example : Unit {0}
 unfolding text room given open-Traversal
 open-Example = tt
 

@@ -1,21 +1,27 @@
--- A start of decoding holds a listed opcode, and lies before the end.
-use Prim.Native.Nat.{ℕ, _+_, _-_, suc, zero, _≤_, _<_}
-use mathlib.Core.Path.{_≡_, refl, sym, _∙_, ap, subst}
+-- A start of decoding holds a listed opcode; its instruction ends within the code, and no other start lies inside it.
+use Prim.Native.Nat.{ℕ, _+_, _≤_, _<_}
+use mathlib.Core.Path.{_≡_, refl, sym, _∙_, ap}
 use mathlib.Core.List.{List, [], _∷_}
 use mathlib.Core.Bool.{Bool, true, false}
-use mathlib.Core.Option.{Option, some, none}
+use mathlib.Core.Option.{some}
 use lib.ListN.{length, getD, drop}
+use lib.Seq.{getD-take}
 use lib.Dec.{eqb}
-use borrow.Author.Tests.{eq-eqb, ne-eqb, eqb-true, eqb-false}
+use borrow.Author.Tests.{eqb-true}
 use native.Mathlib.Omega.{arith}
-use Rattle.definition.specs.Field.{onto, has}
-use Rattle.definition.specs.Opcode.{Role, Sheet, roleOf}
-use Rattle.definition.specs.Rewrite.{Bytes, ends, sizeOr1, cut, decode, startsFrom}
+use native.Mathlib.Decide.{ℕ-discrete}
+use Rattle.definition.specs.Field.{has}
+use Rattle.definition.specs.Opcode.{Role, Sheet, roleOf, size}
+use Rattle.definition.specs.Rewrite.{Bytes, opcodeOf, decode, startsFrom}
+use Rattle.definition.specs.Claims.{Either, left, right}
 use Rattle.definition.specs.Check.{listed, upToUnlisted, starts}
-use Rattle.field.proofs.Lists.{has-first, has-later}
-use Rattle.field.proofs.Results.{never}
+use Rattle.field.proofs.Lists.{has-first, has-later, first-left}
+use Rattle.field.proofs.Results.{never, some-is}
+use Rattle.rewrite.specs.View.{firstOf}
+use Rattle.rewrite.proofs.Decoding.{size-positive, first-none, first-taken, first-is, first-within}
+use Rattle.rewrite.proofs.Decoding as decoding
 
-has-cases : (y : ℕ) (ys : List ℕ) (x : ℕ) (P : Type 0) → has (y ∷ ys) x ≡ true → (x ≡ y → P) → (has ys x ≡ true → P) → P
+pub has-cases : (y : ℕ) (ys : List ℕ) (x : ℕ) (P : Type 0) → has (y ∷ ys) x ≡ true → (x ≡ y → P) → (has ys x ≡ true → P) → P
 unfolding has
 has-cases y ys x P e f g = by (eqb x y) refl e
   where
@@ -23,63 +29,12 @@ has-cases y ys x P e f g = by (eqb x y) refl e
     by true k q = f (eqb-true x y k)
     by false k q = g q
 
--- the starts behind the open instruction
-opens : List Bytes → List ℕ
-opens [] = []
-opens (i ∷ is) = startsFrom (length i) is
-
-starts-up : (a : ℕ) (is : List Bytes) (p : ℕ) → has (startsFrom (suc a) is) p ≡ true → (q : ℕ) × (p ≡ suc q) × (has (startsFrom a is) q ≡ true)
+starts-low : (is : List Bytes) (at p : ℕ) → has (startsFrom at is) p ≡ true → at ≤ p
 unfolding startsFrom has
-starts-up a [] p e = never (cc)
-starts-up a (i ∷ is) p e = has-cases (suc a) (startsFrom (suc a + length i) is) p ((q : ℕ) × (p ≡ suc q) × (has (a ∷ startsFrom (a + length i) is) q ≡ true)) e
-    (λ k. (a, k, has-first a (startsFrom (a + length i) is) a refl))
-    (λ h.
-    let n : suc a + length i ≡ suc (a + length i) = omega arith in
-    let r = starts-up (a + length i) is p (subst (λ y. has (startsFrom y is) p ≡ true) n h) in
-    (r .0, r .1, has-later a (startsFrom (a + length i) is) (r .0) (r .2)))
+starts-low [] at p e = never (cc)
+starts-low (i ∷ is) at p e = has-cases at (startsFrom (at + length i) is) p (at ≤ p) e (λ k. omega arith) (λ h. let l = starts-low is (at + length i) p h in omega arith)
 
-opens-onto : (b : ℕ) (x : List Bytes) (p : ℕ) → has (opens (onto b x)) p ≡ true → (q : ℕ) × (p ≡ suc q) × (has (opens x) q ≡ true)
-unfolding opens onto startsFrom has
-opens-onto b [] p e = never (cc)
-opens-onto b (i ∷ is) p e = starts-up (length i) is p e
-
-pub Holds : Sheet → List ℕ → ℕ → Type 0
-Holds s code p = (p < length code) × (r : Role) × (roleOf s (getD code p 0) ≡ some r)
-
-one-on : (s : Sheet) (b : ℕ) (bs : List ℕ) (p : ℕ) → (q : ℕ) × (p ≡ suc q) × Holds s bs q → Holds s (b ∷ bs) p
-unfolding Holds
-one-on s b bs p a = let l = a .2 .0 in let e = a .1 in (omega arith, a .2 .1, ap (λ y. roleOf s (getD (b ∷ bs) y 0)) e ∙ a .2 .2)
-
-cut-holds : (s : Sheet) (bs : List ℕ) (n p : ℕ) → has (opens (cut s bs n)) p ≡ true → Holds s bs p
-unfolding cut opens startsFrom has Holds ends onto
-cut-holds s [] n p e = never (cc)
-cut-holds s (b ∷ bs) (suc n) p e = let a = opens-onto b (cut s bs n) p e in one-on s b bs p (a .0, a .1, cut-holds s bs n (a .0) (a .2))
-cut-holds s (b ∷ bs) zero p e = by (ends (roleOf s b) (length bs)) refl e (λ q h. cut-holds s bs (sizeOr1 (roleOf s b) - 1) q h)
-  where
-    role : (x : Option Role) → roleOf s b ≡ x → ends x (length bs) ≡ true → (r : Role) × (roleOf s b ≡ some r)
-    role none k t = never (cc)
-    role (some r) k t = (r, k)
-
-    tail : (x : List Bytes) → has (startsFrom 0 (onto b x)) p ≡ true → ((q : ℕ) → has (opens x) q ≡ true → Holds s bs q) → (r : Role) × (roleOf s b ≡ some r) → Holds s (b ∷ bs) p
-    tail [] h f r = has-cases 0 [] p (Holds s (b ∷ bs) p) h (λ k. (omega arith, r .0, ap (λ y. roleOf s (getD (b ∷ bs) y 0)) k ∙ r .1)) (λ z. never (cc))
-    tail (i ∷ is) h f r = has-cases 0 (startsFrom (0 + suc (length i)) is) p (Holds s (b ∷ bs) p) h (λ k. (omega arith, r .0, ap (λ y. roleOf s (getD (b ∷ bs) y 0)) k ∙ r .1))
-        (λ z. let n : 0 + suc (length i) ≡ suc (length i) = omega arith in let a = starts-up (length i) is p (subst (λ y. has (startsFrom y is) p ≡ true) n z) in one-on s b bs p (a .0, a .1, f (a .0) (a .2)))
-
-    by : (t : Bool) → ends (roleOf s b) (length bs) ≡ t
-        → has (opens (elim t [ true ↦ [] ∷ onto b (cut s bs (sizeOr1 (roleOf s b) - 1)) | false ↦ [] ∷ [] ])) p ≡ true
-        → ((q : ℕ) → has (opens (cut s bs (sizeOr1 (roleOf s b) - 1))) q ≡ true → Holds s bs q) → Holds s (b ∷ bs) p
-    by true k h f = tail (cut s bs (sizeOr1 (roleOf s b) - 1)) h f (role (roleOf s b) refl k)
-    by false k h f = never (cc)
-
-decode-opens : (s : Sheet) (code : List ℕ) → startsFrom 0 (decode s code) ≡ opens (cut s code 0)
-unfolding decode cut opens startsFrom
-decode-opens s [] = refl
-decode-opens s (b ∷ bs) = by (ends (roleOf s b) (length bs))
-  where
-    by : (t : Bool) → startsFrom 0 (drop 1 (elim t [ true ↦ [] ∷ onto b (cut s bs (sizeOr1 (roleOf s b) - 1)) | false ↦ [] ∷ [] ])) ≡ opens (elim t [ true ↦ [] ∷ onto b (cut s bs (sizeOr1 (roleOf s b) - 1)) | false ↦ [] ∷ [] ])
-    by true = refl
-    by false = refl
-
+-- up to an unlisted comparison byte they are starts too
 up-to : (s : Sheet) (is : List Bytes) (at p : ℕ) → has (startsFrom at (upToUnlisted s is)) p ≡ true → has (startsFrom at is) p ≡ true
 unfolding startsFrom upToUnlisted has
 up-to s [] at p e = e
@@ -90,6 +45,84 @@ up-to s (i ∷ is) at p e = by (listed s i) e (λ h. up-to s is (at + length i) 
     by true h f = has-cases at (startsFrom (at + length i) (upToUnlisted s is)) p (has (at ∷ startsFrom (at + length i) is) p ≡ true) h (λ k. has-first at (startsFrom (at + length i) is) p k) (λ k. has-later at (startsFrom (at + length i) is) p (f k))
     by false h f = never (cc)
 
-pub start-holds : (s : Sheet) (code : List ℕ) (p : ℕ) → has (starts s code) p ≡ true → (p < length code) × (r : Role) × (roleOf s (getD code p 0) ≡ some r)
-unfolding starts Holds
-start-holds s code p e = cut-holds s code 0 p (ap (λ y. has y p) (sym (decode-opens s code)) ∙ up-to s (decode s code) 0 p e)
+module _ (s : Sheet) (code : List ℕ) where
+  -- an instruction that decoding finds at a place
+  record Found (at : ℕ) (i : Bytes) (is : List Bytes) : Type 0 where
+    role : Role
+    known : roleOf s (getD code at 0) ≡ some role
+    long : length i ≡ size role
+    within : at + length i ≤ length code
+    rest : is ≡ decode s (drop (at + length i) code)
+
+  found : (at : ℕ) (i : Bytes) (is : List Bytes) → i ∷ is ≡ decode s (drop at code) → Found at i is
+  unfolding firstOf opcodeOf
+  found at i is e = by (ℕ-discrete (length i) 0)
+    where
+      here : i ≡ firstOf (decode s (drop at code))
+      here = ap firstOf e
+
+      by : Dec (length i ≡ 0) → Found at i is
+      by (yes z) = let n : i ∷ is ≡ [] = e ∙ first-none s code at i here z in never (cc)
+      by (no z) =
+          let full : 1 ≤ length i = omega (arith, z) in
+          let a = decoding.listed s code at i here full in
+          let op : getD code at 0 ≡ getD i 0 0 = sym (ap (λ x. getD x 0 0) (first-taken s code at i here full) ∙ (getD-take (length i) (drop at code) 0 0 full ∙ first-left at code 0)) in
+          record {
+            role = a .role;
+            known = ap (λ x. roleOf s x) op ∙ a .is;
+            long = a .long;
+            within = first-within s code at i here full;
+            rest = ap (drop 1) (e ∙ first-is s code at i here full);
+          }
+
+  -- at one of the starts `among` stands an instruction of the sheet, whole, and none of them lies inside it
+  record Held (among : List ℕ) (p : ℕ) : Type 0 where
+    role : Role
+    known : roleOf s (getD code p 0) ≡ some role
+    within : p + size role ≤ length code
+    apart : (q : ℕ) → has among q ≡ true → p < q → p + size role ≤ q
+
+  held : (is : List Bytes) (at : ℕ) → is ≡ decode s (drop at code) → (p : ℕ) → has (startsFrom at is) p ≡ true → Held (startsFrom at is) p
+  unfolding startsFrom has
+  held [] at e p h = never (cc)
+  held (i ∷ is) at e p h = by (found at i is e) (λ f k. held is (at + length i) f p k)
+    where
+      behind : List ℕ
+      behind = startsFrom (at + length i) is
+
+      by : Found at i is → (is ≡ decode s (drop (at + length i) code) → has behind p ≡ true → Held behind p) → Held (at ∷ behind) p
+      by f more = has-cases at behind p (Held (at ∷ behind) p) h
+          (λ k.
+          let l = f .long in
+          let w = f .within in
+          record {
+            role = f .role;
+            known = ap (λ x. roleOf s (getD code x 0)) k ∙ f .known;
+            within = omega arith;
+            apart = λ q j lt. has-cases at behind q (p + size (f .role) ≤ q) j (λ z. absurd (omega arith)) (λ m. let n = starts-low is (at + length i) q m in omega arith);
+          })
+          (λ k.
+          let a = more (f .rest) k in
+          let n = starts-low is (at + length i) p k in
+          record { role = a .role; known = a .known; within = a .within; apart = λ q j lt. has-cases at behind q (p + size (a .role) ≤ q) j (λ z. absurd (omega arith)) (λ m. a .apart q m lt) })
+
+  decoded : (p : ℕ) → has (starts s code) p ≡ true → has (startsFrom 0 (decode s code)) p ≡ true
+  unfolding starts
+  decoded p h = up-to s (decode s code) 0 p h
+
+  start-held : (p : ℕ) → has (starts s code) p ≡ true → Held (startsFrom 0 (decode s code)) p
+  start-held p h = held (decode s code) 0 refl p (decoded p h)
+
+  pub start-holds : (p : ℕ) → has (starts s code) p ≡ true → (p < length code) × (r : Role) × (roleOf s (getD code p 0) ≡ some r)
+  start-holds p h = let a = start-held p h in let z = size-positive (a .role) in let w = a .within in (omega arith, a .role, a .known)
+
+  -- the next start, or the end, comes behind the instruction
+  pub gap : (p q : ℕ) (r : Role) → has (starts s code) p ≡ true → roleOf s (getD code p 0) ≡ some r → Either (has (starts s code) q ≡ true) (q ≡ length code) → p < q → p + size r ≤ q
+  gap p q r h e where-is lt = rw (some-is (sym e ∙ a .known)) (by where-is)
+    where
+      a : Held (startsFrom 0 (decode s code)) p
+      a = start-held p h
+
+      by : Either (has (starts s code) q ≡ true) (q ≡ length code) → p + size (a .role) ≤ q
+      by (left k) = a .apart q (decoded q k) lt
+      by (right k) = let w = a .within in omega arith
