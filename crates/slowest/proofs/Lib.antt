@@ -1,0 +1,10 @@
+pub mod Longest
+pub mod Few
+pub mod One
+pub mod Answered
+pub mod Tells
+pub mod Example
+pub mod Ways
+pub mod Reading
+pub mod Swept
+pub mod Followed
