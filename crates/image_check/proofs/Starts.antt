@@ -116,6 +116,14 @@ module _ (s : Sheet) (code : List ℕ) where
   pub start-holds : (p : ℕ) → has (starts s code) p ≡ true → (p < length code) × (r : Role) × (roleOf s (getD code p 0) ≡ some r)
   start-holds p h = let a = start-held p h in let z = size-positive (a .role) in let w = a .within in (omega arith, a .role, a .known)
 
+  -- none at the end or past it
+  pub none-past : (p : ℕ) → length code ≤ p → has (starts s code) p ≡ false
+  none-past p l = by (has (starts s code) p) refl
+    where
+      by : (b : Bool) → has (starts s code) p ≡ b → b ≡ false
+      by true h = let k = start-holds p h .0 in absurd (omega arith)
+      by false h = refl
+
   -- the next start, or the end, comes behind the instruction
   pub gap : (p q : ℕ) (r : Role) → has (starts s code) p ≡ true → roleOf s (getD code p 0) ≡ some r → Either (has (starts s code) q ≡ true) (q ≡ length code) → p < q → p + size r ≤ q
   gap p q r h e where-is lt = rw (some-is (sym e ∙ a .known)) (by where-is)

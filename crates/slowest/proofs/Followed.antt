@@ -23,29 +23,16 @@ use Rattle.image_check.specs.View.{Admitted, Admits}
 use Rattle.image_check.proofs.Starts.{start-holds}
 use Rattle.image_check.proofs.Checking.{checks-code}
 use Rattle.slowest.specs.Longest.{Best, longest}
-use Rattle.slowest.specs.View.{wayAt, isLastWay, wayPlace, wayOutcomes, wayBytes, Counted, Fronted, Following, Follows, Works, refuses, loops, measures, bit, answerOf, Fronts}
+use Rattle.slowest.specs.View.{wayAt, isLastWay, wayPlace, wayOutcomes, wayBytes, Counted, Fronted, Following, Follows, Works, refuses, loops, measures, bit, answerView, Fronts}
 use Rattle.slowest.specs.declared.Way.{Way}
 use Rattle.slowest.specs.declared.Way.the-variants.{Ends}
 use Rattle.slowest.specs.declared.Measured.{Measured}
 use Rattle.slowest.proofs.Longest.{slowest}
 use Rattle.slowest.proofs.Few.{few}
+use Rattle.slowest.proofs.Bits.{length-bytes, append-bytes}
 use Rattle.slowest.proofs.Ways.{bestWay, ends-way, goes-way, Leads, leads-on}
 use Rattle.slowest.proofs.Reading.{way-off}
 use Rattle.slowest.proofs.Swept.{leads-at, longest-at, right-from}
-
--- ---- bytes of outcomes
-
-append-bytes : (os us : List Bool) → outcomeBytes (os ++ us) ≡ outcomeBytes os ++ outcomeBytes us
-unfolding outcomeBytes
-append-bytes [] us = refl
-append-bytes (true ∷ os) us = ap (λ xs. 1 ∷ xs) (append-bytes os us)
-append-bytes (false ∷ os) us = ap (λ xs. 0 ∷ xs) (append-bytes os us)
-
-length-bytes : (os : List Bool) → length (outcomeBytes os) ≡ length os
-unfolding outcomeBytes
-length-bytes [] = refl
-length-bytes (true ∷ os) = ap suc (length-bytes os)
-length-bytes (false ∷ os) = ap suc (length-bytes os)
 
 -- ---- the walk
 
@@ -136,8 +123,8 @@ module _ (sheet code : List ℕ) (depth : ℕ) (outcomes : List ℕ) where
   none-given : zeros room ≡ zeroedFrom 0 outcomes
   none-given = sym (zero-all outcomes refl)
 
-  fronts-refused : (number place : ℕ) → M (refused room number place) → M (answerOf (record { number = number; place = place; loops = false; count = 0; outcomes = 0 }) (zeroedFrom 0 outcomes))
-  unfolding refused answerOf bit
+  fronts-refused : (number place : ℕ) → M (refused room number place) → M (answerView (record { number = number; place = place; loops = false; count = 0; outcomes = 0 }) (zeroedFrom 0 outcomes))
+  unfolding refused answerView bit
   fronts-refused number place m = subst (λ out. M (record { number = number; place = place; loops = 0; count = 0; outcomeCount = 0; outcomes = out })) none-given m
 
   by-result : {r t : Measured} → r ≡ t → Fronts sheet code depth outcomes t → Fronts sheet code depth outcomes r
@@ -151,7 +138,7 @@ module _ (sheet code : List ℕ) (depth : ℕ) (outcomes : List ℕ) where
     fronts-unfit {number = number} {place = place} a n e = by-result e (fronts-refused number place (def.refuses enough (a .refuses n depth) n))
 
     pub fronts-worked : {table : List ℕ} {place : ℕ} {r : Measured} → Admitted sheet code table place → Works table code depth outcomes r → Fronts sheet code depth outcomes r
-    unfolding looping measured filled answerOf bit zeroedFrom
+    unfolding looping measured filled answerView bit zeroedFrom
     fronts-worked a (refuses {n = n} x z) = fronts-refused n 0 (def.refuses enough (checks-code a x) z)
     fronts-worked a (loops x l) = subst (λ out. M (record { number = 0; place = 0; loops = 1; count = 0; outcomeCount = 0; outcomes = out })) none-given (def.loops enough (a .read) (checks-code a x) l)
     fronts-worked a (measures {count = count} {n = n} {os = os} x straight run least f) =
@@ -160,5 +147,5 @@ module _ (sheet code : List ℕ) (depth : ℕ) (outcomes : List ℕ) where
         (subst (λ out. M (record { number = 0; place = 0; loops = 0; count = count; outcomeCount = length os; outcomes = out })) e (def.measures enough (a .read) (checks-code a x) straight run least))
 
 -- what is zeroed behind the outcomes is all of it
-pub measures-zeroed : (sheet code : List ℕ) (depth : ℕ) (outcomes : List ℕ) (r : Measured) {out : List ℕ} {room : ℕ} → Fronts sheet code depth outcomes r → out ≡ zeroedFrom (r .outcomes) outcomes → length outcomes ≡ room → Measures room sheet code depth (answerOf r out)
-measures-zeroed sheet code depth outcomes r {out = out} f e k = subst (λ n. Measures n sheet code depth (answerOf r out)) k (subst (λ out. Measures (length outcomes) sheet code depth (answerOf r out)) (sym e) f)
+pub measures-zeroed : (sheet code : List ℕ) (depth : ℕ) (outcomes : List ℕ) (r : Measured) {out : List ℕ} {room : ℕ} → Fronts sheet code depth outcomes r → out ≡ zeroedFrom (r .outcomes) outcomes → length outcomes ≡ room → Measures room sheet code depth (answerView r out)
+measures-zeroed sheet code depth outcomes r {out = out} f e k = subst (λ n. Measures n sheet code depth (answerView r out)) k (subst (λ out. Measures (length outcomes) sheet code depth (answerView r out)) (sym e) f)

@@ -1,3 +1,4 @@
+pub mod Bits
 pub mod Longest
 pub mod Few
 pub mod One

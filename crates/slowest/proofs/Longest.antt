@@ -18,7 +18,7 @@ use Rattle.definition.specs.Slowest.{leadsBack, backBy, isBack, Loops, ran, exe
 use Rattle.field.proofs.Results.{never}
 use Rattle.rewrite.proofs.Decoding.{size-positive}
 use Rattle.runs.proofs.Steps.{over-end, over-off, over-start}
-use Rattle.image_check.proofs.Starts.{start-holds}
+use Rattle.image_check.proofs.Starts.{start-holds, none-past}
 use Rattle.image_check.proofs.Nodes.{executeBy, execute-by}
 use Rattle.slowest.specs.Longest.{Best, nothing, onwards, choose, bestTo, bestFlow, bestRole, best, longest}
 
@@ -123,13 +123,6 @@ module _ (s : Sheet) (code : List ℕ) (straight : Loops s code → ⊥) where
         by false k = leb-false q p k
 
   -- ---- the law of `longest`
-  past : (p : ℕ) → L ≤ p → has S p ≡ false
-  past p l = by (has S p) refl
-    where
-      by : (b : Bool) → has S p ≡ b → b ≡ false
-      by true h = let k = start-holds s code p h .0 in absurd (omega arith)
-      by false h = refl
-
   bestBy : Bool → Bool → Option Role → ℕ → (ℕ → Best) → Best
   bestBy end start r p f = elim end [ true ↦ nothing | false ↦ elim start [ true ↦ bestRole r code p f | false ↦ nothing ] ]
 
@@ -151,8 +144,8 @@ module _ (s : Sheet) (code : List ℕ) (straight : Loops s code → ⊥) where
 
   -- how many instructions it is worked out over does not matter once they reach the end, since each leads forward
   enough : (m n p : ℕ) → L < m + p → L < n + p → best s code m p ≡ best s code n p
-  enough zero n p k l = best-off zero p (past p (omega arith)) ∙ sym (best-off n p (past p (omega arith)))
-  enough (suc m) zero p k l = best-off (suc m) p (past p (omega arith)) ∙ sym (best-off zero p (past p (omega arith)))
+  enough zero n p k l = best-off zero p (none-past s code p (omega arith)) ∙ sym (best-off n p (none-past s code p (omega arith)))
+  enough (suc m) zero p k l = best-off (suc m) p (none-past s code p (omega arith)) ∙ sym (best-off zero p (none-past s code p (omega arith)))
   enough (suc m) (suc n) p k l = by (has S p) refl (λ q a b. enough m n q a b)
     where
       by : (b : Bool) → has S p ≡ b → ((q : ℕ) → L < m + q → L < n + q → best s code m q ≡ best s code n q) → best s code (suc m) p ≡ best s code (suc n) p
@@ -170,7 +163,7 @@ module _ (s : Sheet) (code : List ℕ) (straight : Loops s code → ⊥) where
 
   -- the end is no start
   pub longest-past : (p : ℕ) → length code ≤ p → longest s code p ≡ nothing
-  longest-past p l = longest-off p (past p l)
+  longest-past p l = longest-off p (none-past s code p l)
 
   pub longest-role : (p : ℕ) (r : Role) → has (starts s code) p ≡ true → roleOf s (getD code p 0) ≡ some r → longest s code p ≡ bestFlow (flow r) code (p + size r) (λ q. longest s code q)
   unfolding longest

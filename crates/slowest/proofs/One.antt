@@ -16,6 +16,7 @@ use Rattle.definition.specs.Slowest.{Loops, Finishes, FallsFirst, Slowest, Answ
 use Rattle.field.proofs.Results.{never, some-is}
 use Rattle.runs.proofs.Safe.{lent}
 use Rattle.image_check.proofs.One.{one-number}
+use Rattle.slowest.proofs.Bits.{length-bytes}
 
 -- ---- one run
 
@@ -81,12 +82,6 @@ one-measure {room = room} {code = code} (measures l e c f x i) (measures {count 
 
 -- ---- what a caller knows
 
-bytes-length : (os : List Bool) → length (outcomeBytes os) ≡ length os
-unfolding outcomeBytes
-bytes-length [] = refl
-bytes-length (true ∷ os) = ap suc (bytes-length os)
-bytes-length (false ∷ os) = ap suc (bytes-length os)
-
 -- of an answer with a number of instructions
 pub record Known (sheet code : List ℕ) (depth : ℕ) (a : Answer) : Type 0 where
   pub s : Sheet
@@ -114,7 +109,7 @@ module _ {room : ℕ} {sheet code : List ℕ} {depth : ℕ} where
     slowest = x;
     few = i;
     long = refl;
-    given = ap (λ k. take k (filled room (outcomeBytes os))) (sym (bytes-length os)) ∙ lent room (outcomeBytes os);
+    given = ap (λ k. take k (filled room (outcomeBytes os))) (sym (length-bytes os)) ∙ lent room (outcomeBytes os);
   }
 
   pub loops-is : {a : Answer} → Measures room sheet code depth a → a .loops ≡ 1 → (s : Sheet) × (readSheet sheet ≡ some s) × Loops s code

@@ -24,7 +24,6 @@ use Rattle.opcode.specs.declared.Traits.{Traits}
 use Rattle.runs.proofs.Roles.{branch-size}
 use Rattle.field.proofs.Results.{never}
 use Rattle.image_check.specs.View.{placeOr, flagged, Image, TraitsAt}
-use Rattle.image_check.proofs.Starts.{start-holds}
 use Rattle.slowest.specs.View.{countIn, ahead, longer, wayBy, wayRole, wayAt, isLastWay, wayPlace, lastCount, wayCount, wayOutcomes, wayBytes}
 use Rattle.slowest.specs.declared.Way.{Way}
 use Rattle.slowest.specs.declared.Way.the-variants.{Back, Ends, Onwards, Falls, Jumps}
@@ -101,13 +100,6 @@ module _ (code : List ℕ) (p next : ℕ) (f : ℕ → ℕ) (fl : Flow) where
     either-jumps e l m = sym (on (longer f next q) l ∙ ap (λ b. elim b as (λ c. Way) [ true ↦ Falls next | false ↦ Jumps q ]) (lt-leb (f q) (f next) m)) ∙ either-by e
 
 -- ---- places
-
-pub past-end : (s : Sheet) (code : List ℕ) (p : ℕ) → length code ≤ p → has (starts s code) p ≡ false
-past-end s code p l = by (has (starts s code) p) refl
-  where
-    by : (b : Bool) → has (starts s code) p ≡ b → b ≡ false
-    by true h = let k = start-holds s code p h .0 in absurd (omega arith)
-    by false h = refl
 
 module _ (sheet code flags : List ℕ) (image : Image sheet code flags) (p : ℕ) (lt : p < length code) where
   pub no-start : getD flags p 0 ≡ 0 → has (starts (sheetIn sheet) code) p ≡ false

@@ -142,9 +142,9 @@ bit true = 1
 bit false = 0
 
 -- the answer, with all that the output holds
-unfoldable pub answerOf : Measured → List ℕ → Answer
-answerOf r outcomes = record { number = r .number; place = r .place; loops = bit (r .loops); count = r .count; outcomeCount = r .outcomes; outcomes = outcomes }
+unfoldable pub answerView : Measured → List ℕ → Answer
+answerView r outcomes = record { number = r .number; place = r .place; loops = bit (r .loops); count = r .count; outcomeCount = r .outcomes; outcomes = outcomes }
 
 -- it is the answer once the output is zeroed behind the outcomes
 abbrev pub Fronts : List ℕ → List ℕ → ℕ → List ℕ → Measured → Type 0
-Fronts sheet code depth outcomes r = Measures (length outcomes) sheet code depth (answerOf r (zeroedFrom (r .outcomes) outcomes))
+Fronts sheet code depth outcomes r = Measures (length outcomes) sheet code depth (answerView r (zeroedFrom (r .outcomes) outcomes))

@@ -11,7 +11,7 @@ ghost use Rattle.opcode.specs.Table.{IsTable, sheetIn};
 ghost use Rattle.rewrite.specs.View.{Clear};
 ghost use Rattle.store.specs.Store.{at, pushAll};
 ghost use Rattle.image_check.specs.View.{Image};
-ghost use Rattle.slowest.specs.View.{countIn, wayBy, wayAt, isBackWay, isLastWay, lastCount, wayPlace, wayCount, wayBytes, Counted, Sweeps, Follows, Works, Fronts, answerOf};
+ghost use Rattle.slowest.specs.View.{countIn, wayBy, wayAt, isBackWay, isLastWay, lastCount, wayPlace, wayCount, wayBytes, Counted, Sweeps, Follows, Works, Fronts, answerView};
 use definition::MAX_OUTCOMES;
 use definition::OUTPUT_SHORT;
 use opcode::Flow;
@@ -304,7 +304,7 @@ fn measure(sheet: &[u8], code: &[u8], depth: u64, outcomes: &mut [u8]) -> Measur
 
 // The slowest call of code, checked as an image first, from any bytes into any output.
 pub fn slowest(sheet: &[u8], code: &[u8], depth: u64, outcomes: &mut [u8]) -> Measured
-    ensures { λ r. ⌜ Measures (length (now (outcomes .entry))) (now (sheet .entry)) (now (code .entry)) depth (answerOf r (now (outcomes .exit))) ⌝ }
+    ensures { λ r. ⌜ Measures (length (now (outcomes .entry))) (now (sheet .entry)) (now (code .entry)) depth (answerView r (now (outcomes .exit))) ⌝ }
 {
     let r = measure(sheet, code, depth, outcomes);
     store::zero_bytes(outcomes, r.outcomes);
