@@ -9,9 +9,10 @@
 #include <stdio.h>
 #include <stdlib.h>
 
+#include "instructions.h"
 #include "mezhukan.h"
 
-enum { ROLES = 27, BYTES = 256, FIRST_ROOM = 4096 };
+enum { FIRST_ROOM = 4096 };
 
 /* A part of the input. Its pointer is never null, which the library asks for. */
 struct text {
@@ -57,28 +58,6 @@ static int rule_count(struct text line) {
     return number;
 }
 
-static size_t size_of_role(unsigned role) {
-    switch (role) {
-    case 2: case 3: case 4: case 23: case 24: return 3; /* loads and stores, JMP, JMP_IF_NOT: a 16-bit operand */
-    case 25: return 8; /* CMP_BR: comparison, variable, constant, offset */
-    default: return 1;
-    }
-}
-
-/* How long the instruction is that starts with a byte, by a sheet that was accepted: its first numbers are the opcodes of the roles. */
-static void read_sizes(struct text sheet, size_t sizes[BYTES]) {
-    unsigned opcode = 0, role = 0;
-    for (size_t i = 0; i < BYTES; i++) sizes[i] = 1;
-    for (size_t i = 0; i < sheet.length && role < ROLES; i++) {
-        if (sheet.at[i] == ',') {
-            sizes[opcode] = size_of_role(role++);
-            opcode = 0;
-        } else {
-            opcode = opcode * 10 + (unsigned)(sheet.at[i] - '0');
-        }
-    }
-}
-
 static long signed_value(uint32_t bits) {
     return bits <= INT32_MAX ? (long)bits : -1 - (long)(UINT32_MAX - bits);
 }
@@ -88,10 +67,10 @@ static void print_refusal(unsigned long number, unsigned long place) {
 }
 
 static void print_code(struct text sheet, const uint8_t *code, size_t length) {
-    size_t sizes[BYTES];
-    read_sizes(sheet, sizes);
+    enum kind kinds[BYTES];
+    read_kinds(sheet.at, sheet.length, kinds);
     for (size_t at = 0, next; at < length; at = next) {
-        next = at + sizes[code[at]];
+        next = at + size_of_kind[kinds[code[at]]];
         printf("b,%zu", at);
         for (size_t i = at; i < next; i++) printf(",%u", (unsigned)code[i]);
         printf("\n");

@@ -11,6 +11,8 @@
 use std::io::{self, BufWriter, Read, Write};
 
 use mezhukan::{Compiled, Refusal, MAX_RULES};
+use shared::instructions::kinds;
+use shared::numbers::number;
 
 const BAD_COUNT: &str = "9,0";
 
@@ -60,10 +62,10 @@ fn print(sheet: &[u8], compiled: &Compiled, out: &mut impl Write) -> io::Result<
     for entry in lines {
         writeln!(out, "l,{},{},{}", entry.offset, entry.line, entry.column)?;
     }
-    let sizes = sizes(sheet);
+    let kinds = kinds(sheet);
     let mut at = 0;
     while at < code.len() {
-        let (instruction, _) = code[at..].split_at(sizes[usize::from(code[at])]);
+        let (instruction, _) = code[at..].split_at(kinds[usize::from(code[at])].size());
         write!(out, "b,{at}")?;
         for byte in instruction {
             write!(out, ",{byte}")?;
@@ -82,23 +84,6 @@ fn cut_lines(text: &[u8], count: usize) -> (&[u8], &[u8]) {
 
 /// The number in a count line, if it is one: digits without a leading zero, at most [`MAX_RULES`], then LF.
 fn rule_count(line: &[u8]) -> Option<usize> {
-    let digits = line.strip_suffix(b"\n")?;
-    let plain = digits.iter().all(u8::is_ascii_digit) && (digits.len() == 1 || !digits.starts_with(b"0"));
-    let number: usize = std::str::from_utf8(digits).ok()?.parse().ok()?;
-    (plain && number <= MAX_RULES).then_some(number)
-}
-
-/// How long the instruction is that starts with a byte, by the sheet: its first 27 numbers are the opcodes of the roles.
-fn sizes(sheet: &[u8]) -> [usize; 256] {
-    const ROLES: usize = 27;
-    let mut sizes = [1; 256];
-    for (role, opcode) in sheet.split(|byte| *byte == b',').take(ROLES).enumerate() {
-        let opcode = opcode.iter().fold(0, |number, digit| number * 10 + usize::from(digit - b'0'));
-        sizes[opcode] = match role {
-            2..=4 | 23 | 24 => 3, // loads and stores, JMP, JMP_IF_NOT: a 16-bit operand
-            25 => 8,              // CMP_BR: comparison, variable, constant, offset
-            _ => 1,
-        };
-    }
-    sizes
+    let number = number(line.strip_suffix(b"\n")?)?.try_into().ok()?;
+    (number <= MAX_RULES).then_some(number)
 }
