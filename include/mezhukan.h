@@ -1,5 +1,5 @@
-/* Mezhukan for C: a dial program turned into branch code, rewriting called alone, and the check of an image. The library is
- * target/staticlib/libmezhukan.a (`rt staticlib mezhukan`, x86-64); what is proved of the three functions stands in crates/mezhukan/src/lib.rt.
+/* Mezhukan for C: a dial program turned into branch code, rewriting called alone, the check of an image, and the slowest call. The library is
+ * target/staticlib/libmezhukan.a (`rt staticlib mezhukan`, x86-64); what is proved of the four functions stands in crates/mezhukan/src/lib.rt.
  *
  * A list is a pointer and a count of elements. Nothing is required of the contents of any list, nor of its length. What C must see to itself:
  * a pointer is not null and is aligned for its elements, even where the count is 0; so many elements stand there; no output overlaps
@@ -25,6 +25,7 @@ extern "C" {
 #define MEZHUKAN_MAX_PROTECTED 4096  /* protected offsets of rewriting called alone */
 #define MEZHUKAN_MAX_LABELS 4096     /* labels that emission creates */
 #define MEZHUKAN_MAX_BRANCHES (MEZHUKAN_MAX_CODE / 3) /* branches in the code: the smallest has three bytes */
+#define MEZHUKAN_MAX_OUTCOMES 21845  /* branch outcomes of the slowest call */
 #define MEZHUKAN_MAX_PROGRAM 65536   /* bytes of a program */
 #define MEZHUKAN_MAX_NESTING 64      /* nesting levels of a program */
 #define MEZHUKAN_MAX_VARIABLES 1024  /* variables of a program */
@@ -52,15 +53,15 @@ extern "C" {
 #define MEZHUKAN_LINES_FULL 12      /* line entries over their limit */
 #define MEZHUKAN_CONSTANTS_FULL 13  /* constants over their limit */
 #define MEZHUKAN_OUTPUT_SHORT 14    /* an output shorter than its limit */
-#define MEZHUKAN_ASTRAY 20          /* check of an image: a run reaches a place that is neither start nor end, heights ignored */
-#define MEZHUKAN_BAD_HEIGHT 21      /* check of an image: an empty stack popped, the depth exceeded, an unempty end, or a start at two heights */
+#define MEZHUKAN_ASTRAY 20          /* an image's code: a run reaches a place that is neither start nor end, heights ignored */
+#define MEZHUKAN_BAD_HEIGHT 21      /* an image's code: an empty stack popped, the depth exceeded, an unempty end, or a start at two heights */
 
 /* What stands where in an answer: first the refusal's number, or 0, and its place, or 0; after a refusal all others are 0. */
 enum {
     MEZHUKAN_NUMBER = 0,
     MEZHUKAN_PLACE = 1,
     MEZHUKAN_CHECKED = 2,     /* of the check: numbers of its answer */
-    MEZHUKAN_CODE_LENGTH = 2, /* of the other two: bytes of code given back */
+    MEZHUKAN_CODE_LENGTH = 2, /* of the call and of rewriting alone: bytes of code given back */
 
     MEZHUKAN_DEPTH = 3,          /* of the call: no run of the code goes above this height of the stack */
     MEZHUKAN_CONSTANT_COUNT = 4, /* of the call: constants given back */
@@ -69,7 +70,12 @@ enum {
 
     MEZHUKAN_ALONE_PROTECTED_COUNT = 3, /* of rewriting alone: protected offsets given back */
     MEZHUKAN_ALONE_ENTRY_COUNT = 4,     /* of rewriting alone: line entries given back */
-    MEZHUKAN_REWRITTEN = 5              /* of rewriting alone: numbers of its answer */
+    MEZHUKAN_REWRITTEN = 5,             /* of rewriting alone: numbers of its answer */
+
+    MEZHUKAN_LOOPS = 2,             /* of the slowest call: 1 if the code holds a branch to its own start or before it, else 0 */
+    MEZHUKAN_INSTRUCTION_COUNT = 3, /* of the slowest call: instructions on its longest run; 0 where it loops */
+    MEZHUKAN_OUTCOME_COUNT = 4,     /* of the slowest call: outcomes given back */
+    MEZHUKAN_MEASURED = 5           /* of the slowest call: numbers of its answer */
 };
 
 /* The call. The result is the answer's number: 0, or a refusal's. */
@@ -102,6 +108,18 @@ uint8_t mezhukan_check_image(
     const uint8_t *code, size_t code_length,   /* the image's code */
     uint64_t depth,                            /* its declared depth, any number */
     uint64_t answer[MEZHUKAN_CHECKED]);        /* out: every element is set */
+
+/* The slowest call: the greatest number of instructions on any run of the code, a RET counted, and the branch outcomes that produce it, one for
+ * each JMP_IF_NOT and CMP_BR on the way, in order; of equally long runs the one that falls through where they first differ. The code is an image's, or
+ * what mezhukan_compile gave back, with its depth. Where a start of it, as the check decodes them, holds a branch to its own start or before it,
+ * reached or not, MEZHUKAN_LOOPS is 1 and there is neither count nor outcome: that is no refusal. Which variables and constants the code names is
+ * not looked at. The result is the answer's number: 0, or the first of 14, 7, 10, 20 and 21 that holds. */
+uint8_t mezhukan_slowest(
+    const uint8_t *sheet, size_t sheet_length, /* the opcode sheet */
+    const uint8_t *code, size_t code_length,   /* the code */
+    uint64_t depth,                            /* its depth, any number */
+    uint8_t *outcomes, size_t outcomes_length, /* out: the outcomes, a byte each, 1 if taken, then 0; at least MEZHUKAN_MAX_OUTCOMES */
+    uint64_t answer[MEZHUKAN_MEASURED]);       /* out: every element is set */
 
 #ifdef __cplusplus
 }

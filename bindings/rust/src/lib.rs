@@ -1,6 +1,6 @@
-//! Mezhukan for Rust: a dial program turned into branch code, rewriting called alone, and the check of an image.
+//! Mezhukan for Rust: a dial program turned into branch code, rewriting called alone, the check of an image, and the slowest call.
 //!
-//! What is proved of the three functions behind this crate stands in `crates/mezhukan/src/lib.rt` of the repository: for every content of the
+//! What is proved of the four functions behind this crate stands in `crates/mezhukan/src/lib.rt` of the repository: for every content of the
 //! inputs, and outputs of every length, the answer is the definition's. So nothing is required of a caller, and nothing here panics on
 //! account of an input. This crate itself is not proved: it hands slices over and takes the answer apart.
 //!
@@ -25,8 +25,8 @@
 //!
 //! A call keeps nothing between calls, so threads may call at once. It takes its room from the stack, the more the deeper a program nests;
 //! `docs/DECISIONS.md` of the repository has what was measured. Give a thread [`STACK`] bytes; Rust's own threads have more. The library uses
-//! no heap: [`compile`] and [`rewrite_alone`] make vectors for the outputs, [`compile_into`], [`rewrite_alone_into`] and [`check_image`] do not,
-//! and are all that is left without the feature `alloc`.
+//! no heap: [`compile`], [`rewrite_alone`] and [`slowest`] make vectors for the outputs, [`compile_into`], [`rewrite_alone_into`],
+//! [`slowest_into`] and [`check_image`] do not, and are all that is left without the feature `alloc`.
 
 #![no_std]
 #![deny(missing_docs)]
@@ -42,7 +42,7 @@ mod refusal;
 
 pub use limits::*;
 #[cfg(feature = "alloc")]
-pub use owned::{compile, rewrite_alone, Compiled, Rewritten};
+pub use owned::{compile, rewrite_alone, slowest, Compiled, Rewritten, Slowest};
 pub use refusal::{Reason, Refusal};
 
 extern "C" {
@@ -90,6 +90,17 @@ extern "C" {
         depth: u64,
         answer: *mut [u64; CHECKED],
     ) -> u8;
+
+    fn mezhukan_slowest(
+        sheet: *const u8,
+        sheet_length: usize,
+        code: *const u8,
+        code_length: usize,
+        depth: u64,
+        outcomes: *mut u8,
+        outcomes_length: usize,
+        answer: *mut [u64; MEASURED],
+    ) -> u8;
 }
 
 /// Which source position the code from an offset on has, up to the next entry's offset.
@@ -129,6 +140,20 @@ pub struct RewrittenIn<'a> {
     pub protected: &'a [u16],
     /// The line entries that were kept, at their new offsets.
     pub lines: &'a [LineEntry],
+}
+
+/// How many instructions a call of code can take, in the output that was lent.
+#[derive(Clone, Copy, Debug, PartialEq, Eq)]
+pub enum SlowestIn<'a> {
+    /// The code holds a branch to its own start or before it, reached or not: there is no count.
+    Loops,
+    /// Every branch leads forward; this is the longest run.
+    Run {
+        /// Instructions on it, a RET counted.
+        count: u64,
+        /// The outcome of each conditional branch on it, in order: 1 if taken, else 0.
+        outcomes: &'a [u8],
+    },
 }
 
 /// Turns a dial program into branch code, in lent outputs; allocates nothing.
@@ -245,4 +270,37 @@ pub fn check_image(sheet: &[u8], code: &[u8], depth: u64) -> Result<(), Refusal>
         unsafe { mezhukan_check_image(sheet.as_ptr(), sheet.len(), code.as_ptr(), code.len(), depth, &mut answer) };
     let [_, place] = answer;
     refusal::none(number, place)
+}
+
+/// The slowest call of code, an image's or what [`compile_into`] gave back, with its depth; allocates nothing.
+///
+/// Of equally long runs it is the one that falls through where they first differ. Where `outcomes` is shorter than [`MAX_OUTCOMES`] it is refused
+/// with 14; else the refusal is the first of 7, 10, 20 and 21 that holds, as [`check_image`] gives it. Every element of `outcomes` is set: what
+/// lies behind the result, and where there is no count everything, is 0.
+pub fn slowest_into<'a>(
+    sheet: &[u8],
+    code: &[u8],
+    depth: u64,
+    outcomes: &'a mut [u8],
+) -> Result<SlowestIn<'a>, Refusal> {
+    let mut answer = [0; MEASURED];
+    // SAFETY: as in `compile_into`.
+    let number = unsafe {
+        mezhukan_slowest(
+            sheet.as_ptr(),
+            sheet.len(),
+            code.as_ptr(),
+            code.len(),
+            depth,
+            outcomes.as_mut_ptr(),
+            outcomes.len(),
+            &mut answer,
+        )
+    };
+    let [_, place, loops, count, branches] = answer;
+    refusal::none(number, place)?;
+    Ok(match loops {
+        0 => SlowestIn::Run { count, outcomes: &outcomes[..branches as usize] },
+        _ => SlowestIn::Loops,
+    })
 }

@@ -14,6 +14,8 @@ pub const MAX_PROTECTED: usize = 4096;
 pub const MAX_LABELS: usize = 4096;
 /// Branches in the code: the smallest has three bytes.
 pub const MAX_BRANCHES: usize = MAX_CODE / 3;
+/// Branch outcomes of the slowest call.
+pub const MAX_OUTCOMES: usize = 21845;
 /// Bytes of a program.
 pub const MAX_PROGRAM: usize = 65536;
 /// Nesting levels of a program.
@@ -32,7 +34,8 @@ pub const WIDTH: usize = 32;
 /// Bytes of stack for a thread that calls.
 pub const STACK: usize = 524288;
 
-// Numbers of an answer of the call, of rewriting called alone, and of the check of an image.
+// Numbers of an answer of the call, of rewriting called alone, of the check of an image, and of the slowest call.
 pub(crate) const COMPILED: usize = 6;
 pub(crate) const REWRITTEN: usize = 5;
 pub(crate) const CHECKED: usize = 2;
+pub(crate) const MEASURED: usize = 5;

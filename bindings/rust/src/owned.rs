@@ -3,8 +3,9 @@
 use alloc::vec;
 use alloc::vec::Vec;
 
-use crate::{compile_into, rewrite_alone_into, CompiledIn, LineEntry, Refusal, RewrittenIn};
-use crate::{MAX_CODE, MAX_CONSTANTS, MAX_LINES, MAX_PROTECTED};
+use crate::{compile_into, rewrite_alone_into, slowest_into};
+use crate::{CompiledIn, LineEntry, Refusal, RewrittenIn, SlowestIn};
+use crate::{MAX_CODE, MAX_CONSTANTS, MAX_LINES, MAX_OUTCOMES, MAX_PROTECTED};
 
 /// What a dial program became.
 #[derive(Clone, Debug, PartialEq, Eq)]
@@ -28,6 +29,20 @@ pub struct Rewritten {
     pub protected: Vec<u16>,
     /// The line entries that were kept, at their new offsets.
     pub lines: Vec<LineEntry>,
+}
+
+/// How many instructions a call of code can take.
+#[derive(Clone, Debug, PartialEq, Eq)]
+pub enum Slowest {
+    /// The code holds a branch to its own start or before it, reached or not: there is no count.
+    Loops,
+    /// Every branch leads forward; this is the longest run.
+    Run {
+        /// Instructions on it, a RET counted.
+        count: u64,
+        /// Whether each conditional branch on it is taken, in order.
+        outcomes: Vec<bool>,
+    },
 }
 
 /// Turns a dial program into branch code.
@@ -55,6 +70,31 @@ pub fn rewrite_alone(
     let RewrittenIn { code, protected, lines } =
         rewrite_alone_into(sheet, rules, code, protected, lines, &mut bytes, &mut offsets, &mut entries)?;
     Ok(Rewritten { code: code.to_vec(), protected: protected.to_vec(), lines: lines.to_vec() })
+}
+
+/// The slowest call of code, an image's or what [`compile`] gave back, with its depth.
+///
+/// Of equally long runs it is the one that falls through where they first differ. The refusal is the first of 7, 10, 20 and 21 that holds, as
+/// [`check_image`](crate::check_image) gives it. Which variables and constants the code names is not looked at.
+///
+/// ```
+/// # use mezhukan::Slowest;
+/// # let sheet = b"1,2,3,4,5,6,7,8,9,10,11,12,13,14,15,16,17,18,19,20,21,22,23,24,25,26,27,1,2,3,4,5,6\n";
+/// let longer_if_taken = [6, 25, 1, 0, 27, 6, 2, 27];
+/// assert_eq!(mezhukan::slowest(sheet, &longer_if_taken, 1)?, Slowest::Run { count: 5, outcomes: vec![true] });
+///
+/// let jump_to_itself = [24, 253, 255];
+/// assert_eq!(mezhukan::slowest(sheet, &jump_to_itself, 0)?, Slowest::Loops);
+/// # Ok::<(), mezhukan::Refusal>(())
+/// ```
+pub fn slowest(sheet: &[u8], code: &[u8], depth: u64) -> Result<Slowest, Refusal> {
+    let mut bytes = vec![0; MAX_OUTCOMES];
+    Ok(match slowest_into(sheet, code, depth, &mut bytes)? {
+        SlowestIn::Loops => Slowest::Loops,
+        SlowestIn::Run { count, outcomes } => {
+            Slowest::Run { count, outcomes: outcomes.iter().map(|taken| *taken != 0).collect() }
+        }
+    })
 }
 
 fn no_entries() -> Vec<LineEntry> {

@@ -38,9 +38,9 @@ pub enum Reason {
     ConstantsFull = 13,
     /// A lent output shorter than its limit: only where outputs are lent.
     OutputShort = 14,
-    /// Check of an image: a run reaches a place that is neither start nor end, heights ignored.
+    /// An image's code: a run reaches a place that is neither start nor end, heights ignored.
     Astray = 20,
-    /// Check of an image: an empty stack popped, the depth exceeded, an unempty end, or a start at two heights.
+    /// An image's code: an empty stack popped, the depth exceeded, an unempty end, or a start at two heights.
     BadHeight = 21,
 }
 

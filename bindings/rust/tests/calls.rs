@@ -16,6 +16,10 @@ fn refusal(number: u8, place: u64) -> Refusal {
     Refusal { number, place }
 }
 
+fn run(count: u64, outcomes: &[bool]) -> Slowest {
+    Slowest::Run { count, outcomes: outcomes.to_vec() }
+}
+
 #[test]
 fn compiles() {
     let code = vec![26, 4, 0, 0, 0, 0, 6, 0, 5, 1, 0, 4, 1, 0];
@@ -57,11 +61,37 @@ fn checks_images() {
     }
 }
 
+#[test]
+fn slowest_calls() {
+    let most = [27; MAX_CODE + 1];
+    let bad_field = [&SHEET[..SHEET.len() - 2], b"5\n"].concat();
+    let answers: [(&[u8], &[u8], u64, _); 14] = [
+        (SHEET, &[27], 0, Ok(run(1, &[]))),
+        (SHEET, &[6, 25, 0, 0], 1, Ok(run(2, &[false]))),
+        (SHEET, &[6, 25, 1, 0, 27, 6, 2, 27], 1, Ok(run(5, &[true]))),
+        (SHEET, &[6, 25, 4, 0, 27, 24, 1, 0, 27], 1, Ok(run(3, &[false]))),
+        (SHEET, &[6, 25, 1, 0, 27, 6, 25, 0, 0], 1, Ok(run(4, &[true, false]))),
+        (SHEET, &[27, 24, 80, 0], 0, Ok(run(1, &[]))),
+        (SHEET, &[27, 24, 253, 255], 0, Ok(Slowest::Loops)),
+        (SHEET, &[24, 253, 255], 0, Ok(Slowest::Loops)),
+        (SHEET, &most[1..], 0, Ok(run(1, &[]))),
+        (SHEET, &most, 0, Err(refusal(10, 0))),
+        (&SHEET[2..], &most, 0, Err(refusal(7, 0))),
+        (&bad_field, &[2, 255], 0, Err(refusal(7, 33))),
+        (SHEET, &[2, 255], 0, Err(refusal(20, 0))),
+        (SHEET, &[6, 24, 252, 255], u64::MAX, Err(refusal(21, 0))),
+    ];
+    for (sheet, code, depth, answer) in answers {
+        assert_eq!(slowest(sheet, code, depth), answer, "for {code:?} at {depth}");
+    }
+}
+
 /// A depth is not cut to fewer bits.
 #[test]
 fn any_depth() {
     for depth in [1, 65535, 65536, 1 << 32, u64::MAX] {
         assert_eq!(check_image(SHEET, &[6, 2], depth), Ok(()), "at {depth}");
+        assert_eq!(slowest(SHEET, &[6, 2], depth), Ok(run(2, &[])), "at {depth}");
     }
 }
 
@@ -69,7 +99,16 @@ fn any_depth() {
 fn finished_code_passes() {
     let Compiled { code, depth, .. } = compile(SHEET, b"", b"P,1,1,1,0\nA,1,1,0\nO,0\nD,0\nD,0\n").unwrap();
     assert_eq!((depth, check_image(SHEET, &code, depth)), (2, Ok(())));
+    assert_eq!(slowest(SHEET, &code, depth), Ok(run(4, &[])));
     assert_eq!(check_image(SHEET, &code, depth - 1), Err(refusal(21, 0)));
+    assert_eq!(slowest(SHEET, &code, depth - 1), Err(refusal(21, 0)));
+}
+
+#[test]
+fn slowest_calls_of_finished_code() {
+    let of = |program| compile(SHEET, b"", program).map(|compiled| slowest(SHEET, &compiled.code, compiled.depth));
+    assert_eq!(of(IF), Ok(Ok(run(3, &[false]))));
+    assert_eq!(of(b"P,0,1,1,1\nL,1,1,0,0,0\n"), Ok(Ok(Slowest::Loops)));
 }
 
 #[test]
@@ -81,6 +120,8 @@ fn empty_inputs() {
     assert_eq!(rewrite_alone(SHEET, b"", b"", &[], &[]), Ok(none));
     assert_eq!(check_image(b"", b"", 0), Err(refusal(7, 0)));
     assert_eq!(check_image(SHEET, b"", 0), Ok(()));
+    assert_eq!(slowest(b"", b"", 0), Err(refusal(7, 0)));
+    assert_eq!(slowest(SHEET, b"", 0), Ok(run(0, &[])));
 }
 
 /// Each output in turn as long as its limit, longer, one too short, empty: an answer and zeros, or 14 and zeros.
@@ -131,6 +172,26 @@ fn lent_outputs_of_rewriting() {
             assert!(bytes[kept..].iter().all(|byte| *byte == 0));
             assert!(offsets[kept..].iter().skip(kept).all(|offset| *offset == 0));
             assert!(entries[kept..].iter().all(|line| *line == entry(0, 0, 0)));
+        }
+    }
+}
+
+/// The same of the slowest call: a run, a loop, a refusal.
+#[test]
+fn lent_outcomes() {
+    let taken = SlowestIn::Run { count: 4, outcomes: &[1, 0] };
+    let answers: [(&[u8], _); 3] = [
+        (&[6, 25, 1, 0, 27, 6, 25, 0, 0], Ok(taken)),
+        (&[27, 24, 253, 255], Ok(SlowestIn::Loops)),
+        (&[2], Err(refusal(21, 0))),
+    ];
+    for length in [MAX_OUTCOMES, MAX_OUTCOMES + MORE, MAX_OUTCOMES - 1, 0] {
+        for (code, answer) in answers {
+            let answer = if length < MAX_OUTCOMES { Err(refusal(14, 0)) } else { answer };
+            let mut outcomes = vec![0xA5; length];
+            assert_eq!(slowest_into(SHEET, code, 1, &mut outcomes), answer, "for {code:?} into {length}");
+            let used = if answer == Ok(taken) { 2 } else { 0 };
+            assert!(outcomes[used..].iter().all(|byte| *byte == 0));
         }
     }
 }

@@ -1,7 +1,7 @@
-//! Stored answers (oracle/README.md says how they were made): rewriting called alone on the published Rust's, crates/passes_test/stdin, and the
-//! check of images on the oracle's, crates/images_test/stdin.
+//! Stored answers (oracle/README.md says how they were made): rewriting called alone on the published Rust's, crates/passes_test/stdin, the check of
+//! images on the oracle's, crates/images_test/stdin, and the slowest call on its, crates/slowest_test/stdin.
 
-use mezhukan::{check_image, rewrite_alone, LineEntry, Refusal, Rewritten};
+use mezhukan::{check_image, rewrite_alone, slowest, LineEntry, Refusal, Rewritten, Slowest};
 
 const CRATES: &str = concat!(env!("CARGO_MANIFEST_DIR"), "/../../crates");
 const LEAST: usize = 300;
@@ -80,24 +80,53 @@ fn the_stored_answers() {
     assert!(compared >= LEAST, "{compared} compared");
 }
 
-/// An image's answer as its input's three lines give it, written as stored.
-fn checked(input: &str) -> String {
+/// Sheet, code and depth of an image, its input's three lines.
+fn image(input: &str) -> (&[u8], Vec<u8>, u64) {
     let lines: Vec<&str> = input.split_inclusive('\n').collect();
     let [sheet, depth, code] = lines[..] else { panic!("not three lines: {input}") };
     let depth = depth.trim_end().parse().expect("a depth");
-    let code: Vec<u8> = code.trim_end().split_terminator(',').map(|byte| byte.parse().expect("a byte")).collect();
-    match check_image(sheet.as_bytes(), &code, depth) {
+    let code = code.trim_end().split_terminator(',').map(|byte| byte.parse().expect("a byte")).collect();
+    (sheet.as_bytes(), code, depth)
+}
+
+/// An image's answer, written as stored.
+fn checked(input: &str) -> String {
+    let (sheet, code, depth) = image(input);
+    match check_image(sheet, &code, depth) {
         Ok(()) => "0,0\n".to_string(),
         Err(Refusal { number, place }) => format!("{number},{place}\n"),
     }
 }
 
-#[test]
-fn the_stored_images() {
-    let images = stored("images_test");
+/// The answer of its slowest call, written as stored: number, place, whether it loops, the count, and the outcomes.
+fn measured(input: &str) -> String {
+    let (sheet, code, depth) = image(input);
+    match slowest(sheet, &code, depth) {
+        Ok(Slowest::Run { count, outcomes }) => {
+            let outcomes: String = outcomes.iter().map(|taken| if *taken { ",1" } else { ",0" }).collect();
+            format!("0,0,0,{count}{outcomes}\n")
+        }
+        Ok(Slowest::Loops) => "0,0,1,0\n".to_string(),
+        Err(Refusal { number, place }) => format!("{number},{place},0,0\n"),
+    }
+}
+
+/// Every stored answer of a crate is ours.
+fn same(name: &str, ours: fn(&str) -> String) {
+    let images = stored(name);
     for (input, answer) in &images {
-        assert_eq!(&checked(input), answer, "for {input}");
+        assert_eq!(&ours(input), answer, "for {input}");
     }
     println!("{} compared", images.len());
     assert!(images.len() >= LEAST, "{} compared", images.len());
+}
+
+#[test]
+fn the_stored_images() {
+    same("images_test", checked);
+}
+
+#[test]
+fn the_stored_slowest_calls() {
+    same("slowest_test", measured);
 }
