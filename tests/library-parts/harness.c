@@ -20,7 +20,7 @@
 
 #include "mezhukan.h"
 
-enum { COMPILE, ALONE, CHECK, KINDS };
+enum { COMPILE, ALONE, CHECK, SLOWEST, KINDS };
 enum where { END, START, HEAP };
 enum { MOST_INPUTS = 5, MOST_OUTPUTS = 3, PAGE = 4096, FILL = 0xA5, MOST_THREADS = 64 };
 
@@ -31,6 +31,7 @@ static const struct kind {
     {3, {1, 1, 1}, 3, {1, 4, 2}, MEZHUKAN_COMPILED, {MEZHUKAN_CODE_LENGTH, MEZHUKAN_CONSTANT_COUNT, MEZHUKAN_ENTRY_COUNT}},
     {5, {1, 1, 1, 2, 2}, 3, {1, 2, 2}, MEZHUKAN_REWRITTEN, {MEZHUKAN_CODE_LENGTH, MEZHUKAN_ALONE_PROTECTED_COUNT, MEZHUKAN_ALONE_ENTRY_COUNT}},
     {3, {1, 1, sizeof(uint64_t)}, 0, {0}, MEZHUKAN_CHECKED, {0}},
+    {3, {1, 1, sizeof(uint64_t)}, 1, {1}, MEZHUKAN_MEASURED, {MEZHUKAN_OUTCOME_COUNT}},
 };
 
 struct request {
@@ -99,6 +100,9 @@ static uint8_t call(const struct request *r, struct lent *in, struct lent *out, 
     }
     if (r->kind == &kinds[CHECK]) {
         return mezhukan_check_image(in[0].at, c[0], in[1].at, c[1], *(uint64_t *)(void *)in[2].at, n);
+    }
+    if (r->kind == &kinds[SLOWEST]) {
+        return mezhukan_slowest(in[0].at, c[0], in[1].at, c[1], *(uint64_t *)(void *)in[2].at, out[0].at, room[0], n);
     }
     return mezhukan_rewrite_alone(in[0].at, c[0], in[1].at, c[1], in[2].at, c[2], (uint16_t *)(void *)in[3].at, c[3],
                                   (uint16_t *)(void *)in[4].at, c[4], out[0].at, room[0], (uint16_t *)(void *)out[1].at, room[1],
