@@ -5,6 +5,7 @@ ghost use Prim.Native.Nat.{_≤_};
 ghost use lib.ListN.{length};
 ghost use Rattle.replay.specs.Case.{caseCount};
 use definition::MAX_CODE;
+use definition::MAX_OUTCOMES;
 use text::LISTING_ROOM;
 use text::TEXT_ROOM;
 
@@ -13,12 +14,15 @@ pub enum Asked {
     Listing,
     Passes,
     Images,
+    Slowest,
 }
 
 // One byte more than an image's code may have.
 const CODE_ROOM: usize = MAX_CODE + 1;
 // More than the text of two numbers takes.
 const ANSWER_ROOM: usize = 48;
+// More than the text of four numbers and of the outcomes takes.
+const MEASURED_ROOM: usize = 96 + 2 * MAX_OUTCOMES;
 
 const MAX_DEPTH: u64 = 18446744073709551615;
 
@@ -79,8 +83,45 @@ fn read_code(line: &[u8], code: &mut [u8]) -> usize
     n
 }
 
+fn is_checked(sheet: &[u8], code: &[u8], depth: u64, expected: &[u8]) -> bool {
+    let r = image_check::check_image(sheet, code, depth);
+    let mut out = [0u8; ANSWER_ROOM];
+    let used = text::put_refusal(&mut out, 0, r.number as u64, r.place as u64);
+    if used > ANSWER_ROOM {
+        return false;
+    }
+    check::same(&out[..used], expected)
+}
+
+fn bit(b: bool) -> u64 {
+    if b {
+        return 1;
+    }
+    0
+}
+
+// Number, place, is it 'loops', instructions, and the outcomes.
+fn is_measured(sheet: &[u8], code: &[u8], depth: u64, expected: &[u8]) -> bool {
+    let mut outcomes = [0u8; MAX_OUTCOMES];
+    let r = slowest::slowest(sheet, code, depth, &mut outcomes);
+    let n = r.outcomes;
+    if n > MAX_OUTCOMES {
+        return false;
+    }
+    let mut out = [0u8; MEASURED_ROOM];
+    let number = text::put_decimal(&mut out, 0, r.number as u64);
+    let place = text::put_field(&mut out, number, r.place as u64);
+    let loops = text::put_field(&mut out, place, bit(r.loops));
+    let count = text::put_field(&mut out, loops, r.instructions as u64);
+    let used = text::put_bytes(&mut out, count, &outcomes[..n]);
+    if used > MEASURED_ROOM {
+        return false;
+    }
+    check::same(&out[..used], expected)
+}
+
 // An image's input is three lines: the sheet, the depth, and the code's bytes by commas.
-fn is_checked(input: &[u8], expected: &[u8]) -> bool {
+fn is_imaged(slowest: bool, input: &[u8], expected: &[u8]) -> bool {
     let first = field::line_end(input, 0);
     if first >= input.len() {
         return false;
@@ -94,20 +135,19 @@ fn is_checked(input: &[u8], expected: &[u8]) -> bool {
     let third = field::line_end(input, bytes);
     let mut code = [0u8; CODE_ROOM];
     let n = read_code(&input[bytes..third], &mut code);
-    let r = image_check::check_image(&input[..depth], &code[..n], number(&input[depth..second]));
-    let mut out = [0u8; ANSWER_ROOM];
-    let used = text::put_refusal(&mut out, 0, r.number as u64, r.place as u64);
-    if used > ANSWER_ROOM {
-        return false;
+    let high = number(&input[depth..second]);
+    if slowest {
+        return is_measured(&input[..depth], &code[..n], high, expected);
     }
-    check::same(&out[..used], expected)
+    is_checked(&input[..depth], &code[..n], high, expected)
 }
 
 fn is_answered(asked: Asked, input: &[u8], expected: &[u8]) -> bool {
     match asked {
         Asked::Listing => is_listed(input, expected),
         Asked::Passes => is_passed(input, expected),
-        Asked::Images => is_checked(input, expected),
+        Asked::Images => is_imaged(false, input, expected),
+        Asked::Slowest => is_imaged(true, input, expected),
     }
 }
 

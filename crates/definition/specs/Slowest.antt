@@ -81,15 +81,15 @@ pub record Answer : Type 0 where
   pub number : ℕ
   pub place : ℕ
   pub loops : ℕ
-  pub count : ℕ
+  pub instructionCount : ℕ
   pub outcomeCount : ℕ
   pub outcomes : List ℕ
 
 unfoldable pub refused : ℕ → ℕ → ℕ → Answer
-refused room number place = record { number = number; place = place; loops = 0; count = 0; outcomeCount = 0; outcomes = zeros room }
+refused room number place = record { number = number; place = place; loops = 0; instructionCount = 0; outcomeCount = 0; outcomes = zeros room }
 
 unfoldable pub looping : ℕ → Answer
-looping room = record { number = 0; place = 0; loops = 1; count = 0; outcomeCount = 0; outcomes = zeros room }
+looping room = record { number = 0; place = 0; loops = 1; instructionCount = 0; outcomeCount = 0; outcomes = zeros room }
 
 -- "a byte each, 1 if taken, else 0"
 unfoldable pub outcomeBytes : List Bool → List ℕ
@@ -98,7 +98,7 @@ outcomeBytes (true ∷ os) = 1 ∷ outcomeBytes os
 outcomeBytes (false ∷ os) = 0 ∷ outcomeBytes os
 
 unfoldable pub measured : ℕ → ℕ → List Bool → Answer
-measured room count os = record { number = 0; place = 0; loops = 0; count = count; outcomeCount = length os; outcomes = filled room (outcomeBytes os) }
+measured room count os = record { number = 0; place = 0; loops = 0; instructionCount = count; outcomeCount = length os; outcomes = filled room (outcomeBytes os) }
 
 -- what the call answers where `room` bytes are lent for the outcomes
 pub data Measures (room : ℕ) (sheet code : List ℕ) (depth : ℕ) : Answer → Type 0 where

@@ -4,6 +4,7 @@ use mathlib.Core.List.{List}
 use lib.ListN.{getD}
 use Rattle.definition.specs.Compile as compile
 use Rattle.definition.specs.Alone as alone
+use Rattle.definition.specs.Slowest as slowest
 
 abbrev pub compiled : List ℕ → List ℕ → List ℕ → List ℕ → compile.Answer
 compiled answer code constants lines = record {
@@ -28,4 +29,14 @@ rewritten answer bytes offsets entries = record {
   code = bytes;
   protected = offsets;
   lines = entries;
+}
+
+abbrev pub measured : List ℕ → List ℕ → slowest.Answer
+measured answer outcomes = record {
+  number = getD answer 0 0;
+  place = getD answer 1 0;
+  loops = getD answer 2 0;
+  instructionCount = getD answer 3 0;
+  outcomeCount = getD answer 4 0;
+  outcomes = outcomes;
 }

@@ -1,14 +1,16 @@
-// The library for the phone, the rig and the log reader (`rt staticlib mezhukan`, for a program in C or Rust to link): the call, rewriting called alone, and the
-// check of an image.
+// The library for the phone, the rig and the log reader (`rt staticlib mezhukan`, for a program in C or Rust to link): the call, rewriting called alone, the check
+// of an image, and the slowest call of its code.
 ghost use mathlib.Core.Path.{_≡_};
 ghost use lib.ListN.{length, getD};
 ghost use Rattle.definition.specs.Compile.{Compiles};
 ghost use Rattle.definition.specs.Alone.{Rewrites};
 ghost use Rattle.definition.specs.Claims.{Safe, Faithful};
 ghost use Rattle.definition.specs.Check.{Checks};
+ghost use Rattle.definition.specs.Slowest.{Measures};
 ghost use Rattle.compile.specs.Call as call;
 ghost use Rattle.optimize.specs.View as alone;
-ghost use Rattle.mezhukan.specs.Exported.{compiled, rewritten};
+ghost use Rattle.slowest.specs.View.{bit};
+ghost use Rattle.mezhukan.specs.Exported.{compiled, rewritten, measured};
 use emit::Constant;
 
 // Numbers of an answer of the call: number, place, bytes, depth, constants, line entries.
@@ -17,6 +19,8 @@ const COMPILED: usize = 6;
 const REWRITTEN: usize = 5;
 // Numbers of an answer of the check of an image: number, place.
 const CHECKED: usize = 2;
+// Numbers of an answer of the slowest call: number, place, is it 'loops', instructions, outcomes.
+const MEASURED: usize = 5;
 
 // The call. A refusal's number is answered, or 0.
 #[no_mangle]
@@ -95,5 +99,38 @@ pub extern "C" fn mezhukan_check_image(
 {
     let a = image_check::check_image(sheet, code, depth);
     *answer = [a.number as u64, a.place as u64];
+    a.number
+}
+
+fn bit(b: bool) -> u64
+    ensures { λ r. ⌜ r ≡ bit b ⌝ }
+{
+    if b {
+        return 1;
+    }
+    0
+}
+
+// The slowest call of code, checked as an image is. A refusal's number is answered, or 0.
+#[no_mangle]
+pub extern "C" fn mezhukan_slowest(
+    sheet: &[u8],
+    code: &[u8],
+    depth: u64,
+    outcomes: &mut [u8],
+    answer: &mut [u64; MEASURED],
+) -> u8
+    ensures { λ r. ⌜ Measures (length (now (outcomes .entry))) (now (sheet .entry)) (now (code .entry)) depth (measured (now (answer .exit)) (now (outcomes .exit))) ⌝ }
+    ensures { λ r. ⌜ r ≡ measured (now (answer .exit)) (now (outcomes .exit)) .number ⌝ }
+{
+    let a = slowest::slowest(sheet, code, depth, outcomes);
+    let loops = bit(a.loops);
+    *answer = [
+        a.number as u64,
+        a.place as u64,
+        loops,
+        a.instructions as u64,
+        a.outcomes as u64,
+    ];
     a.number
 }

@@ -99,14 +99,14 @@ module _ (sheet code : List ℕ) (depth : ℕ) (outcomes : List ℕ) where
   abbrev W : Measured → Type 0
   W r = Works sheet code depth outcomes r
 
-  pub works-refused : {number : ℕ} {r : Measured} → Answers (sheetIn sheet) code depth number → (number ≡ 0 → ⊥) → r ≡ record { number = number; place = 0; loops = false; count = 0; outcomes = 0 } → W r
+  pub works-refused : {number : ℕ} {r : Measured} → Answers (sheetIn sheet) code depth number → (number ≡ 0 → ⊥) → r ≡ record { number = number; place = 0; loops = false; instructions = 0; outcomes = 0 } → W r
   works-refused a n e = subst W (sym e) (refuses a n)
 
-  pub works-loops : {number : ℕ} → Answers (sheetIn sheet) code depth number → number ≡ 0 → Loops (sheetIn sheet) code → W (record { number = 0; place = 0; loops = true; count = 0; outcomes = 0 })
+  pub works-loops : {number : ℕ} → Answers (sheetIn sheet) code depth number → number ≡ 0 → Loops (sheetIn sheet) code → W (record { number = 0; place = 0; loops = true; instructions = 0; outcomes = 0 })
   works-loops a z l = loops (subst (λ n. Answers (sheetIn sheet) code depth n) z a) l
 
   pub works-measured : {number n count : ℕ} (counts : List ℕ) → length code ≤ maxCode → Answers (sheetIn sheet) code depth number → number ≡ 0 → Counted sheet code counts → count ≡ getD counts 0 0 → Follows sheet code outcomes n
-      → W (record { number = 0; place = 0; loops = false; count = count; outcomes = n })
+      → W (record { number = 0; place = 0; loops = false; instructions = count; outcomes = n })
   works-measured counts small a z known c f =
       let passed = subst (λ n. Answers (sheetIn sheet) code depth n) z a in
       let run = slowest (sheetIn sheet) code (known .straight) depth (passed .passes .0 refl) in
@@ -123,28 +123,28 @@ module _ (sheet code : List ℕ) (depth : ℕ) (outcomes : List ℕ) where
   none-given : zeros room ≡ zeroedFrom 0 outcomes
   none-given = sym (zero-all outcomes refl)
 
-  fronts-refused : (number place : ℕ) → M (refused room number place) → M (answerView (record { number = number; place = place; loops = false; count = 0; outcomes = 0 }) (zeroedFrom 0 outcomes))
+  fronts-refused : (number place : ℕ) → M (refused room number place) → M (answerView (record { number = number; place = place; loops = false; instructions = 0; outcomes = 0 }) (zeroedFrom 0 outcomes))
   unfolding refused answerView bit
-  fronts-refused number place m = subst (λ out. M (record { number = number; place = place; loops = 0; count = 0; outcomeCount = 0; outcomes = out })) none-given m
+  fronts-refused number place m = subst (λ out. M (record { number = number; place = place; loops = 0; instructionCount = 0; outcomeCount = 0; outcomes = out })) none-given m
 
   by-result : {r t : Measured} → r ≡ t → Fronts sheet code depth outcomes t → Fronts sheet code depth outcomes r
   by-result e f = subst (λ x. Fronts sheet code depth outcomes x) (sym e) f
 
-  pub fronts-short : {r : Measured} → room < maxOutcomes → r ≡ record { number = outputShort; place = 0; loops = false; count = 0; outcomes = 0 } → Fronts sheet code depth outcomes r
+  pub fronts-short : {r : Measured} → room < maxOutcomes → r ≡ record { number = outputShort; place = 0; loops = false; instructions = 0; outcomes = 0 } → Fronts sheet code depth outcomes r
   fronts-short l e = by-result e (fronts-refused outputShort 0 (def.refusesRoom l))
 
   module _ (enough : maxOutcomes ≤ room) where
-    pub fronts-unfit : {table : List ℕ} {number place : ℕ} {r : Measured} → Admits sheet code table number place → (number ≡ 0 → ⊥) → r ≡ record { number = number; place = place; loops = false; count = 0; outcomes = 0 } → Fronts sheet code depth outcomes r
+    pub fronts-unfit : {table : List ℕ} {number place : ℕ} {r : Measured} → Admits sheet code table number place → (number ≡ 0 → ⊥) → r ≡ record { number = number; place = place; loops = false; instructions = 0; outcomes = 0 } → Fronts sheet code depth outcomes r
     fronts-unfit {number = number} {place = place} a n e = by-result e (fronts-refused number place (def.refuses enough (a .refuses n depth) n))
 
     pub fronts-worked : {table : List ℕ} {place : ℕ} {r : Measured} → Admitted sheet code table place → Works table code depth outcomes r → Fronts sheet code depth outcomes r
     unfolding looping measured filled answerView bit zeroedFrom
     fronts-worked a (refuses {n = n} x z) = fronts-refused n 0 (def.refuses enough (checks-code a x) z)
-    fronts-worked a (loops x l) = subst (λ out. M (record { number = 0; place = 0; loops = 1; count = 0; outcomeCount = 0; outcomes = out })) none-given (def.loops enough (a .read) (checks-code a x) l)
+    fronts-worked a (loops x l) = subst (λ out. M (record { number = 0; place = 0; loops = 1; instructionCount = 0; outcomeCount = 0; outcomes = out })) none-given (def.loops enough (a .read) (checks-code a x) l)
     fronts-worked a (measures {count = count} {n = n} {os = os} x straight run least f) =
         let e = ap (λ k. outcomeBytes os ++ zeros (room - k)) (length-bytes os ∙ sym (f .many)) ∙ ap (λ xs. xs ++ zeros (room - n)) (sym (f .front)) in
-        subst (λ k. M (record { number = 0; place = 0; loops = 0; count = count; outcomeCount = k; outcomes = take n outcomes ++ zeros (room - n) })) (sym (f .many))
-        (subst (λ out. M (record { number = 0; place = 0; loops = 0; count = count; outcomeCount = length os; outcomes = out })) e (def.measures enough (a .read) (checks-code a x) straight run least))
+        subst (λ k. M (record { number = 0; place = 0; loops = 0; instructionCount = count; outcomeCount = k; outcomes = take n outcomes ++ zeros (room - n) })) (sym (f .many))
+        (subst (λ out. M (record { number = 0; place = 0; loops = 0; instructionCount = count; outcomeCount = length os; outcomes = out })) e (def.measures enough (a .read) (checks-code a x) straight run least))
 
 -- what is zeroed behind the outcomes is all of it
 pub measures-zeroed : (sheet code : List ℕ) (depth : ℕ) (outcomes : List ℕ) (r : Measured) {out : List ℕ} {room : ℕ} → Fronts sheet code depth outcomes r → out ≡ zeroedFrom (r .outcomes) outcomes → length outcomes ≡ room → Measures room sheet code depth (answerView r out)

@@ -52,12 +52,12 @@ module _ {s : Sheet} {code : List ℕ} {m n : ℕ} {os us : List Bool} (a : Slow
 pub record Same (a b : Answer) : Type 0 where
   pub number : a .number ≡ b .number
   pub loops : a .loops ≡ b .loops
-  pub count : a .count ≡ b .count
+  pub instructionCount : a .instructionCount ≡ b .instructionCount
   pub outcomeCount : a .outcomeCount ≡ b .outcomeCount
   pub outcomes : a .outcomes ≡ b .outcomes
 
 same : {a : Answer} → Same a a
-same = record { number = refl; loops = refl; count = refl; outcomeCount = refl; outcomes = refl }
+same = record { number = refl; loops = refl; instructionCount = refl; outcomeCount = refl; outcomes = refl }
 
 pub one-measure : {room : ℕ} {sheet code : List ℕ} {depth : ℕ} {a b : Answer} → Measures room sheet code depth a → Measures room sheet code depth b → Same a b
 unfolding refused looping measured
@@ -66,7 +66,7 @@ one-measure (refusesRoom l) (refuses k c n) = absurd (omega arith)
 one-measure (refusesRoom l) (loops k e c p) = absurd (omega arith)
 one-measure (refusesRoom l) (measures k e c f x i) = absurd (omega arith)
 one-measure (refuses l c n) (refusesRoom k) = absurd (omega arith)
-one-measure (refuses l c n) (refuses k d o) = record { number = one-number c d; loops = refl; count = refl; outcomeCount = refl; outcomes = refl }
+one-measure (refuses l c n) (refuses k d o) = record { number = one-number c d; loops = refl; instructionCount = refl; outcomeCount = refl; outcomes = refl }
 one-measure (refuses l c n) (loops k e d p) = absurd (n (one-number c d))
 one-measure (refuses l c n) (measures k e d f x i) = absurd (n (one-number c d))
 one-measure (loops l e c p) (refusesRoom k) = absurd (omega arith)
@@ -78,7 +78,7 @@ one-measure (measures l e c f x i) (refuses k d o) = absurd (o (one-number d c))
 one-measure {code = code} (measures l e c f x i) (loops k g d q) = absurd (f (subst (λ s. Loops s code) (some-is (sym g ∙ e)) q))
 one-measure {room = room} {code = code} (measures l e c f x i) (measures {count = n} {os = us} k g d h y j) =
     let z = one-slowest x (subst (λ s. Slowest s code n us) (some-is (sym g ∙ e)) y) in
-    record { number = refl; loops = refl; count = z .0; outcomeCount = ap length (z .1); outcomes = ap (λ u. filled room (outcomeBytes u)) (z .1) }
+    record { number = refl; loops = refl; instructionCount = z .0; outcomeCount = ap length (z .1); outcomes = ap (λ u. filled room (outcomeBytes u)) (z .1) }
 
 -- ---- what a caller knows
 
@@ -89,7 +89,7 @@ pub record Known (sheet code : List ℕ) (depth : ℕ) (a : Answer) : Type 0 whe
   pub passes : Checks sheet code depth 0 0
   pub straight : Loops s code → ⊥
   pub outcomes : List Bool
-  pub slowest : Slowest s code (a .count) outcomes
+  pub slowest : Slowest s code (a .instructionCount) outcomes
   pub few : length outcomes ≤ maxOutcomes
   pub long : a .outcomeCount ≡ length outcomes
   pub given : take (a .outcomeCount) (a .outcomes) ≡ outcomeBytes outcomes

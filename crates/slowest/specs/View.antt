@@ -132,10 +132,10 @@ Follows sheet code outcomes n = Fronted outcomes n (longest (sheetIn sheet) code
 
 -- what is worked out for code with a sheet's table, and the front of the output
 pub data Works (sheet code : List ℕ) (depth : ℕ) (outcomes : List ℕ) : Measured → Type 0 where
-  refuses : {n : ℕ} → Answers (sheetIn sheet) code depth n → (n ≡ 0 → ⊥) → Works sheet code depth outcomes (record { number = n; place = 0; loops = false; count = 0; outcomes = 0 })
-  loops : Answers (sheetIn sheet) code depth 0 → Loops (sheetIn sheet) code → Works sheet code depth outcomes (record { number = 0; place = 0; loops = true; count = 0; outcomes = 0 })
+  refuses : {n : ℕ} → Answers (sheetIn sheet) code depth n → (n ≡ 0 → ⊥) → Works sheet code depth outcomes (record { number = n; place = 0; loops = false; instructions = 0; outcomes = 0 })
+  loops : Answers (sheetIn sheet) code depth 0 → Loops (sheetIn sheet) code → Works sheet code depth outcomes (record { number = 0; place = 0; loops = true; instructions = 0; outcomes = 0 })
   measures : {count n : ℕ} {os : List Bool} → Answers (sheetIn sheet) code depth 0 → (Loops (sheetIn sheet) code → ⊥) → Slowest (sheetIn sheet) code count os → length os ≤ maxOutcomes → Fronted outcomes n os
-      → Works sheet code depth outcomes (record { number = 0; place = 0; loops = false; count = count; outcomes = n })
+      → Works sheet code depth outcomes (record { number = 0; place = 0; loops = false; instructions = count; outcomes = n })
 
 unfoldable pub bit : Bool → ℕ
 bit true = 1
@@ -143,7 +143,7 @@ bit false = 0
 
 -- the answer, with all that the output holds
 unfoldable pub answerView : Measured → List ℕ → Answer
-answerView r outcomes = record { number = r .number; place = r .place; loops = bit (r .loops); count = r .count; outcomeCount = r .outcomes; outcomes = outcomes }
+answerView r outcomes = record { number = r .number; place = r .place; loops = bit (r .loops); instructionCount = r .instructions; outcomeCount = r .outcomes; outcomes = outcomes }
 
 -- it is the answer once the output is zeroed behind the outcomes
 abbrev pub Fronts : List ℕ → List ℕ → ℕ → List ℕ → Measured → Type 0

@@ -209,18 +209,18 @@ pub struct Measured {
     pub number: u8,
     pub place: u32,
     pub loops: bool,
-    pub count: u32,
+    pub instructions: u32,
     pub outcomes: usize,
 }
 
 fn refused(number: u8, place: u32) -> Measured
-    ensures { λ r. ⌜ r ≡ record { number = number; place = place; loops = false; count = 0; outcomes = 0 } ⌝ }
+    ensures { λ r. ⌜ r ≡ record { number = number; place = place; loops = false; instructions = 0; outcomes = 0 } ⌝ }
 {
     Measured {
         number: number,
         place: place,
         loops: false,
-        count: 0,
+        instructions: 0,
         outcomes: 0,
     }
 }
@@ -250,7 +250,7 @@ fn measure_over(
             number: 0,
             place: 0,
             loops: true,
-            count: 0,
+            instructions: 0,
             outcomes: 0,
         };
     }
@@ -260,7 +260,7 @@ fn measure_over(
         number: 0,
         place: 0,
         loops: false,
-        count: count,
+        instructions: count,
         outcomes: n,
     }
 }
