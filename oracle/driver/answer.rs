@@ -4,15 +4,16 @@ use oracle::alone::{self, Unread};
 use oracle::listing::{self, Fault};
 use oracle::reader::{self, Refusal};
 
-use crate::{images, runs};
+use crate::{images, runs, slowest};
 
-/// What an input is for: one of our two programs, the interpreter, or the check of images.
+/// What an input is for: one of our two programs, the interpreter, the check of images, or the slowest call.
 #[derive(Clone, Copy)]
 pub enum Program {
     Listing,
     Passes,
     Meaning,
     Images,
+    Slowest,
 }
 
 /// The answer, or what went wrong in the published code.
@@ -26,7 +27,7 @@ pub fn is_from_rust(program: Program, answer: &str) -> bool {
     match program {
         Program::Listing | Program::Meaning => answer != UNPARSED,
         Program::Passes => answer.starts_with("0,"),
-        Program::Images => false,
+        Program::Images | Program::Slowest => false,
     }
 }
 
@@ -37,6 +38,7 @@ pub fn answer(program: Program, input: &[u8], reading: bool) -> Answer {
         Program::Passes => passed(input),
         Program::Meaning => runs::answer(input, reading),
         Program::Images => images::answer(input),
+        Program::Slowest => slowest::answer(input),
     }
 }
 

@@ -8,21 +8,22 @@ use oracle::sheet::Sheet;
 use crate::images::{Verdict, ASTRAY, BAD_HEIGHT, PASSES};
 
 /// Signed: a target can lie before the code.
-type Place = i64;
+pub type Place = i64;
 
-struct Instruction {
+pub struct Instruction {
     /// Values that must be there, and those that stand there instead of them.
     needed: u64,
     left: u64,
-    followers: Vec<Place>,
+    /// Where a run can go on: behind it first, then its target.
+    pub followers: Vec<Place>,
     /// Whether a run finishes here.
     returns: bool,
 }
 
 /// The code's instructions by their starts, and its length.
-struct Decoded {
-    starts: BTreeMap<Place, Instruction>,
-    end: Place,
+pub struct Decoded {
+    pub starts: BTreeMap<Place, Instruction>,
+    pub end: Place,
 }
 
 fn effect(role: u8) -> (u64, u64) {
@@ -54,7 +55,7 @@ fn instruction(role: u8, next: Place, bytes: &[u8]) -> Instruction {
 
 impl Decoded {
     /// Decodes up to what is unlisted or cut.
-    fn of(sheet: &Sheet, code: &[u8]) -> Self {
+    pub fn of(sheet: &Sheet, code: &[u8]) -> Self {
         let roles: BTreeMap<u8, u8> = sheet.opcodes.into_iter().zip(0..).collect();
         let (mut starts, mut rest) = (BTreeMap::new(), code);
         let end = code.len() as Place;

@@ -57,53 +57,92 @@ fn accepted(image: &Image) -> Result<Sheet, String> {
     }
 }
 
-/// The answer to one input, and whether both readings gave it. A last line says so if they differ, which no answer of ours has.
-fn checked(image: &Image) -> (String, bool) {
-    let sheet = match accepted(image) {
-        Ok(sheet) => sheet,
-        Err(refusal) => return (refusal, false),
-    };
-    let verdict = heights::check(&sheet, &image.code, image.depth);
-    match outcomes::check(&sheet, &image.code, image.depth) {
-        Some(other) if other != verdict => (format!("{verdict},0\nbut by search: {other}\n"), true),
-        searched => (format!("{verdict},0\n"), searched.is_some()),
+/// The sheet of an image that passes, else the answer.
+type Judged = Result<Sheet, String>;
+
+fn judge(sheet: Sheet, verdict: Verdict) -> Judged {
+    match verdict {
+        PASSES => Ok(sheet),
+        _ => Err(format!("{verdict},0\n")),
     }
 }
 
-/// The answer by heights alone: for the times.
-pub fn by_heights(image: &Image) -> String {
-    accepted(image)
-        .map_or_else(|refusal| refusal, |sheet| format!("{},0\n", heights::check(&sheet, &image.code, image.depth)))
+/// What both readings make of an image, and whether both were used. A last line says so if they differ, which no answer of ours has.
+pub fn judged(image: &Image) -> (Judged, bool) {
+    let sheet = match accepted(image) {
+        Ok(sheet) => sheet,
+        refused => return (refused, false),
+    };
+    let verdict = heights::check(&sheet, &image.code, image.depth);
+    match outcomes::check(&sheet, &image.code, image.depth) {
+        Some(other) if other != verdict => (Err(format!("{verdict},0\nbut by search: {other}\n")), true),
+        searched => (judge(sheet, verdict), searched.is_some()),
+    }
+}
+
+/// The same by heights alone: for the times.
+pub fn by_heights(image: &Image) -> Judged {
+    let sheet = accepted(image)?;
+    let verdict = heights::check(&sheet, &image.code, image.depth);
+    judge(sheet, verdict)
+}
+
+pub fn answered(judged: Judged) -> String {
+    judged.map_or_else(|refusal| refusal, |_| format!("{PASSES},0\n"))
 }
 
 pub fn answer(input: &[u8]) -> Answer {
-    Ok(checked(&Image::of(input)?).0)
+    Ok(answered(judged(&Image::of(input)?).0))
 }
 
-/// Our check held against the answers to the inputs from `from` to below `to`, in this program. Each difference is written to `folder`; finished code that does
-/// not pass with its own depth is one too.
-pub fn compare(kind: Kind, from: u64, to: u64, folder: &Path) -> Result<Compared, String> {
+/// What came of an image.
+pub struct Held {
+    pub expected: String,
+    /// Whether both readings gave that.
+    pub both: bool,
+    pub got: String,
+    /// A word for what is answered, behind its number.
+    pub word: &'static str,
+    /// Whether it is what 02 says of finished code.
+    pub sound: bool,
+}
+
+/// Our library held against the answers to the inputs from `from` to below `to`, in this program, each as `hold` does it. Each difference is written to `folder`.
+pub fn compare_each(
+    kind: Kind,
+    (from, to): (u64, u64),
+    folder: &Path,
+    hold: impl Fn(&Image, u64) -> Result<Held, String>,
+) -> Result<Compared, String> {
     let trial = Trial::new(folder, &[])?;
-    let (mut numbers, mut origins, mut searched, mut differences) = (BTreeMap::new(), BTreeMap::new(), 0, 0);
+    let (mut answers, mut origins, mut searched, mut differences) = (BTreeMap::new(), BTreeMap::new(), 0, 0);
     for (seed, input) in kind.inputs(from, to) {
-        let image = Image::of(&input)?;
-        let (expected, both) = checked(&image);
-        let (got, origin) = (ours(&image)?, kind.origin(seed));
-        let number: u8 = expected.split(',').next().and_then(|number| number.parse().ok()).unwrap_or(PASSES);
-        *numbers.entry(number).or_insert(0) += 1;
-        *origins.entry(origin).or_insert(0) += 1;
+        let Held { expected, both, got, word, sound } = hold(&Image::of(&input)?, seed)?;
+        let number: Verdict = expected.split(',').next().and_then(|number| number.parse().ok()).unwrap_or(PASSES);
+        *answers.entry((number, word)).or_insert(0) += 1;
+        *origins.entry(kind.origin(seed)).or_insert(0) += 1;
         searched += usize::from(both);
-        if got != expected || (origin == image_inputs::FINISHED && number != PASSES) {
+        if got != expected || !sound {
             differences += 1;
             trial.note(kind, seed, &input, &expected, &got)?;
         }
     }
-    let counts = format!("{}; {}; {searched} by search too", listed(&numbers), listed(&origins));
+    let answers = listed(answers.into_iter().map(|((number, word), count)| (format!("{number}{word}"), count)));
+    let counts = format!("{answers}; {}; {searched} by search too", listed(origins.into_iter()));
     Ok(Compared { counts, differences })
 }
 
-fn listed<K: std::fmt::Display>(counts: &BTreeMap<K, usize>) -> String {
-    counts.iter().map(|(name, count)| format!("{name}: {count}")).collect::<Vec<_>>().join(", ")
+fn listed<K: std::fmt::Display>(counts: impl Iterator<Item = (K, usize)>) -> String {
+    counts.map(|(name, count)| format!("{name}: {count}")).collect::<Vec<_>>().join(", ")
+}
+
+/// Our check held against the readings; finished code that does not pass with its own depth is a difference too.
+pub fn compare(kind: Kind, seeds: (u64, u64), folder: &Path) -> Result<Compared, String> {
+    compare_each(kind, seeds, folder, |image, seed| {
+        let (judged, both) = judged(image);
+        let sound = judged.is_ok() || kind.origin(seed) != image_inputs::FINISHED;
+        Ok(Held { expected: answered(judged), both, got: ours(image)?, word: "", sound })
+    })
 }
 
 #[cfg(feature = "ours")]

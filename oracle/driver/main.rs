@@ -1,7 +1,9 @@
 //! The oracle's driver.
 
+mod all_runs;
 mod answer;
 mod compare;
+mod from_end;
 mod generate;
 mod head;
 mod heights;
@@ -19,6 +21,9 @@ mod random;
 mod runs;
 mod short;
 mod short_images;
+mod slowest;
+mod slowest_inputs;
+mod writer;
 
 use std::hint::black_box;
 use std::io::{self, Read, Write};
@@ -31,17 +36,20 @@ use answer::fields;
 use answer::{answer, Answer, Program};
 use compare::Compared;
 use generate::Kind;
+use images::Image;
 
 const USE: &str = "use: oracle [--reader] [--fold-constants] COMMAND
-  listing | passes | meaning | images  one input, one answer
-  batch listing|passes|meaning|images  a line ==== ends each input, and each answer
-  generate KIND FROM TO                the inputs of these seeds, as a batch
-  answers KIND FROM TO                 their answers, as a batch
+  listing | passes | meaning | images | slowest  one input, one answer
+  batch listing|passes|meaning|images|slowest    a line ==== ends each input, and each answer
+  generate KIND FROM TO                          the inputs of these seeds, as a batch
+  answers KIND FROM TO                           their answers, as a batch
   compare KIND FROM TO FOLDER PROGRAM [WORD..]   a program held against the oracle
   compare images|short-images FROM TO FOLDER     our check of images, linked as a library, held against the oracle
-  bench listing|passes|images RUNS     ns for a run on one input: the published code (images: the check by heights), and ours
+  compare slowest|short-slowest FROM TO FOLDER   our slowest call, likewise
+  bench listing|passes|images|slowest RUNS       ns for a run on one input: the published code (images: the check by heights;
+                                                 slowest: that and the reading from the end), and ours
 KIND: programs, short or passes; or meaning, whose inputs have a line of starting values on top: PROGRAM's listing is run on them;
-  or images or short-images (NOT from the Rust), whose inputs are the lines sheet, depth and code
+  or images, short-images, slowest or short-slowest (NOT from the Rust), whose inputs are the lines sheet, depth and code
 --reader: the plain reader's refusals by number and place (NOT from the Rust), instead of `unparsed`
 --fold-constants: constant loads folded, as published";
 
@@ -79,11 +87,11 @@ fn run() -> Result<(), String> {
             let command: Vec<String> = command.iter().map(|word| word.to_string()).collect();
             compare(self::kind(kind)?, seed(from)?, seed(to)?, Path::new(folder), &command)
         }
-        ["compare", kind @ ("images" | "short-images"), from, to, folder] => {
+        ["compare", kind @ ("images" | "short-images" | "slowest" | "short-slowest"), from, to, folder] => {
             compare(self::kind(kind)?, seed(from)?, seed(to)?, Path::new(folder), &[])
         }
         ["bench", name, runs] => bench(program(name)?, seed(runs)?),
-        ["listing" | "passes" | "meaning" | "images"] => {
+        ["listing" | "passes" | "meaning" | "images" | "slowest"] => {
             write(answer(program(words[0])?, &input()?, reading)?.as_bytes())
         }
         _ => Err(unknown("command", &words.join(" "))),
@@ -100,6 +108,7 @@ fn program(name: &str) -> Result<Program, String> {
         "passes" => Ok(Program::Passes),
         "meaning" => Ok(Program::Meaning),
         "images" => Ok(Program::Images),
+        "slowest" => Ok(Program::Slowest),
         _ => Err(unknown("program", name)),
     }
 }
@@ -161,10 +170,11 @@ fn answers(kind: Kind, from: u64, to: u64, reading: bool) -> Result<(), String> 
 }
 
 fn compare(kind: Kind, from: u64, to: u64, folder: &Path, command: &[String]) -> Result<(), String> {
-    let Compared { counts, differences } = match kind {
-        Kind::Meaning => runs::compare(from, to, folder, command)?,
-        Kind::Images | Kind::ShortImages if command.is_empty() => images::compare(kind, from, to, folder)?,
-        Kind::Images | Kind::ShortImages => {
+    let Compared { counts, differences } = match (kind.program(), command) {
+        (Program::Meaning, _) => runs::compare(from, to, folder, command)?,
+        (Program::Images, []) => images::compare(kind, (from, to), folder)?,
+        (Program::Slowest, []) => slowest::compare(kind, (from, to), folder)?,
+        (Program::Images | Program::Slowest, _) => {
             return Err("images are held against our library, not a program".to_string())
         }
         _ => compare::compare(kind, from, to, folder, command)?,
@@ -199,13 +209,18 @@ fn bench(program: Program, runs: u64) -> Result<(), String> {
         }
         Program::Meaning => return Err(unknown("program to time", "meaning")),
         Program::Images => {
-            let image = images::Image::of(&text)?;
-            if images::ours(&image)? != images::by_heights(&image) {
+            let image = Image::of(&text)?;
+            if images::ours(&image)? != images::answered(images::by_heights(&image)) {
                 return Err("our check differs: nothing was timed".to_string());
             }
             let plain = time(runs, || drop(black_box(images::by_heights(&image))));
             let ours = time(runs, || drop(black_box(images::ours(&image))));
             format!("by heights,{plain}\nours,{ours}\nratio,{}\n", ratio(ours, plain))
+        }
+        Program::Slowest => {
+            let image = Image::of(&text)?;
+            let plain = time(runs, || drop(black_box(slowest::from_end(&image))));
+            format!("from the end,{plain}\n{}", our_slowest(&image, runs, plain)?)
         }
         Program::Passes => {
             let request = oracle::alone::read(&text).map_err(|_| "a bad input cannot be timed")?;
@@ -249,6 +264,17 @@ fn our_rewriting(text: &[u8], runs: u64, optimize: u128) -> Result<String, Strin
     Ok(format!("rewrite_alone,{alone}\nratio,{}\n", ratio(alone, optimize)))
 }
 
+/// Our slowest call of the same image, once its answer is the reading's: its time, and what part of the reading's it is.
+#[cfg(feature = "ours")]
+fn our_slowest(image: &Image, runs: u64, plain: u128) -> Result<String, String> {
+    let mut call = ours::Slowest::of(image, oracle::limits::OUTCOMES);
+    if call.answered() != slowest::answered(slowest::from_end(image)) {
+        return Err("our slowest call differs: nothing was timed".to_string());
+    }
+    let ours = time(runs, || _ = black_box(call.run()));
+    Ok(format!("ours,{ours}\nratio,{}\n", ratio(ours, plain)))
+}
+
 fn ratio(ours: u128, theirs: u128) -> String {
     format!("{:.2}", ours as f64 / theirs.max(1) as f64)
 }
@@ -260,5 +286,10 @@ fn our_call(_: &[u8], _: u64, _: u128, _: u128) -> Result<String, String> {
 
 #[cfg(not(feature = "ours"))]
 fn our_rewriting(_: &[u8], _: u64, _: u128) -> Result<String, String> {
+    Ok(String::new())
+}
+
+#[cfg(not(feature = "ours"))]
+fn our_slowest(_: &Image, _: u64, _: u128) -> Result<String, String> {
     Ok(String::new())
 }

@@ -1,4 +1,4 @@
-//! Our own call, our rewriting called alone and our check of images, linked as a static library (crates/mezhukan): the first two for the times.
+//! Our own call, our rewriting called alone, our check of images and our slowest call, linked as a static library (crates/mezhukan): the first two for the times.
 
 use oracle::limits::{CODE, CONSTANTS, ENTRIES, LABELS};
 use oracle::reader::split_line;
@@ -33,6 +33,9 @@ extern "C" {
 
     #[allow(improper_ctypes)]
     fn mezhukan_check_image(sheet: &[u8], code: &[u8], depth: u64, answer: &mut [u64; 2]) -> u8;
+
+    #[allow(improper_ctypes)]
+    fn mezhukan_slowest(sheet: &[u8], code: &[u8], depth: u64, outcomes: &mut [u8], answer: &mut [u64; 5]) -> u8;
 }
 
 /// The sheet file, the rule file and what follows them, of an input that the oracle's reader accepts.
@@ -125,15 +128,65 @@ impl Rewrite {
     }
 }
 
+fn sheet_file(image: &Image) -> Vec<u8> {
+    [image.sheet.as_slice(), b"\n"].concat()
+}
+
 /// What our check answers for an image; the result must be the answer's number.
 pub fn checked(image: &Image) -> String {
-    let sheet = [image.sheet.as_slice(), b"\n"].concat();
     let mut answer = [u64::MAX; 2];
     // SAFETY: the function has no requirement, and the slices are those of live vectors.
-    let result = unsafe { mezhukan_check_image(&sheet, &image.code, image.depth, &mut answer) };
+    let result = unsafe { mezhukan_check_image(&sheet_file(image), &image.code, image.depth, &mut answer) };
     let [number, place] = answer;
+    format!("{number},{place}\n") + &other_result(result, number)
+}
+
+/// Says so if a result is not the answer's number.
+fn other_result(result: u8, number: u64) -> String {
     match u64::from(result) == number {
-        true => format!("{number},{place}\n"),
-        false => format!("{number},{place}\nbut the result: {result}\n"),
+        true => String::new(),
+        false => format!("but the result: {result}\n"),
+    }
+}
+
+/// The slowest call: what is handed over, and room for what comes back.
+pub struct Slowest<'i> {
+    sheet: Vec<u8>,
+    image: &'i Image,
+    outcomes: Vec<u8>,
+    answer: [u64; 5],
+}
+
+/// What stands in the room before: neither an outcome nor 0.
+const UNTOUCHED: u8 = 0xaa;
+
+impl<'i> Slowest<'i> {
+    /// With so many bytes lent for the outcomes.
+    pub fn of(image: &'i Image, room: usize) -> Self {
+        Slowest { sheet: sheet_file(image), image, outcomes: vec![UNTOUCHED; room], answer: [u64::MAX; 5] }
+    }
+
+    pub fn run(&mut self) -> u8 {
+        let Slowest { sheet, image, outcomes, answer } = self;
+        // SAFETY: the function has no requirement, and the slices are those of live vectors.
+        unsafe { mezhukan_slowest(sheet, &image.code, image.depth, outcomes, answer) }
+    }
+
+    /// What it answers, in one line. More lines say what no answer of the readings has: another result, outcomes that are not there, a byte behind them.
+    pub fn answered(&mut self) -> String {
+        let result = self.run();
+        let [number, place, loops, count, length] = self.answer;
+        let held = self.outcomes.len().min(usize::try_from(length).unwrap_or(usize::MAX));
+        let (outcomes, behind) = self.outcomes.split_at(held);
+        let mut text = format!("{number},{place},{loops},{count}");
+        outcomes.iter().for_each(|outcome| text += &format!(",{outcome}"));
+        text += "\n";
+        if held as u64 != length {
+            text += &format!("but the number of outcomes: {length}\n");
+        }
+        if let Some(at) = behind.iter().position(|byte| *byte != 0) {
+            text += &format!("but byte {at} behind the outcomes: {}\n", behind[at]);
+        }
+        text + &other_result(result, number)
     }
 }

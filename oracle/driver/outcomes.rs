@@ -41,12 +41,12 @@ fn pops(role: u8) -> i64 {
 
 /// A run's state but for its outcomes. Its place can lie before the code, or behind it.
 #[derive(Clone, Copy)]
-struct State {
-    place: i64,
+pub struct State {
+    pub place: i64,
     height: i64,
 }
 
-enum Step {
+pub enum Step {
     To(State),
     Finishes,
     Waits,
@@ -56,7 +56,7 @@ enum Step {
 }
 
 /// The roles of the code's starts, by place.
-struct Code<'c> {
+pub struct Code<'c> {
     bytes: &'c [u8],
     roles: Vec<Option<u8>>,
 }
@@ -70,7 +70,7 @@ fn role_at(sheet: &Sheet, code: &[u8], at: usize) -> Option<u8> {
 }
 
 impl<'c> Code<'c> {
-    fn of(sheet: &Sheet, bytes: &'c [u8]) -> Self {
+    pub fn of(sheet: &Sheet, bytes: &'c [u8]) -> Self {
         let (mut roles, mut at) = (vec![None; bytes.len()], 0);
         while let Some(role) = role_at(sheet, bytes, at) {
             roles[at] = Some(role);
@@ -79,12 +79,17 @@ impl<'c> Code<'c> {
         Code { bytes, roles }
     }
 
-    fn role(&self, place: i64) -> Option<u8> {
+    pub fn role(&self, place: i64) -> Option<u8> {
         usize::try_from(place).ok().and_then(|place| self.roles.get(place).copied().flatten())
     }
 
+    /// The starts, and their roles.
+    pub fn starts(&self) -> impl Iterator<Item = (i64, u8)> + '_ {
+        (0..).zip(&self.roles).filter_map(|(place, role)| role.map(|role| (place, role)))
+    }
+
     /// The byte after a branch, and a signed number from its last two bytes.
-    fn target(&self, place: i64, role: u8) -> i64 {
+    pub fn target(&self, place: i64, role: u8) -> i64 {
         let next = place as usize + size(role);
         next as i64 + i64::from(i16::from_le_bytes([self.bytes[next - 2], self.bytes[next - 1]]))
     }
@@ -110,7 +115,7 @@ impl<'c> Code<'c> {
     }
 
     /// The states of a run from this height on, up to so many steps, and how it ends.
-    fn run(&self, height: i64, steps: usize, mut outcomes: impl Iterator<Item = bool>) -> (Vec<State>, Step) {
+    pub fn run(&self, height: i64, steps: usize, mut outcomes: impl Iterator<Item = bool>) -> (Vec<State>, Step) {
         let mut states = vec![State { place: 0, height }];
         for at in 0..=steps {
             match self.step(states[at], &mut outcomes) {
@@ -119,6 +124,13 @@ impl<'c> Code<'c> {
             }
         }
         (states, Step::Waits)
+    }
+
+    /// All lists of an outcome for each start that waits for one, unless they are too many.
+    pub fn lists(&self) -> Option<impl Iterator<Item = impl Iterator<Item = bool>> + Clone> {
+        let branches = self.starts().filter(|(_, role)| matches!(*role, role::JMP_IF_NOT | role::CMP_BR_I32)).count();
+        let few = branches < 16 && (self.starts().count() + 1) << branches <= MOST;
+        few.then(|| (0..1 << branches).map(move |bits| list(bits, branches)))
     }
 }
 
@@ -141,18 +153,13 @@ fn is_faulty(code: &Code, (states, end): (Vec<State>, Step), depth: u64, reached
 /// The verdict, unless the lists are too many.
 pub fn check(sheet: &Sheet, bytes: &[u8], depth: u64) -> Option<Verdict> {
     let code = Code::of(sheet, bytes);
-    let starts: Vec<u8> = code.roles.iter().copied().flatten().collect();
-    let branches = starts.iter().filter(|role| matches!(**role, role::JMP_IF_NOT | role::CMP_BR_I32)).count();
-    if branches >= 16 || (starts.len() + 1) << branches > MOST {
-        return None;
-    }
-    let mut lists = (0..1 << branches).map(|bits| list(bits, branches));
+    let (mut lists, starts) = (code.lists()?, code.starts().count());
     // Heights ignored: from so high that no step can pop too much.
-    let plenty = 2 * starts.len() as i64 + 2;
-    if lists.clone().any(|list| matches!(code.run(plenty, starts.len(), list).1, Step::NoPlace)) {
+    let plenty = 2 * starts as i64 + 2;
+    if lists.clone().any(|list| matches!(code.run(plenty, starts, list).1, Step::NoPlace)) {
         return Some(ASTRAY);
     }
     let mut reached = vec![None; bytes.len()];
-    let faulty = lists.any(|list| is_faulty(&code, code.run(0, starts.len(), list), depth, &mut reached));
+    let faulty = lists.any(|list| is_faulty(&code, code.run(0, starts, list), depth, &mut reached));
     Some(if faulty { BAD_HEIGHT } else { PASSES })
 }

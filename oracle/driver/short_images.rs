@@ -1,4 +1,5 @@
-//! Every short image under the plain sheet: all bytes of a small alphabet, then all runs of a few instructions. A number names each.
+//! Every short image under the plain sheet: all bytes of a small alphabet, then all runs of a few instructions. A number names each. For the slowest call there are
+//! more of them at the end.
 
 use std::ops::RangeInclusive;
 
@@ -10,17 +11,21 @@ const MOST_BYTES: u32 = 5;
 const DEPTHS: u64 = 3;
 
 /// Instructions to run together, so many at a time: those of one byte, and branches but for their offsets.
-struct Set {
+pub struct Set {
     plain: &'static [u8],
     branches: &'static [&'static [u8]],
     lengths: RangeInclusive<u32>,
 }
 
-/// DUP, POP, LOAD_TRUE, add, RET; JMP, JMP_IF_NOT, CMP_BR. Fewer of them where they are more at a time.
-const SETS: [Set; 2] = [
+/// DUP, POP, LOAD_TRUE, add, RET; JMP, JMP_IF_NOT, CMP_BR. Fewer of them where they are more at a time: of RET and CMP_BR six, so that equal runs part twice.
+const SETS: [Set; 3] = [
     Set { plain: &[1, 2, 6, 8, 27], branches: &[&[24], &[25], &[26, 1, 0, 0, 0, 0]], lengths: 1..=4 },
     Set { plain: &[2, 6, 27], branches: &[&[24], &[25]], lengths: 5..=5 },
+    Set { plain: &[27], branches: &[&[26, 1, 0, 0, 0, 0]], lengths: 5..=6 },
 ];
+
+pub const FOR_IMAGES: &[Set] = SETS.split_at(2).0;
+pub const FOR_SLOWEST: &[Set] = &SETS;
 
 /// The digits of a number, the lowest first.
 fn digits(mut number: u64, base: u64, count: u32) -> Vec<usize> {
@@ -74,8 +79,8 @@ fn bytes(mut number: u64) -> Result<Vec<u8>, u64> {
 }
 
 /// The code of this number among the instructions; none behind the last.
-fn instructions(mut number: u64) -> Option<Vec<u8>> {
-    for (set, length) in SETS.iter().flat_map(|set| set.lengths.clone().map(move |length| (set, length))) {
+fn instructions(mut number: u64, sets: &[Set]) -> Option<Vec<u8>> {
+    for (set, length) in sets.iter().flat_map(|set| set.lengths.clone().map(move |length| (set, length))) {
         let choices = set.choices(length);
         if number < choices.pow(length) {
             return Some(set.code(&digits(number, choices, length)));
@@ -90,7 +95,7 @@ pub fn origin(seed: u64) -> &'static str {
 }
 
 /// The input of this number.
-pub fn input(seed: u64) -> Option<Vec<u8>> {
-    let code = bytes(seed / DEPTHS).map_or_else(instructions, Some)?;
+pub fn input(seed: u64, sets: &[Set]) -> Option<Vec<u8>> {
+    let code = bytes(seed / DEPTHS).map_or_else(|number| instructions(number, sets), Some)?;
     Some(format!("{}\n{}\n{}\n", joined(&plain_sheet()), seed % DEPTHS, joined(&code)).into_bytes())
 }

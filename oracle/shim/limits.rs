@@ -12,6 +12,9 @@ pub const NESTING: usize = 64;
 pub const VARIABLES: i64 = 1_024;
 pub const RULES: usize = 64;
 
+/// 02's: the most branch outcomes of the slowest call.
+pub const OUTCOMES: usize = 21_845;
+
 thread_local! {
     static MET: Cell<Option<u8>> = const { Cell::new(None) };
 }
