@@ -172,20 +172,19 @@ impl<'i> Slowest<'i> {
         unsafe { mezhukan_slowest(sheet, &image.code, image.depth, outcomes, answer) }
     }
 
-    /// What it answers, in one line. More lines say what no answer of the readings has: another result, outcomes that are not there, a byte behind them.
+    /// What it answers, in one line. More lines say what no answer of the readings has: outcomes that are not there, a byte behind them, another result.
     pub fn answered(&mut self) -> String {
         let result = self.run();
         let [number, place, loops, count, length] = self.answer;
-        let held = self.outcomes.len().min(usize::try_from(length).unwrap_or(usize::MAX));
-        let (outcomes, behind) = self.outcomes.split_at(held);
         let mut text = format!("{number},{place},{loops},{count}");
-        outcomes.iter().for_each(|outcome| text += &format!(",{outcome}"));
-        text += "\n";
-        if held as u64 != length {
-            text += &format!("but the number of outcomes: {length}\n");
-        }
-        if let Some(at) = behind.iter().position(|byte| *byte != 0) {
-            text += &format!("but byte {at} behind the outcomes: {}\n", behind[at]);
+        match self.outcomes.split_at_checked(length as usize) {
+            Some((outcomes, behind)) => {
+                outcomes.iter().for_each(|outcome| text += &format!(",{outcome}"));
+                text += "\n";
+                let left = behind.iter().find(|byte| **byte != 0);
+                left.into_iter().for_each(|byte| text += &format!("but a byte behind the outcomes: {byte}\n"));
+            }
+            None => text += &format!("\nbut the number of outcomes: {length}\n"),
         }
         text + &other_result(result, number)
     }

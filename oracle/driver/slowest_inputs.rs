@@ -165,7 +165,7 @@ fn unreached(random: &mut Random) -> Draft {
     let mut writer = Writer::new(random);
     let count = writer.random.pick(&[0, 0, 1, 2, 4, 8]);
     write_forward(&mut writer, count);
-    let (jump, odd) = (leave(&mut writer, 50), writer.random.below(6));
+    let (jump, odd) = (leave(&mut writer, 50), writer.random.below(3));
     for at in 0..writer.random.pick(&[0, 1, 1, 2, 3]) {
         let (start, role) = (writer.code.len(), writer.random.pick(&[23, 24, 25, 5, 26]));
         writer.instruction(role);
