@@ -21,13 +21,13 @@ fn most(code: &Decoded) -> BTreeMap<Place, usize> {
 fn way(code: &Decoded, most: &BTreeMap<Place, usize>, count: usize) -> Vec<bool> {
     let (mut outcomes, mut place) = (Vec::new(), 0);
     for _ in 0..count {
-        place = match code.starts[&place].followers[..] {
-            [next, target] => {
-                let taken = most[&target] > most[&next];
+        place = match code.starts.get(&place).map(|instruction| &instruction.followers[..]) {
+            Some([next, target]) => {
+                let taken = most[target] > most[next];
                 outcomes.push(taken);
-                [next, target][usize::from(taken)]
+                [*next, *target][usize::from(taken)]
             }
-            [next] => next,
+            Some([next]) => *next,
             _ => break,
         };
     }

@@ -11,7 +11,7 @@ const AT_LIMIT: &str = "at the code limit";
 const FORWARD: &str = "forward";
 const DIAMONDS: &str = "diamonds";
 const UNREACHED: &str = "with unreached code";
-/// At their own depth these are never refused, 02 says.
+/// At their own depth these are never refused, 02 says; and only a loop has a branch back.
 pub const LOOPLESS: &str = "finished without loops";
 pub const LOOPING: &str = "finished with loops";
 const CHECKED: &str = "images of the check";
@@ -91,12 +91,28 @@ fn test(writer: &mut Writer) -> usize {
     writer.code.len() - 2
 }
 
-/// So many instructions that leave the height as it is; a branch among them leads to the next instruction.
+/// Two instructions on the way that has most: a load and POP, or a branch and a JMP. The branch leads past a RET, and is taken there, or past the JMP, and is not.
+fn pair(writer: &mut Writer) {
+    if writer.random.percent(40) {
+        writer.instruction(5);
+        return writer.instruction(1);
+    }
+    writer.instruction(25);
+    let branch = writer.code.len() - 2;
+    if writer.random.percent(50) {
+        writer.instruction(26);
+        land(writer, Some(branch));
+        return writer.instruction(23);
+    }
+    writer.instruction(23);
+    land(writer, Some(branch));
+}
+
+/// So many instructions on the way that has most, which leave the height as it is.
 fn arm(writer: &mut Writer, mut count: usize) {
     while count > 0 {
         if count > 1 && writer.random.percent(70) {
-            writer.instruction(5);
-            writer.instruction(1);
+            pair(writer);
             count -= 1;
         } else {
             let role = writer.random.pick(&[23, 23, 25]);
@@ -123,7 +139,7 @@ fn land(writer: &mut Writer, branch: Option<usize>) {
     }
 }
 
-/// The most bytes of a diamond: a CMP_BR, up to seven more in its arms, and a JMP.
+/// The most bytes of a diamond: a CMP_BR, up to seven instructions in its arms, each with eight bytes at most, and a JMP.
 const LARGEST: usize = 8 * 8 + 3;
 
 /// A branch to the second of two arms, the first with a JMP behind both, or RET. With the JMP both arms are often as long as each other.
@@ -185,7 +201,7 @@ fn unreached(random: &mut Random) -> Draft {
 }
 
 /// CMP_BR; a load and JMP_IF_NOT, and with a RET that the branch leaves out; one byte each.
-const BLOCKS: [&[usize]; 6] = [&[25], &[5, 24], &[2, 24], &[5, 24, 26], &[5, 1], &[5, 12, 16, 1]];
+const BLOCKS: [&[usize]; 7] = [&[25], &[5, 24], &[5, 24], &[2, 24], &[5, 24, 26], &[5, 1], &[5, 12, 16, 1]];
 
 /// As many of one block as fit, its branch to behind it.
 fn write_blocks(writer: &mut Writer, length: usize) {
@@ -202,8 +218,8 @@ fn write_blocks(writer: &mut Writer, length: usize) {
 /// Code of the greatest length, one byte less, or one more.
 fn full(random: &mut Random) -> Draft {
     let mut writer = Writer::new(random);
-    let length = writer.random.pick(&[CODE, CODE, CODE, CODE, CODE - 1, CODE + 1]);
-    match writer.random.below(5) {
+    let length = writer.random.weigh(&[(8, CODE), (1, CODE - 1), (1, CODE + 1)]);
+    match writer.random.below(6) {
         0 => {
             writer.fill(length);
             writer.aim_forward();
