@@ -34,8 +34,17 @@ extern "C" {
     #[allow(improper_ctypes)]
     fn mezhukan_check_image(sheet: &[u8], code: &[u8], depth: u64, answer: &mut [u64; 2]) -> u8;
 
-    #[allow(improper_ctypes)]
-    fn mezhukan_slowest(sheet: &[u8], code: &[u8], depth: u64, outcomes: &mut [u8], answer: &mut [u64; 5]) -> u8;
+    /// As C has it: a slice would not be parted between the last register and the stack.
+    fn mezhukan_slowest(
+        sheet: *const u8,
+        sheet_length: usize,
+        code: *const u8,
+        code_length: usize,
+        depth: u64,
+        outcomes: *mut u8,
+        outcomes_length: usize,
+        answer: &mut [u64; 5],
+    ) -> u8;
 }
 
 /// The sheet file, the rule file and what follows them, of an input that the oracle's reader accepts.
@@ -167,9 +176,10 @@ impl<'i> Slowest<'i> {
     }
 
     pub fn run(&mut self) -> u8 {
-        let Slowest { sheet, image, outcomes, answer } = self;
-        // SAFETY: the function has no requirement, and the slices are those of live vectors.
-        unsafe { mezhukan_slowest(sheet, &image.code, image.depth, outcomes, answer) }
+        let Slowest { sheet, image: Image { code, depth, .. }, outcomes, answer } = self;
+        let (lent, room) = (outcomes.as_mut_ptr(), outcomes.len());
+        // SAFETY: the function has no requirement, and the lists are live vectors.
+        unsafe { mezhukan_slowest(sheet.as_ptr(), sheet.len(), code.as_ptr(), code.len(), *depth, lent, room, answer) }
     }
 
     /// What it answers, in one line. More lines say what no answer of the readings has: outcomes that are not there, a byte behind them, another result.
