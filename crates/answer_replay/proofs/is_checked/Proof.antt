@@ -10,32 +10,13 @@ pub is-checked-spec : {M : Type 1} → statement M
 is-checked-spec =
     tie.close
     (tie.spec
-    (λ c κs. search needs)  -- line-end-requires
-    (λ c. search needs)  -- returns
-    (λ c. search needs)  -- add-depth
-    (λ c κs. search needs)  -- line-end-requires-2
-    (λ c. search needs)  -- returns-2
-    (λ c. search needs)  -- add-bytes
-    (λ c κs. search needs)  -- line-end-requires-3
-    (λ c. search needs)  -- sub-read-code
-    (λ c. search needs)  -- part-read-code-start
-    (λ c. search needs)  -- part-read-code-end
-    (λ c. search needs)  -- slice-aggregate-read-code
-    (λ c κs. search needs)  -- read-code-requires
-    (λ c. sym (length-take-le _ _ (omega (arith, c .before .before .before .before .before .before .before .before .if1 .left))))  -- slice-aggregate-check-image
-    (λ c. search needs)  -- array-share-prefix-code
-    (λ c. sym (length-take-le _ _ (omega (arith, c .before .before .before .read-code .ensures))))  -- slice-aggregate-check-image-2
-    (λ c. search needs)  -- sub-number
-    (λ c. search needs)  -- part-number-start
-    (λ c. search needs)  -- part-number-end
-    (λ c κs. search needs)  -- number-requires
     (λ c κs. search needs)  -- check-image-requires
     (λ c. search needs)  -- slice-aggregate-put-refusal
     (λ c. search needs)  -- cast-put-refusal
     (λ c. search needs)  -- cast-put-refusal-2
     (λ c κs. search needs)  -- put-refusal-requires
-    (λ c. search needs)  -- returns-3
+    (λ c. search needs)  -- returns
     (λ c. search needs)  -- array-share-prefix-out
-    (λ c. sym (length-take-le _ _ (omega (arith, c .before .if3 .left, c .before .before .before .put-refusal .kept .0))))  -- slice-aggregate-same
+    (λ c. sym (length-take-le _ _ (omega (arith, c .before .if1 .left, c .before .before .before .put-refusal .kept .0))))  -- slice-aggregate-same
     (λ c κs. search needs)  -- same-requires
-    (λ c. search needs))  -- returns-4
+    (λ c. search needs))  -- returns-2
