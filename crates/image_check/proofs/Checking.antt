@@ -1,21 +1,20 @@
 -- The answer.
 use Prim.Native.Nat.{ℕ, _+_, _-_, suc, zero, _≤_, _<_, zero-le}
 use mathlib.Core.Path.{_≡_, refl, sym, _∙_, ap, subst, fun-ext}
-use mathlib.Core.List.{List, [], _∷_}
-use mathlib.Core.Bool.{Bool, true, false}
+use mathlib.Core.List.{List, []}
+use mathlib.Core.Bool.{true, false}
 use mathlib.Core.Option.{Option, some, none}
 use lib.ListN.{length, getD, replicate, length-replicate}
 use native.Mathlib.Omega.{arith}
 use Rattle.definition.specs.Limits.{maxCode, badSheet, codeFull, astray, badHeight}
 use Rattle.definition.specs.Check.{Answers, Checks, refusesSheet, refusesLength, answers as answersIt}
 use Rattle.store.proofs.Fills.{replicate-none}
-use Rattle.opcode.specs.Table.{IsTable}
 use Rattle.rewrite.specs.View.{Clear}
 use Rattle.opcode.specs.Reading.{Reads, Accepts, Refuses, answerOf}
 use Rattle.opcode.specs.declared.sheet.SheetRead.{SheetRead}
 use Rattle.opcode.specs.declared.sheet.SheetRead.the-variants as sheets
 use Rattle.opcode.specs.Table.{sheetIn}
-use Rattle.image_check.specs.Graph.{Node, Table, andThen, meet, one, blank, nothing, verdict, traverse, traversed}
+use Rattle.image_check.specs.Graph.{Node, andThen, meet, one, blank, nothing, verdict, traversed}
 use Rattle.image_check.specs.View.{stackOf, tableOf, view, blanks, Ready, Image, Meets, nodeIn, onFrom, Traverses, Admitted, Admits}
 use Rattle.image_check.specs.declared.Trip.{Trip}
 use Rattle.image_check.proofs.Meeting.{view-on, view-lost}

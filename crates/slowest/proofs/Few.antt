@@ -1,7 +1,7 @@
 -- A longest run has few outcomes: each is that of a branch, which takes three bytes at least, and no two share one.
 use Prim.Native.Nat.{ℕ, _+_, _*_, suc, zero, _≤_, _<_}
-use mathlib.Core.Path.{_≡_, refl, sym, ap}
-use mathlib.Core.List.{List, [], _∷_}
+use mathlib.Core.Path.{_≡_, refl, ap}
+use mathlib.Core.List.{List}
 use mathlib.Core.Bool.{Bool, true, false}
 use mathlib.Core.Option.{Option, some, none}
 use lib.ListN.{length, getD}
@@ -11,7 +11,7 @@ use Rattle.definition.specs.Limits.{maxCode, maxOutcomes}
 use Rattle.definition.specs.Field.{has}
 use Rattle.definition.specs.Opcode.{Role, Sheet, roleOf, size, Flow, onward, away, either, stop, flow}
 use Rattle.definition.specs.Runs.{target}
-use Rattle.definition.specs.Claims.{Either, left, right, branches}
+use Rattle.definition.specs.Claims.{left, right, branches}
 use Rattle.definition.specs.Check.{starts}
 use Rattle.definition.specs.Slowest.{Loops}
 use Rattle.rewrite.proofs.Decoding.{size-positive}

@@ -1,16 +1,15 @@
 -- The longest run, followed, and the answer that comes of it.
-use Prim.Native.Nat.{ℕ, _+_, _-_, suc, _≤_, _<_}
+use Prim.Native.Nat.{ℕ, _+_, _-_, _≤_, _<_}
 use mathlib.Core.Path.{_≡_, refl, sym, _∙_, ap, subst}
-use mathlib.Core.List.{List, [], _∷_, _++_, append-assoc, append-nil}
+use mathlib.Core.List.{List, [], _++_, append-assoc, append-nil}
 use mathlib.Core.Bool.{Bool, true, false}
-use mathlib.Core.Option.{Option, some, none}
 use lib.ListN.{length, getD, take, length-append}
 use native.Mathlib.Omega.{arith}
 use Rattle.definition.specs.Limits.{maxCode, maxOutcomes, outputShort}
 use Rattle.definition.specs.Field.{has}
 use Rattle.definition.specs.Opcode.{Sheet}
 use Rattle.definition.specs.Lent.{zeros, filled}
-use Rattle.definition.specs.Check.{starts, Answers, Checks}
+use Rattle.definition.specs.Check.{starts, Answers}
 use Rattle.definition.specs.Slowest.{Loops, Slowest, outcomeBytes, Answer, refused, looping, measured, Measures}
 use Rattle.definition.specs.Slowest as def
 use Rattle.store.specs.Store.{Store, at, contents, pushAll}
@@ -25,7 +24,6 @@ use Rattle.image_check.proofs.Checking.{checks-code}
 use Rattle.slowest.specs.Longest.{Best, longest}
 use Rattle.slowest.specs.View.{wayAt, isLastWay, wayPlace, wayOutcomes, wayBytes, Counted, Fronted, Following, Follows, Works, refuses, loops, measures, bit, answerView, Fronts}
 use Rattle.slowest.specs.declared.Way.{Way}
-use Rattle.slowest.specs.declared.Way.the-variants.{Ends}
 use Rattle.slowest.specs.declared.Measured.{Measured}
 use Rattle.slowest.proofs.Longest.{slowest}
 use Rattle.slowest.proofs.Few.{few}

@@ -3,13 +3,13 @@ use Prim.Native.Nat.{ℕ, _+_, suc, _≤_, _<_}
 use mathlib.Core.Path.{_≡_, refl, sym, _∙_, ap}
 use mathlib.Core.List.{List, [], _∷_}
 use mathlib.Core.Bool.{Bool, true, false, not}
-use mathlib.Core.Option.{Option, some, none}
-use lib.Dec.{eqb, leb, ltb}
+use mathlib.Core.Option.{some}
+use lib.Dec.{eqb}
 use lib.ListN.{length, getD}
 use borrow.Author.Tests.{eq-eqb, ne-eqb, le-leb, lt-leb, lt-ltb, le-ltb}
 use native.Mathlib.Omega.{arith}
 use Rattle.definition.specs.Field.{has}
-use Rattle.definition.specs.Opcode.{Sheet, roleOf, size, flow, traits}
+use Rattle.definition.specs.Opcode.{Sheet, roleOf, size, flow}
 use Rattle.definition.specs.Opcode as def
 use Rattle.definition.specs.Runs.{target}
 use Rattle.definition.specs.Claims.{branches}
@@ -22,7 +22,6 @@ use Rattle.opcode.specs.declared.Flow.{Flow}
 use Rattle.opcode.specs.declared.Flow.the-variants.{Onward, Away, Either, Stop}
 use Rattle.opcode.specs.declared.Traits.{Traits}
 use Rattle.runs.proofs.Roles.{branch-size}
-use Rattle.field.proofs.Results.{never}
 use Rattle.image_check.specs.View.{placeOr, flagged, Image, TraitsAt}
 use Rattle.slowest.specs.View.{countIn, ahead, longer, wayBy, wayRole, wayAt, isLastWay, wayPlace, lastCount, wayCount, wayOutcomes, wayBytes}
 use Rattle.slowest.specs.declared.Way.{Way}

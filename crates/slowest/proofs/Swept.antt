@@ -1,14 +1,13 @@
 -- The sweep: from the last place to the first, each count is that of the longest run.
 use Prim.Native.Nat.{ℕ, _+_, _-_, suc, _≤_, _<_}
 use mathlib.Core.Path.{_≡_, refl, sym, _∙_, ap, subst}
-use mathlib.Core.List.{List, [], _∷_}
+use mathlib.Core.List.{List}
 use mathlib.Core.Bool.{Bool, true, false, _&&_}
-use mathlib.Core.Option.{Option, some, none}
+use mathlib.Core.Option.{some}
 use lib.ListN.{length, getD, set, length-set}
 use lib.Seq.{getD-set-same, getD-set-other}
 use native.Mathlib.Omega.{arith}
 use native.Mathlib.Decide.{decLe, ℕ-discrete}
-use Rattle.definition.specs.Limits.{maxCode}
 use Rattle.definition.specs.Field.{has}
 use Rattle.definition.specs.Opcode.{Role, Sheet, roleOf, size, flow}
 use Rattle.definition.specs.Runs.{target}
@@ -20,7 +19,7 @@ use Rattle.rewrite.proofs.Decoding.{size-positive}
 use Rattle.field.proofs.Results.{never}
 use Rattle.image_check.proofs.Starts.{start-holds}
 use Rattle.slowest.specs.Longest.{Best, nothing, longest}
-use Rattle.slowest.specs.View.{countIn, wayBy, wayAt, isBackWay, isLastWay, wayPlace, lastCount, wayCount, Counted, Sweeping, Sweeps}
+use Rattle.slowest.specs.View.{countIn, wayBy, wayAt, isBackWay, isLastWay, wayPlace, lastCount, wayCount, Sweeping, Sweeps}
 use Rattle.slowest.specs.declared.Way.{Way}
 use Rattle.slowest.specs.declared.Way.the-variants.{Back, Ends, Onwards, Falls, Jumps}
 use Rattle.slowest.proofs.Longest.{longest-off, longest-past, longest-role}

@@ -2,10 +2,10 @@
 ghost use mathlib.Core.Path.{_≡_};
 ghost use mathlib.Core.Bool.{true, false};
 ghost use Prim.Native.Nat.{_+_, _≤_, _<_, _^_};
-ghost use lib.ListN.{length, getD};
+ghost use lib.ListN.{length};
 ghost use Rattle.definition.specs.Limits.{maxCode, maxOutcomes};
 ghost use Rattle.definition.specs.Claims.{branches};
-ghost use Rattle.definition.specs.Slowest.{Loops, Measures};
+ghost use Rattle.definition.specs.Slowest.{Measures};
 ghost use Rattle.opcode.specs.View.{flowView};
 ghost use Rattle.opcode.specs.Table.{IsTable, sheetIn};
 ghost use Rattle.rewrite.specs.View.{Clear};

@@ -1,5 +1,4 @@
 -- Made by `answers` from crates/image_check/answers/check_over.txt: edit that file, not this one.
-use native.Mathlib.Omega.{arith}
 use Rattle.image_check.proofs.Checking.{ready-first, first-low, answers-lost, answers-bad, answers-fine}
 use borrow.Author.Needs.{needs}
 use Rattle.image_check.proofs.check_over.Statement.{statement}

@@ -1,5 +1,4 @@
 -- Made by `answers` from crates/slowest/answers/follow.txt: edit that file, not this one.
-use native.Mathlib.Omega.{arith}
 use mathlib.Core.Path.{_≡_, refl, sym, _∙_}
 use Prim.Native.Nat.{_-_}
 use lib.ListN.{length}

@@ -1,7 +1,6 @@
 -- Made by `answers` from crates/slowest/answers/note.txt: edit that file, not this one.
 use mathlib.Core.Path.{_∙_, refl}
 use Rattle.definition.specs.Slowest.{outcomeBytes}
-use Rattle.store.specs.Store.{at}
 use Rattle.slowest.specs.View.{wayOutcomes}
 use Rattle.slowest.proofs.Reading.{note-none, note-one}
 use borrow.Author.Needs.{needs}

@@ -1,7 +1,7 @@
 -- Made by `answers` from crates/slowest/answers/sweep.txt: edit that file, not this one.
 use native.Mathlib.Omega.{arith}
-use mathlib.Core.Path.{_≡_, refl, sym, _∙_, ap}
-use lib.ListN.{length, length-set, set}
+use mathlib.Core.Path.{_≡_, refl, sym, _∙_}
+use lib.ListN.{length, length-set}
 use Rattle.slowest.specs.View.{Sweeping}
 use Rattle.slowest.proofs.Swept.{sweep-begins, sweep-back, sweep-goes, sweep-ends, count-low}
 use Rattle.slowest.proofs.sweep.Statement.{statement}
