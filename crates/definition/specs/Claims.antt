@@ -1,12 +1,12 @@
 -- What is claimed of finished code: demand 3 in document 01's words (how a run may stand, and where the branches are and lead), and document 02's L13 (it does
--- what the statements say).
+-- what the statements say); and when code is refused for a far branch (document 02, L1).
 use Prim.Native.Nat.{ℕ, _+_, _≤_, _<_}
 use mathlib.Core.Path.{_≡_}
 use mathlib.Core.List.{List, [], _∷_, map}
 use mathlib.Core.Bool.{Bool, true, false}
 use mathlib.Core.Option.{Option, some, none}
 use lib.ListN.{length, getD, take}
-use Rattle.definition.specs.Limits.{maxCode, width}
+use Rattle.definition.specs.Limits.{maxCode, maxBack, maxForward, width}
 use Rattle.definition.specs.Res.{ok}
 use Rattle.definition.specs.Field.{has}
 use Rattle.definition.specs.Opcode.{Role, Sheet, roleOf, size, Flow, onward, away, either, stop, flow}
@@ -148,6 +148,41 @@ pub record Safe (sheet rules program : List ℕ) (a : Answer) : Type 0 where
   pub whole : length (take (a .codeLength) (a .code)) ≡ a .codeLength
   pub fits : a .codeLength ≤ maxCode
   pub safe : SafeCode s rs tree e (take (a .codeLength) (a .code)) (take (a .constantCount) (a .constants)) (a .depth)
+
+-- ---- branches that are too far (document 02, L1)
+
+-- target less next place, as a whole number, is below -32,768 or above 32,767
+abbrev pub Far : ℕ → ℕ → Type 0
+Far target next = Either (target + maxBack < next) (next + maxForward < target)
+
+-- a branch of emitted code, known by its patch, is too far in finished code: from where the three maps move it to where they move its target
+pub record FarBranch (s : Sheet) (rules : List Rule) (e : Emitter) (place : ℕ) (p : PendingPatch) : Type 0 where
+  pub bound : ℕ
+  pub binds : getD (e .labels) (p .label) none ≡ some bound
+  pub here : inTurn s rules (e .bytecode) (jumpTargets e) (p .instructionOffset) ≡ place
+  pub far : Far (inTurn s rules (e .bytecode) (jumpTargets e) bound) (place + p .operandDelta + 2)
+
+-- P holds of one
+pub data Some {A : Type 0} (P : A → Type 0) : List A → Type 0 where
+  this : {x : A} {xs : List A} → P x → Some P (x ∷ xs)
+  later : {x : A} {xs : List A} → Some P xs → Some P (x ∷ xs)
+
+-- some branch, reached or not, is at that place of finished code, and is too far
+abbrev pub FarAt : Sheet → List Rule → Emitter → ℕ → Type 0
+FarAt s rules e place = Some (λ p. FarBranch s rules e place p) (e .patches)
+
+-- what a call that answers number 15 read and emitted; and its place, the lowest of a branch that is too far
+pub record TooFar (sheet rules program : List ℕ) (place : ℕ) : Type 0 where
+  pub s : Sheet
+  pub rs : List Rule
+  pub tree : Program
+  pub e : Emitter
+  pub sheetRead : readSheet sheet ≡ some s
+  pub rulesRead : readRules rules ≡ ok rs
+  pub programRead : readProgram program ≡ ok tree
+  pub emission : emitProgram s tree ≡ ok e
+  pub far : FarAt s rs e place
+  pub lowest : (x : ℕ) → FarAt s rs e x → place ≤ x
 
 -- ---- what the statements say (document 02, L13)
 

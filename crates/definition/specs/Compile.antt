@@ -7,7 +7,7 @@ use mathlib.Core.Bool.{Bool, true, _&&_}
 use mathlib.Core.Option.{Option, some, none}
 use lib.Dec.{leb}
 use lib.ListN.{length, getD, take, drop}
-use Rattle.definition.specs.Limits.{maxCode, maxConstants, maxLines, entrySize, badSheet, outputShort}
+use Rattle.definition.specs.Limits.{maxCode, maxBack, maxForward, maxConstants, maxLines, entrySize, badSheet, outputShort, farBranch}
 use Rattle.definition.specs.Res.{Res, ok, refuse, _>>=_, _>>_, demand, given}
 use Rattle.definition.specs.Opcode.{Sheet}
 use Rattle.definition.specs.Sheet.{readSheet, sheetFault}
@@ -48,6 +48,19 @@ unfoldable pub patchJumps : List (Option ℕ) → OffsetMap → List PendingPatc
 patchJumps labels m [] code = code
 patchJumps labels m (p ∷ ps) code = patchJumps labels m ps (patchJump labels m p code)
 
+-- ---- far branches (document 02, L1)
+
+-- is target less next place, as a whole number, from -32,768 to 32,767?
+unfoldable pub near : ℕ → ℕ → Bool
+near target next = leb next (target + maxBack) && leb target (next + maxForward)
+
+-- 15 at the first branch that is not near its target, where the passes moved both. Branches are emitted in the order of their places, and stay in it
+unfoldable pub inReach : List (Option ℕ) → OffsetMap → List PendingPatch → Res (Unit {0})
+inReach labels m [] = ok tt
+inReach labels m (p ∷ ps) = do
+  demand (near (movedTo m (boundLabel labels (p .label))) (movedTo m (p .instructionOffset) + p .operandDelta + 2)) farBranch (movedTo m (p .instructionOffset))
+  inReach labels m ps
+
 -- ---- from the emitter to finished code
 
 pub record FinalizedFunction : Type 0 where
@@ -75,7 +88,10 @@ unfoldable pub emitProgram : Sheet → Program → Res Emitter
 emitProgram s p = acts s (emitStmts (p .body) 0 .1) (emitterAt (p .pos))
 
 unfoldable pub compileProgram : Sheet → List Rule → Program → Res FinalizedFunction
-compileProgram s rules p = emitProgram s p >>= λ e. ok (finalizeFunction s rules e)
+compileProgram s rules p = do
+  e ← emitProgram s p
+  inReach (e .labels) (optimize s rules (e .bytecode) (jumpTargets e) .map) (e .patches)
+  ok (finalizeFunction s rules e)
 
 -- ---- the call
 
@@ -149,5 +165,5 @@ pub record Compiles (room : Room) (sheet rules program : List ℕ) (a : Answer) 
 
 -- `unfolding open-Compile` names all of this module's definitions at once
 unfoldable pub open-Compile : Unit {0}
-unfolding boundOr0 boundLabel displacement overwrite patchJump patchJumps jumpTargets finalizeFunction emitProgram compileProgram roomy compileFiles compileInto answer Free
+unfolding boundOr0 boundLabel displacement overwrite patchJump patchJumps near inReach jumpTargets finalizeFunction emitProgram compileProgram roomy compileFiles compileInto answer Free
 open-Compile = tt

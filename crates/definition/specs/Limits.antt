@@ -3,9 +3,16 @@ use Prim.Native.Nat.{ℕ, _/_}
 
 -- ---- limits of emission, and of what is lent for its results
 
--- bytes of code, emitted and finished
+-- bytes of code, emitted and finished (document 02, L1)
 abbrev pub maxCode : ℕ
-maxCode = 16384
+maxCode = 65535
+
+-- how far back and how far forward a branch of finished code leads: a signed number of sixteen bits (document 02, L1)
+abbrev pub maxBack : ℕ
+maxBack = 32768
+
+abbrev pub maxForward : ℕ
+maxForward = 32767
 
 -- branches in the code: the smallest has three bytes
 abbrev pub maxBranches : ℕ
@@ -122,6 +129,10 @@ constantsFull = 13
 -- 14: a lent output shorter than its limit
 abbrev pub outputShort : ℕ
 outputShort = 14
+
+-- 15: a branch of finished code that is too far from its target (document 02, L1)
+abbrev pub farBranch : ℕ
+farBranch = 15
 
 -- 20: an image with a run that reaches a place neither start nor end (document 02, L11)
 abbrev pub astray : ℕ

@@ -1,12 +1,16 @@
 // The limits, counts and refusal numbers of documents 01 and 02 for code, each shown to be the definition's (specs/Limits.antt, Opcode.antt, Rules.antt).
 ghost use mathlib.Core.Path.{_≡_};
 ghost use Prim.Native.Nat.{_*_};
-ghost use Rattle.definition.specs.Limits.{maxCode, maxBranches, maxLabels, maxProtected, maxLines, maxConstants, maxOutcomes, entrySize, maxProgram, maxNesting, maxVariables, maxField, maxRules, passCount, width, badText, badForm, badRange, noLoop, tooDeep, wrongLines, badSheet, badCode, badRule, codeFull, labelsFull, linesFull, constantsFull, outputShort, astray, badHeight};
+ghost use Rattle.definition.specs.Limits.{maxCode, maxBack, maxForward, maxBranches, maxLabels, maxProtected, maxLines, maxConstants, maxOutcomes, entrySize, maxProgram, maxNesting, maxVariables, maxField, maxRules, passCount, width, badText, badForm, badRange, noLoop, tooDeep, wrongLines, badSheet, badCode, badRule, codeFull, labelsFull, linesFull, constantsFull, outputShort, farBranch, astray, badHeight};
 ghost use Rattle.definition.specs.Opcode.{roleCount, comparisonCount};
 ghost use Rattle.definition.specs.Rules.{nameable, lastTest, lastAction};
 
 // Bytes of code, emitted and finished.
-pub const MAX_CODE: usize = 16384;
+pub const MAX_CODE: usize = 65535;
+// How far back a branch of finished code leads.
+pub const MAX_BACK: usize = 32768;
+// How far forward it leads.
+pub const MAX_FORWARD: usize = 32767;
 // Branches in the code: the smallest has three bytes.
 pub const MAX_BRANCHES: usize = MAX_CODE / 3;
 // Labels created, used or not.
@@ -74,6 +78,8 @@ pub const LINES_FULL: u8 = 12;
 pub const CONSTANTS_FULL: u8 = 13;
 // Refusal: a lent output shorter than its limit.
 pub const OUTPUT_SHORT: u8 = 14;
+// Refusal: a branch of finished code that is too far from its target.
+pub const FAR_BRANCH: u8 = 15;
 // Refusal: an image with a run that reaches a place neither start nor end.
 pub const ASTRAY: u8 = 20;
 // Refusal: an image with a height fault.
@@ -83,6 +89,18 @@ pub fn max_code() -> usize
     ensures { λ r. ⌜ r ≡ maxCode ⌝ }
 {
     MAX_CODE
+}
+
+pub fn max_back() -> usize
+    ensures { λ r. ⌜ r ≡ maxBack ⌝ }
+{
+    MAX_BACK
+}
+
+pub fn max_forward() -> usize
+    ensures { λ r. ⌜ r ≡ maxForward ⌝ }
+{
+    MAX_FORWARD
 }
 
 pub fn max_branches() -> usize
@@ -282,6 +300,12 @@ pub fn output_short() -> u8
     ensures { λ r. ⌜ r ≡ outputShort ⌝ }
 {
     OUTPUT_SHORT
+}
+
+pub fn far_branch() -> u8
+    ensures { λ r. ⌜ r ≡ farBranch ⌝ }
+{
+    FAR_BRANCH
 }
 
 pub fn astray() -> u8
