@@ -7,15 +7,16 @@ use mathlib.Core.Option.{Option, some, none}
 use lib.Dec.{eqb, ltb}
 use lib.ListN.{length}
 use native.Mathlib.Omega.{arith}
-use Rattle.definition.specs.Limits.{maxLines, badSheet, codeFull, labelsFull, linesFull, constantsFull, outputShort}
+use Rattle.definition.specs.Limits.{maxLines, badSheet, codeFull, labelsFull, linesFull, constantsFull, outputShort, farBranch}
 use Rattle.definition.specs.Res.{Res, ok, refuse, _>>_, demand}
 use Rattle.definition.specs.Opcode.{Role, Sheet, dup, loadVar}
 use Rattle.definition.specs.Sheet.{readSheet}
 use Rattle.definition.specs.Rules.{readRules}
 use Rattle.definition.specs.Tree.{Fault, Program}
 use Rattle.definition.specs.Program.{faultOfBlock, noFault, topStmts, readProgram}
-use Rattle.definition.specs.Emit.{Call, createLabel, bindLabel, loadVariable, storeVariable, loadConstant, addConstant, emitOpcode, emitJmp, emitJmpIfNot, emitCmpBr, resetStackDepth, setPosition, refused, Emitter, emitterAt, LineEntry, Last, other, loaded, stored, recorded, standsAt, lastEntry, le16, add, foldStore, loadAfter, pooledIf, pooled, branch, act, acts}
-use Rattle.definition.specs.Compile.{FinalizedFunction, emitProgram, compileProgram, compileFiles, Room, compileInto, answer}
+use Rattle.definition.specs.Emit.{Call, createLabel, bindLabel, loadVariable, storeVariable, loadConstant, addConstant, emitOpcode, emitJmp, emitJmpIfNot, emitCmpBr, resetStackDepth, setPosition, refused, Emitter, emitterAt, LineEntry, PendingPatch, Last, other, loaded, stored, recorded, standsAt, lastEntry, le16, add, foldStore, loadAfter, pooledIf, pooled, branch, act, acts}
+use Rattle.definition.specs.Rewrite.{OffsetMap}
+use Rattle.definition.specs.Compile.{FinalizedFunction, inReach, emitProgram, compileProgram, compileFiles, Room, compileInto, answer}
 use Rattle.definition.specs.Claims.{Each, empty, _also_}
 use Rattle.field.proofs.Results.{never, ok-bind, ok-demand, ok-is}
 use Rattle.runs.proofs.Refusals.{Numbered, numbered-bind, numbered-demand, numbered-given, rules-numbered, read-numbered}
@@ -98,12 +99,23 @@ read-sound text p e =
     let f = no-fault (faultOfBlock (topStmts (h .0) text .0)) _ p (h .2) in
     ap (λ (x : Program). faultOfBlock (x .body)) (ok-is (ok-demand _ _ _ _ p (f .1) .1)) ∙ f .0
 
+-- 15
+numbered-both : {A B : Type 0} (m : Res A) (k : Res B) → Numbered m → Numbered k → Numbered (m >> k)
+unfolding _>>_ Numbered
+numbered-both (ok a) k t u = u
+numbered-both (refuse n p) k t u = t
+
+reach-numbered : (labels : List (Option ℕ)) (m : OffsetMap) (ps : List PendingPatch) → Numbered (inReach labels m ps)
+unfolding inReach Numbered
+reach-numbered labels m [] = tt
+reach-numbered labels m (p ∷ ps) = numbered-demand _ farBranch _ _ (λ x. omega arith) (λ q. reach-numbered labels m ps)
+
 files-numbered : (place : ℕ) (sheet rules program : List ℕ) → Numbered (compileFiles place sheet rules program)
 unfolding compileFiles compileProgram emitProgram readRules Numbered
 files-numbered place sheet rules program = numbered-bind _ _ (numbered-given (readSheet sheet) badSheet place (λ e. omega arith)) λ s a.
     numbered-bind _ _ (rules-numbered 1 _) λ rs b.
     numbered-bind _ _ (read-numbered program) λ p c.
-    numbered-bind _ _ (acts-numbered s (emitterAt (p .pos)) (program-tells (p .body) (read-sound program p c) .told 0)) λ e d. tt
+    numbered-bind _ _ (acts-numbered s (emitterAt (p .pos)) (program-tells (p .body) (read-sound program p c) .told 0)) λ e d. numbered-both _ _ (reach-numbered _ _ _) tt
 
 pub call-numbered : (place : ℕ) (room : Room) (sheet rules program : List ℕ) → Numbered (compileInto place room sheet rules program)
 unfolding compileInto

@@ -17,7 +17,8 @@ use Rattle.definition.specs.Emit.{le16, Emitter, emitterAt, PendingPatch, Call,
 use Rattle.definition.specs.Walk.{after, say}
 use Rattle.definition.specs.CompileExpr.{ClassifiedCmp}
 use Rattle.definition.specs.Stmt.{emitStmts}
-use Rattle.definition.specs.Compile.{jumpTargets, finalizeFunction, emitProgram}
+use Rattle.definition.specs.Optimize.{optimize}
+use Rattle.definition.specs.Compile.{jumpTargets, finalizeFunction, emitProgram, inReach}
 use Rattle.definition.specs.Iec.{taken}
 use Rattle.definition.specs.Runs.{offCode, target}
 use Rattle.definition.specs.Machine.{Image, State, Step, finishes, breaks, operandAt, constantAt, compares, at, leadsTo, branchIf, execute, executeIf, isStart, roleAt, step}
@@ -141,7 +142,7 @@ unfolding placeAfter lengthOf
 place-is s p cs a q = ap lengthOf q
 
 module _ (s : Sheet) (good : Good s) (rules : List Rule) (fine : (pass : ℕ) → FineMatcher s (λ a b. matches pass rules a b)) (p : Program) (e : Emitter) (q : emitProgram s p ≡ ok e)
-    (b : FusedBranch (emitStmts (p .body) 0 .1)) where
+    (reach : inReach (e .labels) (optimize s rules (e .bytecode) (jumpTargets e) .map) (e .patches) ≡ ok tt) (b : FusedBranch (emitStmts (p .body) 0 .1)) where
   abbrev code : List ℕ
   code = finalizeFunction s rules e .bytecode
 
@@ -170,7 +171,7 @@ module _ (s : Sheet) (good : Good s) (rules : List Rule) (fine : (pass : ℕ) �
 
   branch-here : BranchLeads s rules e code (fusedPatch (there .before) (b .label))
   branch-here = each-middle (there .before .patches) (fusedPatch (there .before) (b .label)) (x .more)
-      (subst (λ ps. Each (λ y. BranchLeads s rules e code y) ps) (x .patches) (program-branches s (role-of-opcode good) rules fine p e q .leads))
+      (subst (λ ps. Each (λ y. BranchLeads s rules e code y) ps) (x .patches) (program-branches s (role-of-opcode good) rules fine p e q reach .leads))
 
   abbrev goal : ℕ
   goal = moved (branch-here .bound)

@@ -24,16 +24,16 @@ use Rattle.definition.specs.Emit.{Emitter, PendingPatch, Call}
 use Rattle.definition.specs.Stmt.{emitStmts}
 use Rattle.definition.specs.Rewrite.{opcodeOf, decode, startsFrom, OffsetMap, movedTo}
 use Rattle.definition.specs.Optimize.{optimize}
-use Rattle.definition.specs.Compile.{boundOr0, boundLabel, jumpTargets, finalizeFunction, emitProgram}
+use Rattle.definition.specs.Compile.{boundOr0, boundLabel, jumpTargets, finalizeFunction, emitProgram, inReach}
 use Rattle.definition.specs.Runs.{State, target, run, start}
-use Rattle.field.proofs.Results.{never}
+use Rattle.field.proofs.Results.{never, ok-demand}
 use Rattle.runs.proofs.Heights.{Bound}
 use Rattle.definition.specs.Claims.{Either, left, right, Fine, branchPlaces, inTurn, LeadsTo, Each, empty, _also_, BranchLeads, Branches, OneHeight}
 use Rattle.field.proofs.Lists.{has-first, has-later}
-use Rattle.runs.proofs.Rows.{Row, bytes-of, place-at, aim-at, row-of, row-inside, row-aim, row-bytes, height-first, place-first, place-end, place-within, patchHere, patchesBy, patches-same, each-patch, Compared, Linked}
+use Rattle.runs.proofs.Rows.{Row, bytes-of, place-at, aim-at, row-of, row-inside, row-aim, row-bytes, height-first, place-first, place-end, place-within, patchHere, patchesBy, patches-same, each-patch, each-row, aim-row, Compared, Linked}
 use Rattle.runs.proofs.Emitted.{Stands, Placed, Acted, created, emitted}
 use Rattle.runs.proofs.Passes.{Reads, Fine as FineMatcher, insOf, decode-rows, looked-moved, Piped, optimize-piped, moved-in-turn}
-use Rattle.runs.proofs.Patched.{aimedRows, aimed-first, aimed-heights, aimed-count, aimed-linked, aimed-places, aimed-patches, aimedRow, aimed-aims, aimed-row, aimed-byte, aimed-compared, aimed-long, patchWith, movedPatch, patchJumps-with, patched-rows, row-target, inside-rows}
+use Rattle.runs.proofs.Patched.{aimedRows, aimed-first, aimed-heights, aimed-count, aimed-linked, aimed-places, aimed-patches, aimedRow, aimed-aims, aimed-row, aimed-byte, aimed-compared, aimed-long, patchWith, movedPatch, patchJumps-with, patched-rows, row-target, inside-rows, IsNear, near-is, row-next}
 use Rattle.runs.proofs.Running.{row-at, run-fine, row-fine, row-leads, branch-places, height-of, height-place, start-row}
 
 -- ---- patches and what holds of each
@@ -60,20 +60,20 @@ each-back : {A B : Type 0} {P : B → Type 0} (f : A → B) (xs : List A) → Ea
 each-back f [] empty = empty
 each-back f (x ∷ xs) (p also ps) = p also each-back f xs ps
 
+each-forth : {A B : Type 0} {P : B → Type 0} (f : A → B) (xs : List A) → Each (λ x. P (f x)) xs → Each P (map f xs)
+each-forth f [] empty = empty
+each-forth f (x ∷ xs) (p also ps) = p also each-forth f xs ps
+
+-- where 15 is not answered every branch is near its target
+pub reach-each : (labels : List (Option ℕ)) (m : OffsetMap) (ps : List PendingPatch) → inReach labels m ps ≡ ok tt
+    → Each (λ (p : PendingPatch). IsNear (movedTo m (boundLabel labels (p .label))) (movedTo m (p .instructionOffset) + p .operandDelta + 2)) ps
+unfolding inReach
+reach-each labels m [] e = empty
+reach-each labels m (p ∷ ps) e = let d = ok-demand _ _ _ _ tt e in near-is _ _ (d .0) also reach-each labels m ps (d .1)
+
 -- what holds of each patch's label holds of each row's
 each-aim : (Q : ℕ → Type 0) (f : ℕ → ℕ) (rs : List Row) → Each (λ (p : PendingPatch). Q (p .label)) (patchesBy f rs) → (i l : ℕ) → aim-at rs i ≡ some l → Q l
-unfolding patchesBy patchHere aim-at
-each-aim Q f [] e i l a = never (cc)
-each-aim Q f (r ∷ rs) e zero l a = first (r .aim) e a
-  where
-    first : (x : Option ℕ) → Each (λ (p : PendingPatch). Q (p .label)) (patchHere x (f 0) (r .operand) ++ patchesBy (λ i. f (suc i)) rs) → x ≡ some l → Q l
-    first none e a = never (cc)
-    first (some m) (q also qs) a = subst Q (let w : m ≡ l = cc in w) q
-each-aim Q f (r ∷ rs) e (suc i) l a = each-aim Q (λ j. f (suc j)) rs (rest (r .aim) e) i l a
-  where
-    rest : (x : Option ℕ) → Each (λ (p : PendingPatch). Q (p .label)) (patchHere x (f 0) (r .operand) ++ patchesBy (λ i. f (suc i)) rs) → Each (λ (p : PendingPatch). Q (p .label)) (patchesBy (λ i. f (suc i)) rs)
-    rest none e = e
-    rest (some m) (q also qs) = qs
+each-aim Q f rs e i l a = let x = aim-row rs i l a in each-row (λ (p : PendingPatch). Q (p .label)) f rs e i l (x .0) (x .1) (x .2)
 
 -- a patch's label is protected
 each-has : (B : ℕ → ℕ) (ps : List PendingPatch) → Each (λ (p : PendingPatch). has (map (λ (p : PendingPatch). B (p .label)) ps) (B (p .label)) ≡ true) ps
@@ -230,15 +230,30 @@ module _ (s : Sheet) (back : Reads s) (rules : List Rule) (fine : (pass : ℕ) �
   unfolding rows₀
   short = let a = same-length in let b = piped .short in let c = acted .inv .short in let d = ap length (acted .inv .bytes) in let f = ap length (piped .bytes) in omega arith
 
-  leads : (i l : ℕ) → aim-at rows i ≡ some l → (target (bytes-of s rows) (place-at rows (suc i)) ≡ some (T l)) × Stands rows 0 (T l) (Λ l)
+  finished-patches : patchesBy (λ i. place-at rows i) rows ≡ map (movedPatch moves) (e .patches)
   unfolding rows
-  leads i l a =
-      let u = aim-used i l a in
-      let t = target-row l u in
-      let n : T l ≤ maxCode = subst (λ x. x ≤ maxCode) (sym (t .place)) (le-trans (place-within s rows (t .index)) short) in (
-        ap (λ x. target (bytes-of s rows) x) (let z = aimed-places T 0 (piped .linked) (suc i) in let w : place-at rows (suc i) ≡ 0 + place-at (piped .rows) (suc i) = omega arith in w)
-            ∙ row-target s T [] (piped .linked) i l (sym (aimed-aims T 0 (piped .rows) i) ∙ a) n short,
-        t,
+  finished-patches = patches-same (λ i. place-at rows i) (λ i. place-at (piped .rows) i) rows (λ i le. aimed-places T 0 (piped .linked) i)
+      ∙ (aimed-patches T 0 (λ i. place-at (piped .rows) i) (piped .linked) ∙ sym patches-moved)
+
+  -- no branch is far
+  abbrev Reach : Type 0
+  Reach = inReach (e .labels) moves (e .patches) ≡ ok tt
+
+  aim-near : Reach → (i l : ℕ) → aim-at rows i ≡ some l → IsNear (T l) (place-at rows (suc i))
+  unfolding movedPatch
+  aim-near reach i l a =
+      let x = aim-row rows i l a in
+      let near : Each (λ (y : PendingPatch). IsNear (T (y .label)) (y .instructionOffset + y .operandDelta + 2)) (map (movedPatch moves) (e .patches)) =
+      each-forth (movedPatch moves) (e .patches) (reach-each (e .labels) moves (e .patches) reach) in
+      subst (λ y. IsNear (T l) y) (row-next linked i l (x .0) (x .1) (x .2))
+      (each-row (λ (y : PendingPatch). IsNear (T (y .label)) (y .instructionOffset + y .operandDelta + 2)) (λ i. place-at rows i) rows (subst (λ xs. Each (λ (y : PendingPatch). IsNear (T (y .label)) (y .instructionOffset + y .operandDelta + 2)) xs) (sym finished-patches) near) i l (x .0) (x .1) (x .2))
+
+  leads : Reach → (i l : ℕ) → aim-at rows i ≡ some l → (target (bytes-of s rows) (place-at rows (suc i)) ≡ some (T l)) × Stands rows 0 (T l) (Λ l)
+  unfolding rows
+  leads reach i l a =
+      let w : place-at rows (suc i) ≡ 0 + place-at (piped .rows) (suc i) = let z = aimed-places T 0 (piped .linked) (suc i) in omega arith in (
+        ap (λ x. target (bytes-of s rows) x) w ∙ row-target s T [] (piped .linked) i l (sym (aimed-aims T 0 (piped .rows) i) ∙ a) (subst (λ x. IsNear (T l) x) w (aim-near reach i l a)),
+        target-row l (aim-used i l a),
       )
 
   begins : (os : List Bool) → Stands rows 0 (start os .place) (start os .height)
@@ -247,9 +262,9 @@ module _ (s : Sheet) (back : Reads s) (rules : List Rule) (fine : (pass : ℕ) �
 
   -- ---- the two claims, of one program
 
-  pub program-runs : (os : List Bool) (n : ℕ) → Fine s (finalizeFunction s rules e .bytecode) (finalizeFunction s rules e .depth) (run s (finalizeFunction s rules e .bytecode) n (start os))
+  pub program-runs : Reach → (os : List Bool) (n : ℕ) → Fine s (finalizeFunction s rules e .bytecode) (finalizeFunction s rules e .depth) (run s (finalizeFunction s rules e .bytecode) n (start os))
   unfolding finalizeFunction start
-  program-runs os n = subst (λ c. Fine s c (e .maxDepth) (run s c n (start os))) (sym code-rows) (row-fine s rows linked T leads back (run-fine s rows linked T leads back n (start os) (begins os) zero-le))
+  program-runs reach os n = subst (λ c. Fine s c (e .maxDepth) (run s c n (start os))) (sym code-rows) (row-fine s rows linked T (leads reach) back (run-fine s rows linked T (leads reach) back n (start os) (begins os) zero-le))
 
   pub program-short : length (finalizeFunction s rules e .bytecode) ≤ maxCode
   program-short = subst (λ c. length c ≤ maxCode) (sym code-rows) short
@@ -273,11 +288,6 @@ module _ (s : Sheet) (back : Reads s) (rules : List Rule) (fine : (pass : ℕ) �
   emitted-places : branchPlaces s code₀ ≡ map (λ (x : PendingPatch). x .instructionOffset) (e .patches)
   unfolding rows₀
   emitted-places = ap (λ c. branchPlaces s c) (acted .inv .bytes) ∙ (branch-places s back (acted .inv .linked) ∙ ap (λ xs. map (λ (x : PendingPatch). x .instructionOffset) xs) (sym (acted .inv .patches)))
-
-  finished-patches : patchesBy (λ i. place-at rows i) rows ≡ map (movedPatch moves) (e .patches)
-  unfolding rows
-  finished-patches = patches-same (λ i. place-at rows i) (λ i. place-at (piped .rows) i) rows (λ i le. aimed-places T 0 (piped .linked) i)
-      ∙ (aimed-patches T 0 (λ i. place-at (piped .rows) i) (piped .linked) ∙ sym patches-moved)
 
   finished-places : branchPlaces s (finalizeFunction s rules e .bytecode) ≡ map (λ y. inTurn s rules code₀ protected y) (branchPlaces s code₀)
   unfolding movedPatch
@@ -308,11 +318,11 @@ module _ (s : Sheet) (back : Reads s) (rules : List Rule) (fine : (pass : ℕ) �
     unfolding aimedRow
     moved-aim = row-aim rows g (aimedRow T (moved-row .0) r) (moved-row .1) ∙ a
 
-    moved-leads : (u : Used l) → LeadsTo s (finalizeFunction s rules e .bytecode) own (inTurn s rules code₀ protected (u .placed .place))
-    moved-leads u = subst (λ c. LeadsTo s c own (inTurn s rules code₀ protected (u .placed .place))) (sym code-rows)
+    moved-leads : Reach → (u : Used l) → LeadsTo s (finalizeFunction s rules e .bytecode) own (inTurn s rules code₀ protected (u .placed .place))
+    moved-leads reach u = subst (λ c. LeadsTo s c own (inTurn s rules code₀ protected (u .placed .place))) (sym code-rows)
         (subst (λ y. LeadsTo s (bytes-of s rows) y (inTurn s rules code₀ protected (u .placed .place))) (sym own-place)
         (subst (λ y. LeadsTo s (bytes-of s rows) (place-at rows g) y) (target-in-turn l u ∙ ap (λ y. inTurn s rules code₀ protected y) (bound-is u))
-        (row-leads s rows linked T leads back g l (row-inside rows g _ (moved-row .1)) moved-aim)))
+        (row-leads s rows linked T (leads reach) back g l (row-inside rows g _ (moved-row .1)) moved-aim)))
 
     moved-bytes : (k : ℕ) → k < length (r .operand) - 1 → getD (finalizeFunction s rules e .bytecode) (own + k) 0 ≡ getD code₀ (place-at rows₀ i + k) 0
     unfolding rows₀ aimedRow
@@ -321,16 +331,16 @@ module _ (s : Sheet) (back : Reads s) (rules : List Rule) (fine : (pass : ℕ) �
         ∙ (aimed-byte T (moved-row .0) (opcode s (r .role)) (r .aim) (r .operand) k lt
         ∙ sym (ap (λ c. getD c (place-at rows₀ i + k) 0) (acted .inv .bytes) ∙ row-bytes s rows₀ i r x k (omega arith)))))
 
-    branch-leads : BranchLeads s rules e (finalizeFunction s rules e .bytecode) (record { instructionOffset = place-at rows₀ i; operandDelta = length (r .operand) - 1; label = l })
-    branch-leads = let u = aim-used g l moved-aim in record { bound = u .placed .place; binds = u .placed .is; leads = moved-leads u; kept = moved-bytes }
+    branch-leads : Reach → BranchLeads s rules e (finalizeFunction s rules e .bytecode) (record { instructionOffset = place-at rows₀ i; operandDelta = length (r .operand) - 1; label = l })
+    branch-leads reach = let u = aim-used g l moved-aim in record { bound = u .placed .place; binds = u .placed .is; leads = moved-leads reach u; kept = moved-bytes }
 
-  each-leads : Each (λ (x : PendingPatch). BranchLeads s rules e (finalizeFunction s rules e .bytecode) x) (e .patches)
+  each-leads : Reach → Each (λ (x : PendingPatch). BranchLeads s rules e (finalizeFunction s rules e .bytecode) x) (e .patches)
   unfolding rows₀
-  each-leads = subst (λ xs. Each (λ (x : PendingPatch). BranchLeads s rules e (finalizeFunction s rules e .bytecode) x) xs) (sym (acted .inv .patches))
-      (each-patch (λ x. BranchLeads s rules e (finalizeFunction s rules e .bytecode) x) (λ i. place-at rows₀ i) rows₀ branch-leads)
+  each-leads reach = subst (λ xs. Each (λ (x : PendingPatch). BranchLeads s rules e (finalizeFunction s rules e .bytecode) x) xs) (sym (acted .inv .patches))
+      (each-patch (λ x. BranchLeads s rules e (finalizeFunction s rules e .bytecode) x) (λ i. place-at rows₀ i) rows₀ (λ i l r x a. branch-leads i l r x a reach))
 
-  pub program-branches : Branches s rules e (finalizeFunction s rules e .bytecode)
-  program-branches = record { emitted = emitted-places; finished = finished-places; leads = each-leads }
+  pub program-branches : Reach → Branches s rules e (finalizeFunction s rules e .bytecode)
+  program-branches reach = record { emitted = emitted-places; finished = finished-places; leads = each-leads reach }
 
   -- ---- comparison bytes
 
@@ -370,15 +380,15 @@ module _ (s : Sheet) (back : Reads s) (rules : List Rule) (fine : (pass : ℕ) �
   height-is : (p h : ℕ) → Stands rows 0 p h → h ≡ height-of rows 0 p
   height-is p h st = sym (st .height) ∙ (sym (height-place rows 0 (st .index)) ∙ ap (λ x. height-of rows 0 x) (sym (st .place)))
 
-  rows-heights : OneHeight s (bytes-of s rows) (e .maxDepth)
+  rows-heights : Reach → OneHeight s (bytes-of s rows) (e .maxDepth)
   unfolding start
-  rows-heights = record {
+  rows-heights reach = record {
     heightAt = λ p. height-of rows 0 p;
     first = sym (height-is 0 0 (begins []));
-    held = λ os n. height-is _ _ (run-fine s rows linked T leads back n (start os) (begins os) zero-le .stands);
-    from = λ x w h le n. let f = run-fine s rows linked T leads back n x (stands-at x w h) le in (row-fine s rows linked T leads back f, height-is _ _ (f .stands));
+    held = λ os n. height-is _ _ (run-fine s rows linked T (leads reach) back n (start os) (begins os) zero-le .stands);
+    from = λ x w h le n. let f = run-fine s rows linked T (leads reach) back n x (stands-at x w h) le in (row-fine s rows linked T (leads reach) back f, height-is _ _ (f .stands));
   }
 
-  pub program-heights : OneHeight s (finalizeFunction s rules e .bytecode) (finalizeFunction s rules e .depth)
+  pub program-heights : Reach → OneHeight s (finalizeFunction s rules e .bytecode) (finalizeFunction s rules e .depth)
   unfolding finalizeFunction
-  program-heights = subst (λ c. OneHeight s c (e .maxDepth)) (sym code-rows) rows-heights
+  program-heights reach = subst (λ c. OneHeight s c (e .maxDepth)) (sym code-rows) (rows-heights reach)

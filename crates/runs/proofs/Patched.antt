@@ -7,16 +7,17 @@ use mathlib.Core.Option.{Option, some, none}
 use lib.ListN.{length, getD, take, drop, length-append, List·getD-append, take-append-drop}
 use lib.Seq.{take-append-le, take-append-add, drop-append-add, drop-append-seam, length-take-le, getD-append-add}
 use lib.Dec.{leb, ltb}
-use borrow.Author.Tests.{ltb-true, ltb-false, leb-false}
+use borrow.Author.Tests.{ltb-true, ltb-false, leb-true, leb-false}
 use native.Mathlib.Omega.{arith}
-use Rattle.definition.specs.Limits.{maxCode}
+use Rattle.definition.specs.Limits.{maxBack, maxForward}
 use Rattle.definition.specs.Opcode.{Sheet, opcode, size, traits, traitsOf, flow}
 use Rattle.definition.specs.Emit.{le16, PendingPatch}
 use Rattle.definition.specs.Rewrite.{OffsetMap, movedTo}
-use Rattle.definition.specs.Compile.{boundLabel, displacement, overwrite, patchJump, patchJumps}
+use Rattle.definition.specs.Compile.{boundLabel, displacement, overwrite, patchJump, patchJumps, near}
 use Rattle.definition.specs.Runs.{target}
 use Rattle.definition.specs.Claims.{branches, Each, empty, _also_}
 use Rattle.field.proofs.Results.{never, some-is}
+use Rattle.field.proofs.Tests.{and-left, and-right}
 use Rattle.runs.proofs.Roles.{branch-size}
 use Rattle.runs.proofs.Rows.{Row, next-height, bytes-of, place-at, place-first, aim-at, row-of, height-at, first-height, patchHere, patchesBy, patches-same, Leads, nowhere, to, RowOk, Compared, Linked, finished, follows}
 
@@ -29,10 +30,18 @@ reached d next = elim (ltb d (2 ^ 15)) [
   | false ↦ elim (leb (2 ^ 16 - d) next) [ true ↦ some (next + d - 2 ^ 16) | false ↦ none ]
 ]
 
--- a target that is near the next place is read back
-reached-near : (t n : ℕ) → t < n + 2 ^ 15 → n ≤ t + 2 ^ 15 → reached (displacement t n) n ≡ some t
+-- a target that sixteen bits lead to from the next place
+abbrev pub IsNear : ℕ → ℕ → Type 0
+IsNear t n = (n ≤ t + maxBack) × (t ≤ n + maxForward)
+
+pub near-is : (t n : ℕ) → near t n ≡ true → IsNear t n
+unfolding near
+near-is t n e = (leb-true n (t + maxBack) (and-left _ _ e), leb-true t (n + maxForward) (and-right (leb n (t + maxBack)) _ e))
+
+-- it is read back
+pub reached-near : (t n : ℕ) → IsNear t n → reached (displacement t n) n ≡ some t
 unfolding displacement reached
-reached-near t n a b = near (ltb ((t + 2 ^ 16 - n) % (2 ^ 16)) (2 ^ 15)) refl
+reached-near t n (b, a) = by (ltb ((t + 2 ^ 16 - n) % (2 ^ 16)) (2 ^ 15)) refl
   where
     d : ℕ
     d = (t + 2 ^ 16 - n) % (2 ^ 16)
@@ -41,25 +50,21 @@ reached-near t n a b = near (ltb ((t + 2 ^ 16 - n) % (2 ^ 16)) (2 ^ 15)) refl
     back true e l = ap (λ x. some x) (let q : n + d - 2 ^ 16 ≡ t = omega arith in q)
     back false e l = absurd (let m = leb-false (2 ^ 16 - d) n e in omega arith)
 
-    near : (c : Bool) → ltb d (2 ^ 15) ≡ c → elim c [ true ↦ some (n + d) | false ↦ elim (leb (2 ^ 16 - d) n) [ true ↦ some (n + d - 2 ^ 16) | false ↦ none ] ] ≡ some t
-    near true e = ap (λ x. some x) (let l = ltb-true d (2 ^ 15) e in let q : n + d ≡ t = omega arith in q)
-    near false e = back (leb (2 ^ 16 - d) n) refl (ltb-false d (2 ^ 15) e)
-
--- within the code every place is near
-pub reached-back : (t n : ℕ) → t ≤ maxCode → n ≤ maxCode → reached (displacement t n) n ≡ some t
-reached-back t n a b = reached-near t n (omega arith) (omega arith)
+    by : (c : Bool) → ltb d (2 ^ 15) ≡ c → elim c [ true ↦ some (n + d) | false ↦ elim (leb (2 ^ 16 - d) n) [ true ↦ some (n + d - 2 ^ 16) | false ↦ none ] ] ≡ some t
+    by true e = ap (λ x. some x) (let l = ltb-true d (2 ^ 15) e in let q : n + d ≡ t = omega arith in q)
+    by false e = back (leb (2 ^ 16 - d) n) refl (ltb-false d (2 ^ 15) e)
 
 -- behind these bytes stand the two of a displacement
-target-back : (front rest : List ℕ) (t : ℕ) → t ≤ maxCode → length front + 2 ≤ maxCode → target (front ++ (le16 (displacement t (length front + 2)) ++ rest)) (length front + 2) ≡ some t
+target-back : (front rest : List ℕ) (t : ℕ) → IsNear t (length front + 2) → target (front ++ (le16 (displacement t (length front + 2)) ++ rest)) (length front + 2) ≡ some t
 unfolding target le16 reached
-target-back front rest t a b =
+target-back front rest t a =
     let n : ℕ = length front + 2 in
     let d : ℕ = displacement t n in
     let code : List ℕ = front ++ (d % 256 ∷ d / 256 ∷ rest) in
     let one : getD code (n - 2) 0 ≡ d % 256 = ap (λ x. getD code x 0) (let q : n - 2 ≡ length front + 0 = omega arith in q) ∙ getD-append-add front (d % 256 ∷ d / 256 ∷ rest) 0 0 in
     let two : getD code (n - 1) 0 ≡ d / 256 = ap (λ x. getD code x 0) (let q : n - 1 ≡ length front + 1 = omega arith in q) ∙ getD-append-add front (d % 256 ∷ d / 256 ∷ rest) 1 0 in
     let both : getD code (n - 2) 0 + 256 * getD code (n - 1) 0 ≡ d = omega arith in
-    ap (λ x. reached x n) both ∙ reached-back t n a b
+    ap (λ x. reached x n) both ∙ reached-near t n a
 
 -- ---- rows whose branches lead where T says
 
@@ -243,11 +248,11 @@ aimed-long T next none o k lt = omega arith
 aimed-long T next (some l) o k lt =
     omega (arith, length-append (take (length o - 2) o) (le16 (displacement (T l) next)), length-take-le (length o - 2) o (let c : length o - 2 ≤ length o = omega arith in c))
 
-one-target : {Λ : ℕ → ℕ} {g : ℕ} {b : Bool} {a : Option ℕ} (T : ℕ → ℕ) (front : List ℕ) (op : ℕ) (o rest : List ℕ) (l : ℕ) → Leads Λ g b a → (b ≡ true → 2 ≤ length o) → a ≡ some l → T l ≤ maxCode
-    → length front + suc (length o) ≤ maxCode → target (front ++ ((op ∷ aimedOperand T (length front + suc (length o)) a o) ++ rest)) (length front + suc (length o)) ≡ some (T l)
+one-target : {Λ : ℕ → ℕ} {g : ℕ} {b : Bool} {a : Option ℕ} (T : ℕ → ℕ) (front : List ℕ) (op : ℕ) (o rest : List ℕ) (l : ℕ) → Leads Λ g b a → (b ≡ true → 2 ≤ length o) → a ≡ some l → IsNear (T l) (length front + suc (length o))
+    → target (front ++ ((op ∷ aimedOperand T (length front + suc (length o)) a o) ++ rest)) (length front + suc (length o)) ≡ some (T l)
 unfolding aimedOperand
-one-target T front op o rest l nowhere two e t m = never (cc)
-one-target T front op o rest l (to {l = x} p) two e t m =
+one-target T front op o rest l nowhere two e t = never (cc)
+one-target T front op o rest l (to {l = x} p) two e t =
     let w = two refl in
     let q : x ≡ l = cc in
     let k : ℕ = length o - 2 in
@@ -258,31 +263,31 @@ one-target T front op o rest l (to {l = x} p) two e t m =
     let split : front ++ ((op ∷ (take k o ++ D (length front + suc (length o)))) ++ rest) ≡ before ++ (D (length front + suc (length o)) ++ rest) =
     ap (λ y. front ++ (op ∷ y)) (append-assoc (take k o) (D (length front + suc (length o))) rest) ∙ sym (append-assoc front (op ∷ take k o) (D (length front + suc (length o)) ++ rest)) in
     ap (λ y. target y (length front + suc (length o))) split
-    ∙ (subst (λ y. target (before ++ (D y ++ rest)) y ≡ some (T x)) n (target-back before rest (T x) (subst (λ y. T y ≤ maxCode) (sym q) t) (subst (λ y. y ≤ maxCode) (sym n) m)) ∙ ap (λ y. some (T y)) q)
+    ∙ (subst (λ y. target (before ++ (D y ++ rest)) y ≡ some (T x)) n (target-back before rest (T x) (subst (λ y. IsNear (T x) y) (sym n) (subst (λ y. IsNear (T y) (length front + suc (length o))) (sym q) t))) ∙ ap (λ y. some (T y)) q)
 
-pub row-target : {Λ : ℕ → ℕ} {D e : ℕ} (s : Sheet) (T : ℕ → ℕ) (front : List ℕ) {rs : List Row} → Linked Λ D rs e → (i l : ℕ) → aim-at rs i ≡ some l → T l ≤ maxCode → length (front ++ bytes-of s (aimedRows T (length front) rs)) ≤ maxCode
+pub row-target : {Λ : ℕ → ℕ} {D e : ℕ} (s : Sheet) (T : ℕ → ℕ) (front : List ℕ) {rs : List Row} → Linked Λ D rs e → (i l : ℕ) → aim-at rs i ≡ some l → IsNear (T l) (length front + place-at rs (suc i))
     → target (front ++ bytes-of s (aimedRows T (length front) rs)) (length front + place-at rs (suc i)) ≡ some (T l)
 unfolding aim-at place-at bytes-of aimedRows aimedRow
-row-target s T front finished i l e t m = never (cc)
-row-target s T front (follows {r = r} {rs = rs} k f x) zero l e t m =
+row-target s T front finished i l e t = never (cc)
+row-target s T front (follows {r = r} {rs = rs} k f x) zero l e t =
     let o : List ℕ = r .operand in
     let rest : List ℕ = bytes-of s (aimedRows T (length front + suc (length o)) rs) in
     let o′ : List ℕ = aimedOperand T (length front + suc (length o)) (r .aim) o in
-    let z = row-length T (length front + suc (length o)) k in
-    let n : length front + suc (length o) ≤ maxCode = omega (arith, length-append front ((opcode s (r .role) ∷ o′) ++ rest), length-append o′ rest) in
     let p = place-first rs in
-    ap (λ y. target (front ++ ((opcode s (r .role) ∷ o′) ++ rest)) y) (let q : length front + (suc (length o) + place-at rs 0) ≡ length front + suc (length o) = omega arith in q)
-    ∙ one-target T front (opcode s (r .role)) o rest l (k .leads) (λ b. branch-operand k b) e t n
-row-target s T front (follows {r = r} {rs = rs} k f x) (suc i) l e t m =
+    let q : length front + (suc (length o) + place-at rs 0) ≡ length front + suc (length o) = omega arith in
+    ap (λ y. target (front ++ ((opcode s (r .role) ∷ o′) ++ rest)) y) q
+    ∙ one-target T front (opcode s (r .role)) o rest l (k .leads) (λ b. branch-operand k b) e (subst (λ y. IsNear (T l) y) q t)
+row-target s T front (follows {r = r} {rs = rs} k f x) (suc i) l e t =
     let o : List ℕ = r .operand in
     let op : ℕ = opcode s (r .role) in
     let o′ : List ℕ = aimedOperand T (length front + suc (length o)) (r .aim) o in
     let n : length (front ++ (op ∷ o′)) ≡ length front + suc (length o) = length-append front (op ∷ o′) ∙ ap (λ y. length front + suc y) (row-length T (length front + suc (length o)) k) in
     let code : front ++ ((op ∷ o′) ++ bytes-of s (aimedRows T (length front + suc (length o)) rs)) ≡ (front ++ (op ∷ o′)) ++ bytes-of s (aimedRows T (length (front ++ (op ∷ o′))) rs) =
     sym (append-assoc front (op ∷ o′) (bytes-of s (aimedRows T (length (front ++ (op ∷ o′))) rs)) ∙ ap (λ y. front ++ ((op ∷ o′) ++ bytes-of s (aimedRows T y rs))) n) in
+    let q : length front + (suc (length o) + place-at rs (suc i)) ≡ length (front ++ (op ∷ o′)) + place-at rs (suc i) = omega arith in
     ap (λ y. target y (length front + (suc (length o) + place-at rs (suc i)))) code
-    ∙ (ap (λ y. target ((front ++ (op ∷ o′)) ++ bytes-of s (aimedRows T (length (front ++ (op ∷ o′))) rs)) y) (let q : length front + (suc (length o) + place-at rs (suc i)) ≡ length (front ++ (op ∷ o′)) + place-at rs (suc i) = omega arith in q)
-    ∙ row-target s T (front ++ (op ∷ o′)) x i l e t (subst (λ y. length y ≤ maxCode) code m))
+    ∙ (ap (λ y. target ((front ++ (op ∷ o′)) ++ bytes-of s (aimedRows T (length (front ++ (op ∷ o′))) rs)) y) q
+    ∙ row-target s T (front ++ (op ∷ o′)) x i l e (subst (λ y. IsNear (T l) y) q t))
 
 -- ---- the two bytes of each branch lie in the code
 
@@ -302,3 +307,19 @@ inside-rows s base f (follows {r = r} {rs = rs} k g l) h n le =
     let first : f 0 ≡ base + 0 = h 0 in
     one-inside (f 0) o (patchesBy (λ i. f (suc i)) rs) n (k .leads) (λ b. branch-operand k b) (omega arith)
     (inside-rows s (base + suc (length o)) (λ i. f (suc i)) l (λ i. let q : f (suc i) ≡ base + (suc (length o) + place-at rs i) = h (suc i) in omega arith) n (omega arith))
+
+-- ---- the place behind a branch, by its patch
+
+aimed-branch : {Λ : ℕ → ℕ} {g l : ℕ} {b : Bool} {a : Option ℕ} → Leads Λ g b a → a ≡ some l → b ≡ true
+aimed-branch nowhere e = never (cc)
+aimed-branch (to p) e = refl
+
+pub row-next : {Λ : ℕ → ℕ} {D e : ℕ} {rs : List Row} → Linked Λ D rs e → (i l : ℕ) (r : Row) → row-of rs i ≡ some r → r .aim ≡ some l → place-at rs i + (length (r .operand) - 1) + 2 ≡ place-at rs (suc i)
+unfolding row-of place-at
+row-next finished i l r p a = never (cc)
+row-next (follows {r = q} {rs = rs} k f x) zero l r p a =
+    let same : q ≡ r = some-is p in
+    let w = branch-operand k (aimed-branch (k .leads) (ap (λ (y : Row). y .aim) same ∙ a)) in
+    let z = place-first rs in
+    subst (λ (y : Row). 0 + (length (y .operand) - 1) + 2 ≡ suc (length (q .operand)) + place-at rs 0) same (omega arith)
+row-next (follows k f x) (suc i) l r p a = let n = row-next x i l r p a in omega arith

@@ -76,6 +76,31 @@ each-patch Q f (r ∷ rs) h = by (r .aim) (λ l e. h 0 l r refl e) (each-patch Q
     by none g more = more
     by (some l) g more = g l refl also more
 
+-- and what holds of each patch holds of every row that has a label
+pub each-row : (Q : PendingPatch → Type 0) (f : ℕ → ℕ) (rs : List Row) → Each Q (patchesBy f rs)
+    → (i l : ℕ) (r : Row) → row-of rs i ≡ some r → r .aim ≡ some l → Q (record { instructionOffset = f i; operandDelta = length (r .operand) - 1; label = l })
+unfolding patchesBy patchHere row-of
+each-row Q f [] e i l r p a = never (cc)
+each-row Q f (q ∷ rs) e zero l r p a =
+    let same : q ≡ r = some-is p in
+    subst (λ (y : Row). Q (record { instructionOffset = f 0; operandDelta = length (y .operand) - 1; label = l })) same (first (q .aim) e (ap (λ (y : Row). y .aim) same ∙ a))
+  where
+    first : (x : Option ℕ) → Each Q (patchHere x (f 0) (q .operand) ++ patchesBy (λ i. f (suc i)) rs) → x ≡ some l → Q (record { instructionOffset = f 0; operandDelta = length (q .operand) - 1; label = l })
+    first none e a = never (cc)
+    first (some m) (h also hs) a = subst (λ (y : ℕ). Q (record { instructionOffset = f 0; operandDelta = length (q .operand) - 1; label = y })) (let w : m ≡ l = cc in w) h
+each-row Q f (q ∷ rs) e (suc i) l r p a = each-row Q (λ j. f (suc j)) rs (rest (q .aim) e) i l r p a
+  where
+    rest : (x : Option ℕ) → Each Q (patchHere x (f 0) (q .operand) ++ patchesBy (λ i. f (suc i)) rs) → Each Q (patchesBy (λ i. f (suc i)) rs)
+    rest none e = e
+    rest (some m) (h also hs) = hs
+
+-- a label is some row's
+pub aim-row : (rs : List Row) (i l : ℕ) → aim-at rs i ≡ some l → (r : Row) × (row-of rs i ≡ some r) × (r .aim ≡ some l)
+unfolding aim-at row-of
+aim-row [] i l a = never (cc)
+aim-row (r ∷ rs) zero l a = (r, refl, a)
+aim-row (r ∷ rs) (suc i) l a = aim-row rs i l a
+
 pub row-inside : (rs : List Row) (i : ℕ) (r : Row) → row-of rs i ≡ some r → i < length rs
 unfolding row-of
 row-inside [] i r e = never (cc)

@@ -8,7 +8,7 @@ use lib.ListN.{length, take}
 use lib.Seq.{take-append-seam}
 use native.Mathlib.Omega.{arith}
 use Rattle.definition.specs.Limits.{maxCode}
-use Rattle.definition.specs.Res.{ok}
+use Rattle.definition.specs.Res.{Res, ok, refuse, _>>_}
 use Rattle.definition.specs.Opcode.{Sheet}
 use Rattle.definition.specs.Sheet.{readSheet}
 use Rattle.definition.specs.Rules.{Rule, readRules, matches}
@@ -16,7 +16,8 @@ use Rattle.definition.specs.Tree.{Program}
 use Rattle.definition.specs.Program.{readProgram}
 use Rattle.definition.specs.Emit.{Emitter}
 use Rattle.definition.specs.Lent.{zeros, filled}
-use Rattle.definition.specs.Compile.{FinalizedFunction, finalizeFunction, emitProgram, compileProgram, compileFiles, Room, compileInto, Answer, answer, Compiles}
+use Rattle.definition.specs.Compile.{FinalizedFunction, finalizeFunction, emitProgram, compileProgram, compileFiles, Room, compileInto, Answer, answer, Compiles, jumpTargets, inReach}
+use Rattle.definition.specs.Optimize.{optimize}
 use Rattle.definition.specs.Claims.{SafeCode, Safe, OneHeight}
 use Rattle.definition.specs.Check.{Passes, Checks, refusesSheet, refusesLength, answers}
 use Rattle.opcode.proofs.Faults.{good}
@@ -38,7 +39,13 @@ pub record Compiled (sheet rules program : List ℕ) (f : FinalizedFunction) : T
   pub rulesRead : readRules rules ≡ ok rs
   pub programRead : readProgram program ≡ ok p
   pub emission : emitProgram s p ≡ ok e
+  pub reach : inReach (e .labels) (optimize s rs (e .bytecode) (jumpTargets e) .map) (e .patches) ≡ ok tt
   pub finish : f ≡ finalizeFunction s rs e
+
+ok-both : {A : Type 0} (m : Res (Unit {0})) (k : Res A) (y : A) → (m >> k) ≡ ok y → (m ≡ ok tt) × (k ≡ ok y)
+unfolding _>>_
+ok-both (ok u) k y e = (refl, e)
+ok-both (refuse n p) k y e = never (cc)
 
 pub compiled : (place : ℕ) (sheet rules program : List ℕ) (f : FinalizedFunction) → compileFiles place sheet rules program ≡ ok f → Compiled sheet rules program f
 unfolding compileFiles compileProgram
@@ -47,6 +54,7 @@ compiled place sheet rules program f q =
     let b = ok-bind _ _ f (a .2) in
     let c = ok-bind _ _ f (b .2) in
     let d = ok-bind _ _ f (c .2) in
+    let h = ok-both _ _ f (d .2) in
     record {
       s = a .0;
       rs = b .0;
@@ -56,7 +64,8 @@ compiled place sheet rules program f q =
       rulesRead = b .1;
       programRead = c .1;
       emission = d .1;
-      finish = ok-is (d .2);
+      reach = h .0;
+      finish = ok-is (h .1);
     }
 
 -- an output starts with what it holds
@@ -74,9 +83,9 @@ module _ {sheet rules program : List ℕ} {f : FinalizedFunction} (made : Compil
   code-safe : SafeCode (made .s) (made .rs) (made .p) (made .e) (f .bytecode) (f .constants) (f .depth)
   unfolding finalizeFunction
   code-safe = subst (λ g. SafeCode (made .s) (made .rs) (made .p) (made .e) (g .bytecode) (g .constants) (g .depth)) (sym (made .finish)) (record {
-    runs = program-runs (made .s) back (made .rs) fine (made .p) (made .e) (made .emission);
-    branches = program-branches (made .s) back (made .rs) fine (made .p) (made .e) (made .emission);
-    fused = program-fused (made .s) (good sheet (made .s) (made .sheetRead)) (made .rs) fine (made .p) (made .e) (made .emission);
+    runs = program-runs (made .s) back (made .rs) fine (made .p) (made .e) (made .emission) (made .reach);
+    branches = program-branches (made .s) back (made .rs) fine (made .p) (made .e) (made .emission) (made .reach);
+    fused = program-fused (made .s) (good sheet (made .s) (made .sheetRead)) (made .rs) fine (made .p) (made .e) (made .emission) (made .reach);
   })
 
   answer-safe : (room : Room) → Safe sheet rules program (answer room (ok f))
@@ -102,14 +111,14 @@ module _ {sheet rules program : List ℕ} {f : FinalizedFunction} (made : Compil
   answer-heights : (room : Room) → OneHeight (made .s) (take (answer room (ok f) .codeLength) (answer room (ok f) .code)) (answer room (ok f) .depth)
   unfolding answer
   answer-heights room = subst (λ y. OneHeight (made .s) y (f .depth)) (sym (lent (room .code) (f .bytecode)))
-      (subst (λ g. OneHeight (made .s) (g .bytecode) (g .depth)) (sym (made .finish)) (program-heights (made .s) back (made .rs) fine (made .p) (made .e) (made .emission)))
+      (subst (λ g. OneHeight (made .s) (g .bytecode) (g .depth)) (sym (made .finish)) (program-heights (made .s) back (made .rs) fine (made .p) (made .e) (made .emission) (made .reach)))
 
   code-passes : Passes (made .s) (f .bytecode) (f .depth)
   unfolding finalizeFunction
   code-passes = subst (λ g. Passes (made .s) (g .bytecode) (g .depth)) (sym (made .finish)) (passes (made .s) _ _
       (program-listed (made .s) back (made .rs) fine (made .p) (made .e) (made .emission) (good sheet (made .s) (made .sheetRead)))
-      (program-runs (made .s) back (made .rs) fine (made .p) (made .e) (made .emission))
-      (program-heights (made .s) back (made .rs) fine (made .p) (made .e) (made .emission)))
+      (program-runs (made .s) back (made .rs) fine (made .p) (made .e) (made .emission) (made .reach))
+      (program-heights (made .s) back (made .rs) fine (made .p) (made .e) (made .emission) (made .reach)))
 
   answer-passes : (room : Room) → Passes (made .s) (take (answer room (ok f) .codeLength) (answer room (ok f) .code)) (answer room (ok f) .depth)
   unfolding answer
