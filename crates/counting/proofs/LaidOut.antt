@@ -4,43 +4,44 @@ use Prim.Native.Nat.{ℕ, _+_, _-_, _*_, _/_, _%_, suc, _≤_, _<_}
 use mathlib.Core.Path.{_≡_, refl, sym, _∙_, ap, subst}
 use mathlib.Core.List.{List, [], _∷_, _++_, append-assoc, append-nil}
 use mathlib.Core.Bool.{Bool, true, false}
-use mathlib.Core.Option.{some, none}
+use mathlib.Core.Option.{Option, some, none}
 use native.Mathlib.Omega.{arith}
 use lib.Dec.{eqb}
 use lib.ListN.{length, getD, length-append, length-set, List·getD-append}
 use lib.Seq.{getD-set-same}
 use borrow.Author.Tests.{ltb-true, eq-eqb}
-use Rattle.definition.specs.Limits.{maxCode}
 use Rattle.definition.specs.Field.{has}
 use Rattle.definition.specs.Res.{ok, _>>=_}
 use Rattle.definition.specs.Opcode.{Role, Sheet, comparisonByte, comparisonOf, Gt, loadVar, storeVar, loadConst, dup, arithmetic, Add, jmp, cmpBr, size, traits, traitsOf}
 use Rattle.definition.specs.Tree.{Program}
-use Rattle.definition.specs.Emit.{le16, Call, createLabel, bindLabel, loadVariable, storeVariable, loadConstant, emitOpcode, emitJmp, emitCmpBr, Last, other, loaded, stored, Emitter, emitterAt, indexOf, loadAfter, foldStore, folded, add, act, acts}
+use Rattle.definition.specs.Emit.{le16, Call, createLabel, bindLabel, loadVariable, storeVariable, loadConstant, emitOpcode, emitJmp, emitCmpBr, Last, other, loaded, stored, PendingPatch, Emitter, emitterAt, indexOf, loadAfter, foldStore, folded, add, act, acts}
 use Rattle.definition.specs.Walk.{after}
 use Rattle.definition.specs.Stmt.{Loops}
 use Rattle.definition.specs.Rewrite.{boundariesFrom, movedTo}
 use Rattle.definition.specs.Optimize.{optimize}
-use Rattle.definition.specs.Compile.{boundOr0, boundLabel, displacement, patchJumps, jumpTargets, finalizeFunction}
+use Rattle.definition.specs.Compile.{boundOr0, boundLabel, inReach, patchJumps, jumpTargets, finalizeFunction}
 use Rattle.definition.specs.Runs.{target}
-use Rattle.definition.specs.Claims.{Either, left, right}
+use Rattle.definition.specs.Claims.{Either, left, right, Each, _also_}
 use Rattle.definition.specs.Machine.{Image, operandAt, constantAt, isStart, imageOf}
 use Rattle.definition.specs.For.{Places, Emits, For, forStmt, settingOf, testingOf, bodyOf, countingOf, lengthOf, placeAfter, placesOf}
 use Rattle.definition.specs.Count.{oneIf}
 use Rattle.counting.proofs.Laid.{Opening, Laid}
 use Rattle.counting.proofs.Once.{OneByte, OneBytes, bytes-left, bytes-right, binds, isBind, binds-append}
-use Rattle.field.proofs.Results.{ok-demand, ok-bind, ok-is}
+use Rattle.field.proofs.Results.{never, some-is, ok-demand, ok-bind, ok-is}
 use Rattle.runs.proofs.Heights.{after-mono}
 use Rattle.runs.proofs.Passes.{Reads}
 use Rattle.runs.proofs.Decoding.{joined}
 use Rattle.runs.proofs.Later.{grown-here, acts-grown}
 use Rattle.runs.proofs.Emitted.{relabelled}
-use Rattle.runs.proofs.Patched.{aimedOperand}
+use Rattle.runs.proofs.Patched.{aimedOperand, IsNear}
+use Rattle.runs.proofs.Finished.{Reaches, reach-each}
+use Rattle.runs.proofs.Rows.{patchHere}
 use Rattle.runs.proofs.Conditions.{indexed}
-use Rattle.counting.proofs.Rows.{Row, rowOf, unpatched, operandOf, bytesOf, codeOf, patchesOf, Sized, code-append, FormedBy}
+use Rattle.counting.proofs.Rows.{Row, rowOf, unpatched, operandOf, bytesOf, codeOf, patchesOf, Sized, code-append, patches-append, FormedBy}
 use Rattle.counting.proofs.Emitted.{rowsOf, lastOf, Names, foldsInto, folds, acted, folded-formed, Tail, NotLoaded, Within, Goes, goes-all, acts-append}
 use Rattle.counting.proofs.Finished.{optimize-same, diagonal, moved-diagonal, among-self, finalBytes, finalRows, instructionsOf, code-joined, goalIn, patched-all, wholes}
 use Rattle.counting.proofs.ForCalls.{body-closed}
-use Rattle.counting.proofs.Placed.{Placed, placed, no-start, operand-at, target-at, boundary-between}
+use Rattle.counting.proofs.Placed.{Placed, placed, no-start, operand-at, target-read, boundary-between}
 
 -- ---- calls, one by one
 
@@ -244,6 +245,10 @@ folded-at s v w A e e′ h t p =
 
 -- ---- finished code
 
+each-behind : {A : Type 0} {P : A → Type 0} (xs ys : List A) → Each P (xs ++ ys) → Each P ys
+each-behind [] ys es = es
+each-behind (x ∷ xs) ys (p also ps) = each-behind xs ys ps
+
 rows-append : (s : Sheet) (A B : List Row) → instructionsOf s (A ++ B) ≡ instructionsOf s A ++ instructionsOf s B
 unfolding instructionsOf
 rows-append s [] B = refl
@@ -252,6 +257,10 @@ rows-append s (r ∷ A) B = ap (λ x. bytesOf s r ∷ x) (rows-append s A B)
 -- where a label's branches lead
 abbrev pub goalOf : Sheet → List Row → Emitter → ℕ → ℕ
 goalOf s rows e = goalIn s (e .labels) (boundariesFrom 0 (instructionsOf s rows))
+
+-- each branch among rows is near where its label leads
+abbrev pub AllNear : Sheet → (ℕ → ℕ) → List Row → Type 0
+AllNear s goal rows = (l : ℕ) (r : Row) (A B : List Row) → rows ≡ A ++ (r ∷ B) → r .aim ≡ some l → IsNear (goal l) (length (codeOf s A) + length (bytesOf s r))
 
 module _ (s : Sheet) (known : Reads s) (rows : List Row) (e : Emitter) (formed : FormedBy s rows e) where
   pub finished : finalizeFunction s [] e .bytecode ≡ joined (finalRows s (goalOf s rows e) 0 rows)
@@ -267,14 +276,45 @@ module _ (s : Sheet) (known : Reads s) (rows : List Row) (e : Emitter) (formed :
       ∙ (ap (λ x. patchJumps (e .labels) (diagonal places) (e .patches) x) (o .bytecode ∙ code-joined s rows)
       ∙ (ap (λ x. patchJumps (e .labels) (diagonal places) x (codeOf s rows)) (formed .patches) ∙ patched-all s (e .labels) places rows (among-self places))))
 
+  abbrev bounds : List ℕ
+  bounds = boundariesFrom 0 (instructionsOf s rows)
+
+  -- a row's place is a boundary, and stays
+  row-stays : (p : ℕ) (A B : List Row) → rows ≡ A ++ B → p ≡ length (codeOf s A) → movedTo (diagonal bounds) p ≡ p
+  row-stays p A B q r =
+      let at : has bounds p ≡ true =
+      ap (λ x. has (boundariesFrom 0 x) p) (ap (λ x. instructionsOf s x) q ∙ rows-append s A B)
+      ∙ (ap (λ x. has (boundariesFrom 0 (instructionsOf s A ++ instructionsOf s B)) x) (r ∙ (sym (ap length (code-joined s A)) ∙ omega arith)) ∙ boundary-between (instructionsOf s A) (instructionsOf s B) 0) in
+      moved-diagonal bounds p at
+
   -- a label bound at a row's place leads there
   pub goal-is : (l p : ℕ) (A B : List Row) → rows ≡ A ++ B → getD (e .labels) l none ≡ some p → p ≡ length (codeOf s A) → goalOf s rows e l ≡ p
   unfolding goalIn boundLabel boundOr0
-  goal-is l p A B q b r =
-      let at : has (boundariesFrom 0 (instructionsOf s rows)) p ≡ true =
-      ap (λ x. has (boundariesFrom 0 x) p) (ap (λ x. instructionsOf s x) q ∙ rows-append s A B)
-      ∙ (ap (λ x. has (boundariesFrom 0 (instructionsOf s A ++ instructionsOf s B)) x) (r ∙ (sym (ap length (code-joined s A)) ∙ omega arith)) ∙ boundary-between (instructionsOf s A) (instructionsOf s B) 0) in
-      ap (λ x. movedTo (diagonal (boundariesFrom 0 (instructionsOf s rows))) (boundOr0 x)) b ∙ moved-diagonal (boundariesFrom 0 (instructionsOf s rows)) p at
+  goal-is l p A B q b r = ap (λ x. movedTo (diagonal bounds) (boundOr0 x)) b ∙ row-stays p A B q r
+
+  map-is : optimize s [] (e .bytecode) (jumpTargets e) .map ≡ diagonal bounds
+  map-is = ap (λ c. optimize s [] c (jumpTargets e) .map) (formed .is ∙ sym (code-joined s rows)) ∙ optimize-same s (instructionsOf s rows) (jumpTargets e) (wholes s known rows (formed .sized)) .map
+
+  -- where 15 is not answered each branch is near where its label leads
+  pub all-near : Reaches s [] e → AllNear s (goalOf s rows e) rows
+  unfolding goalIn patchesOf patchHere bytesOf operandOf unpatched
+  all-near reach l r A B q a =
+      let near : Each (λ (p : PendingPatch). IsNear (movedTo (diagonal bounds) (boundLabel (e .labels) (p .label))) (movedTo (diagonal bounds) (p .instructionOffset) + p .operandDelta + 2)) (e .patches) =
+      reach-each (e .labels) (diagonal bounds) (e .patches) (subst (λ m. inReach (e .labels) m (e .patches) ≡ ok tt) map-is reach) in
+      go (r .aim) a (each-behind (patchesOf s 0 A) _ (subst (λ ps. Each (λ (p : PendingPatch). IsNear (movedTo (diagonal bounds) (boundLabel (e .labels) (p .label))) (movedTo (diagonal bounds) (p .instructionOffset) + p .operandDelta + 2)) ps)
+      (formed .patches ∙ (ap (λ x. patchesOf s 0 x) q ∙ patches-append s 0 A (r ∷ B))) near))
+    where
+      o : List ℕ
+      o = r .operand
+
+      go : (x : Option ℕ) → x ≡ some l → Each (λ (p : PendingPatch). IsNear (movedTo (diagonal bounds) (boundLabel (e .labels) (p .label))) (movedTo (diagonal bounds) (p .instructionOffset) + p .operandDelta + 2)) (patchHere x (0 + length (codeOf s A)) (unpatched x o) ++ patchesOf s (0 + length (codeOf s A) + suc (length (unpatched x o))) B)
+          → IsNear (goalOf s rows e l) (length (codeOf s A) + suc (length (unpatched x o)))
+      go none e es = never (cc)
+      go (some k) w (n also es) =
+          let long = length-append o (0 ∷ 0 ∷ []) in
+          let own : movedTo (diagonal bounds) (0 + length (codeOf s A)) ≡ 0 + length (codeOf s A) = row-stays (0 + length (codeOf s A)) A (r ∷ B) q (omega arith) in
+          subst (λ y. IsNear (goalOf s rows e y) (length (codeOf s A) + suc (length (o ++ (0 ∷ 0 ∷ []))))) (some-is w)
+          (subst (λ y. IsNear (goalOf s rows e k) y) (ap (λ y. y + (length (o ++ (0 ∷ 0 ∷ [])) - 1) + 2) own ∙ omega arith) n)
 
 -- ---- what the rows say once they are placed
 
@@ -290,13 +330,7 @@ module _ (m : Image) (s : Sheet) (goal : ℕ → ℕ) (p : ℕ) where
   unfolding constantAt constRow
   constant-read k ks h e = ap (λ i. getD (m .constants) i 0) (variable-read loadConst (indexOf k ks) h) ∙ e
 
-  jump-read : (l t : ℕ) → Placed m p jmp (finalBytes s goal p (jumpRow l)) → goal l ≡ t → t ≤ maxCode → p + 3 ≤ maxCode → target (m .bytecode) (p + 3) ≡ some t
-  unfolding finalBytes aimedOperand operandOf unpatched jumpRow rowOf le16
-  jump-read l t h g a b =
-      let d : displacement (goal l) (p + 3) ≡ displacement t (p + 3) = ap (λ x. displacement x (p + 3)) g in
-      target-at m p jmp _ 1 (p + 3) t h (omega arith) (omega arith) (ap (λ x. x % 256) d) (ap (λ x. x / 256) d) a b
-
-  module _ (v k l t : ℕ) (ks : List ℕ) (h : Placed m p cmpBr (finalBytes s goal p (testRow s v k l ks))) where
+  module _ (v k l : ℕ) (ks : List ℕ) (h : Placed m p cmpBr (finalBytes s goal p (testRow s v k l ks))) where
     test-comparison : getD (m .bytecode) (p + 1) 0 ≡ comparisonByte s Gt
     unfolding finalBytes aimedOperand operandOf unpatched testRow rowOf le16
     test-comparison = h .bytes 1 (omega arith)
@@ -308,12 +342,6 @@ module _ (m : Image) (s : Sheet) (goal : ℕ → ℕ) (p : ℕ) where
     test-constant : getD (m .constants) (indexOf k ks) 0 ≡ k → constantAt m (p + 4) ≡ k
     unfolding finalBytes aimedOperand operandOf unpatched testRow rowOf le16 constantAt
     test-constant e = ap (λ i. getD (m .constants) i 0) (operand-at m p cmpBr _ h 4 (omega arith) ∙ sixteen (indexOf k ks)) ∙ e
-
-    test-target : goal l ≡ t → t ≤ maxCode → p + 8 ≤ maxCode → target (m .bytecode) (p + 8) ≡ some t
-    unfolding finalBytes aimedOperand operandOf unpatched testRow rowOf le16
-    test-target g a b =
-        let d : displacement (goal l) (p + 8) ≡ displacement t (p + 8) = ap (λ x. displacement x (p + 8)) g in
-        target-at m p cmpBr _ 6 (p + 8) t h (omega arith) (omega arith) (ap (λ x. x % 256) d) (ap (λ x. x / 256) d) a b
 
 -- ---- the whole emission
 
@@ -433,7 +461,8 @@ begin-within s p = record { more = []; formed = record { is = refl; patches = re
 module _ (s : Sheet) (known : Reads s) (greater : comparisonOf s (comparisonByte s Gt) ≡ some Gt) (p : Program) (f : For) (before behind : List Call) (loops : Loops) (e : Emitter)
     (once : (l : ℕ) → binds l (before ++ (loadConstant (f .from) ∷ rest₁ f (after 0 before) (bodyOf f loops (after 0 before)) behind)) ≤ 1)
     (bytes : OneBytes (before ++ (loadConstant (f .from) ∷ rest₁ f (after 0 before) (bodyOf f loops (after 0 before)) behind)))
-    (x : Emission s p f (after 0 before) before (bodyOf f loops (after 0 before)) behind e) where
+    (x : Emission s p f (after 0 before) before (bodyOf f loops (after 0 before)) behind e)
+    (reach : Reaches s [] e) where
   abbrev n : ℕ
   n = after 0 before
 
@@ -576,9 +605,9 @@ module _ (s : Sheet) (known : Reads s) (greater : comparisonOf s (comparisonByte
         testNext = o₂;
         tests = record {
           test = k₃ .stands;
-          comparison = ap (λ b. comparisonOf s b) (test-comparison image s goal (places .endTest) v (f .to) (suc n) (places .end) (x .u₆ .constants) k₃) ∙ greater;
-          tests = test-variable image s goal (places .endTest) v (f .to) (suc n) (places .end) (x .u₆ .constants) k₃;
-          against = test-constant image s goal (places .endTest) v (f .to) (suc n) (places .end) (x .u₆ .constants) k₃ to-stays;
+          comparison = ap (λ b. comparisonOf s b) (test-comparison image s goal (places .endTest) v (f .to) (suc n) (x .u₆ .constants) k₃) ∙ greater;
+          tests = test-variable image s goal (places .endTest) v (f .to) (suc n) (x .u₆ .constants) k₃;
+          against = test-constant image s goal (places .endTest) v (f .to) (suc n) (x .u₆ .constants) k₃ to-stays;
         };
         bodyNext = op .body;
       }
@@ -652,7 +681,6 @@ module _ (s : Sheet) (known : Reads s) (greater : comparisonOf s (comparisonByte
       let o₂ = op .place in
       let o₆ = op .body in
       let o₇ = cu .place in
-      let short : length (x .v₆ .bytecode) ≤ maxCode = cu .all .formed .short in
       let inc = places .increment in
       let at = placed s known goal rows (formed .sized) image refl code in
       let k₃ = at Y₂ test Z (places .endTest) e₃ (omega arith) in
@@ -664,11 +692,13 @@ module _ (s : Sheet) (known : Reads s) (greater : comparisonOf s (comparisonByte
       let head : goal n ≡ places .endTest = goal-is s known rows e formed n (places .endTest) Y₂ (test ∷ Z) e₃ head-stays (omega arith) in
       let end-stays : getD (e .labels) (suc n) none ≡ some (places .end) = g .changed .kept (suc n) (cu .long₆) end-once ∙ cu .end in
       let end : goal (suc n) ≡ places .end = goal-is s known rows e formed (suc n) (places .end) X₅ P refl end-stays (bytes-length (cu .all)) in
+      let leads : (A : List Row) (r : Row) (C : List Row) (l q : ℕ) → rows ≡ A ++ (r ∷ C) → q ≡ length (codeOf s A) → r .aim ≡ some l → Placed image q (r .role) (finalBytes s goal q r) → target (image .bytecode) (q + length (bytesOf s r)) ≡ some (goal l) =
+      λ A r C l q c i a k. target-read image s goal q r l a k (subst (λ y. IsNear (goal l) (y + length (bytesOf s r))) (sym i) (all-near s known rows e formed reach l r A C c a)) in
       let w = acts-grown s (rest₂ f n behind) (x .v₂) e (grown-here (x .v₂) (cu .two .last)) (x .w₂) in
       let by-stays : getD (e .constants) (indexOf (f .step) (x .v₂ .constants)) 0 ≡ f .step = constant-stays (f .step) (x .v₂ .constants) (e .constants) (w .moreConstants) (w .constants) (cu .by) in
       record {
         opening = opening rows Z e₀ formed;
-        leaves = test-target image s goal (places .endTest) v (f .to) (suc n) (places .end) (x .u₆ .constants) k₃ end short (omega arith);
+        leaves = leads Y₂ test Z (suc n) (places .endTest) e₃ (omega arith) refl k₃ ∙ ap some end;
         bodyEnds = omega arith;
         counts = record {
           load = k₄ .stands;
@@ -679,7 +709,7 @@ module _ (s : Sheet) (known : Reads s) (greater : comparisonOf s (comparisonByte
           store = k₇ .stands;
           stores = variable-read image s goal (inc + 3 + 3 + 1) storeVar v k₇;
           jump = k₈ .stands;
-          jumps = jump-read image s goal (inc + 3 + 3 + 1 + 3) n (places .endTest) k₈ head (omega arith) (omega arith);
+          jumps = leads X₄ (jumpRow n) P n (inc + 3 + 3 + 1 + 3) e₈ (omega arith) refl k₈ ∙ ap some head;
         };
         endNext = o₇;
       }

@@ -30,6 +30,7 @@ use Rattle.counting.proofs.Once.{OneBytes, below, binds, program-once, 
 use Rattle.rules.proofs.File.{no-rules}
 use Rattle.field.proofs.Results.{ok-is, some-is}
 use Rattle.runs.proofs.Safe.{compiled}
+use Rattle.runs.proofs.Finished.{Reaches}
 use Rattle.counting.proofs.ForCalls.{for-calls}
 use Rattle.counting.proofs.LaidOut.{rest₀, rest₁, rest₂, rest₅, Emission, emission, laid-out, places-are}
 
@@ -81,6 +82,7 @@ carried m m′ g g′ v from to by p q l =
 record Emitted (s : Sheet) (p : Program) (c : FinalizedFunction) : Type 0 where
   e : Emitter
   emits : emitProgram s p ≡ ok e
+  reach : Reaches s [] e
   finish : finalizeFunction s [] e ≡ c
 
 emitted-from : (place : ℕ) (sheet program : List ℕ) (s : Sheet) (p : Program) (c : FinalizedFunction) → readSheet sheet ≡ some s → readProgram program ≡ ok p
@@ -93,6 +95,7 @@ emitted-from place sheet program s p c a b h =
     record {
       e = k .e;
       emits = subst (λ t. emitProgram t p ≡ ok (k .e)) sheetIs (subst (λ q. emitProgram (k .s) q ≡ ok (k .e)) programIs (k .emission));
+      reach = subst (λ t. Reaches t [] (k .e)) sheetIs (subst (λ rs. Reaches (k .s) rs (k .e)) rulesAre (k .reach));
       finish = subst (λ t. finalizeFunction t [] (k .e) ≡ c) sheetIs (subst (λ rs. finalizeFunction (k .s) rs (k .e) ≡ c) rulesAre (sym (k .finish)));
     }
 
@@ -114,7 +117,7 @@ in-files place sheet program s p c sheetRead programRead answered f o u x a b d 
     let calls = calls-are p f o (counts-up (f .step) (counts width (f .step) (u .up) .1 .1)) in
     let em : Emission s p f n (o .before) body (o .behind) e = emission s p f n (o .before) body (o .behind) e (subst (λ cs. acts s cs (emitterAt (p .pos)) ≡ ok e) calls (q .emits)) in
     let laid = laid-out s (λ r. role-of-opcode g r) (comparison-of-byte g Gt) p f (o .before) (o .behind) (o .loops) e
-    (λ l. subst (λ cs. binds l cs ≤ 1) calls (at-most-once (p .body) l)) (subst (λ cs. OneBytes cs) calls (program-bytes (p .body))) em in
+    (λ l. subst (λ cs. binds l cs ≤ 1) calls (at-most-once (p .body) l)) (subst (λ cs. OneBytes cs) calls (program-bytes (p .body))) em (q .reach) in
     concludes (imageOf s c) (placesOf s p f o) (f .control) (f .from) (f .to) (f .step)
     (carried _ (imageOf s c) _ (placesOf s p f o) (f .control) (f .from) (f .to) (f .step) (ap (λ k. imageOf s k) (q .finish)) (sym (places-are s p f o e em)) laid)
     valueWidth u x a b d

@@ -3,24 +3,25 @@ use Prim.Native.Nat.{ℕ, _+_, _-_, _*_, _/_, _%_, suc, _≤_, _<_}
 use mathlib.Core.Path.{_≡_, refl, sym, _∙_, ap, subst}
 use mathlib.Core.List.{List, [], _∷_, _++_, append-assoc}
 use mathlib.Core.Bool.{Bool, true, false}
-use mathlib.Core.Option.{some}
+use mathlib.Core.Option.{Option, some, none}
 use native.Mathlib.Omega.{arith}
 use lib.Dec.{eqb}
-use lib.ListN.{length, getD, length-append, List·getD-append}
-use lib.Seq.{getD-append-add}
+use lib.ListN.{length, getD, take, length-append, List·getD-append}
+use lib.Seq.{getD-append-add, take-append-seam}
 use borrow.Author.Tests.{eq-eqb, ne-eqb}
-use Rattle.definition.specs.Limits.{maxCode}
 use Rattle.definition.specs.Field.{has}
 use Rattle.definition.specs.Opcode.{Role, Sheet, opcode, roleOf, size}
 use Rattle.definition.specs.Rewrite.{Bytes, decode, startsFrom, boundariesFrom}
+use Rattle.definition.specs.Emit.{le16}
 use Rattle.definition.specs.Compile.{displacement}
 use Rattle.definition.specs.Runs.{target}
+use Rattle.field.proofs.Results.{never, some-is}
 use Rattle.runs.proofs.Passes.{Reads}
 use Rattle.runs.proofs.Decoding.{joined, Whole, Wholes, decode-joined}
-use Rattle.runs.proofs.Patched.{reached, reached-back, aimedOperand}
+use Rattle.runs.proofs.Patched.{reached, reached-near, IsNear, aimedOperand}
 use Rattle.definition.specs.Machine.{Image, operandAt, isStart, roleAt}
 use Rattle.counting.proofs.Laid.{Stands}
-use Rattle.counting.proofs.Rows.{Row, operandOf, bytesOf, codeOf, Sized, sized-left, sized-right}
+use Rattle.counting.proofs.Rows.{Row, unpatched, operandOf, bytesOf, codeOf, Sized, sized-left, sized-right}
 use Rattle.counting.proofs.Finished.{finalBytes, finalRows, final-length, final-wholes}
 
 -- ---- lists of instructions
@@ -122,14 +123,44 @@ operand-at m p r i h n l =
 
 -- ---- a displacement read back
 
-pub target-at : (m : Image) (p : ℕ) (r : Role) (i : Bytes) (n next t : ℕ) → Placed m p r i → suc n < length i → next ≡ p + n + 2
-    → getD i n 0 ≡ displacement t next % 256 → getD i (suc n) 0 ≡ displacement t next / 256 → t ≤ maxCode → next ≤ maxCode → target (m .bytecode) next ≡ some t
+target-at : (m : Image) (p : ℕ) (r : Role) (i : Bytes) (n next t : ℕ) → Placed m p r i → suc n < length i → next ≡ p + n + 2
+    → getD i n 0 ≡ displacement t next % 256 → getD i (suc n) 0 ≡ displacement t next / 256 → IsNear t next → target (m .bytecode) next ≡ some t
 unfolding target reached
-target-at m p r i n next t h l e a b x y =
+target-at m p r i n next t h l e a b x =
     let u : getD (m .bytecode) (next - 2) 0 ≡ displacement t next % 256 = ap (λ q. getD (m .bytecode) q 0) (omega arith) ∙ (h .bytes n (omega arith) ∙ a) in
     let v : getD (m .bytecode) (next - 1) 0 ≡ displacement t next / 256 = ap (λ q. getD (m .bytecode) q 0) (omega arith) ∙ (h .bytes (suc n) l ∙ b) in
     let w : getD (m .bytecode) (next - 2) 0 + 256 * getD (m .bytecode) (next - 1) 0 ≡ displacement t next = ap (λ k. k + 256 * getD (m .bytecode) (next - 1) 0) u ∙ (ap (λ k. displacement t next % 256 + 256 * k) v ∙ omega arith) in
-    ap (λ k. reached k next) w ∙ reached-back t next x y
+    ap (λ k. reached k next) w ∙ reached-near t next x
+
+-- of any branch: behind it its label's goal is read, where that is near
+pub target-read : (m : Image) (s : Sheet) (goal : ℕ → ℕ) (p : ℕ) (r : Row) (l : ℕ) → r .aim ≡ some l → Placed m p (r .role) (finalBytes s goal p r) → IsNear (goal l) (p + length (bytesOf s r))
+    → target (m .bytecode) (p + length (bytesOf s r)) ≡ some (goal l)
+unfolding finalBytes bytesOf operandOf unpatched aimedOperand le16
+target-read m s goal p r l a h near = go (r .aim) a h near
+  where
+    op : ℕ
+    op = opcode s (r .role)
+
+    o : List ℕ
+    o = r .operand
+
+    go : (x : Option ℕ) → x ≡ some l → Placed m p (r .role) (op ∷ aimedOperand goal (p + suc (length (unpatched x o))) x (unpatched x o)) → IsNear (goal l) (p + suc (length (unpatched x o)))
+        → target (m .bytecode) (p + suc (length (unpatched x o))) ≡ some (goal l)
+    go none e h near = never (cc)
+    go (some k) e h near =
+        let same : k ≡ l = some-is e in
+        let long = length-append o (0 ∷ 0 ∷ []) in
+        let next : ℕ = p + suc (length (o ++ (0 ∷ 0 ∷ []))) in
+        let two : List ℕ = le16 (displacement (goal k) next) in
+        let less : length (o ++ (0 ∷ 0 ∷ [])) - 2 ≡ length o = omega arith in
+        let front : take (length (o ++ (0 ∷ 0 ∷ [])) - 2) (o ++ (0 ∷ 0 ∷ [])) ≡ o = ap (λ n. take n (o ++ (0 ∷ 0 ∷ []))) less ∙ take-append-seam o (0 ∷ 0 ∷ []) in
+        let at : Placed m p (r .role) (op ∷ (o ++ two)) = subst (λ x. Placed m p (r .role) (op ∷ (x ++ two))) front h in
+        let zeroth : length o ≡ length o + 0 = omega arith in
+        let first : suc (length o) ≡ length o + 1 = omega arith in
+        target-at m p (r .role) (op ∷ (o ++ two)) (suc (length o)) next (goal k) at (omega (arith, length-append o two)) (omega arith)
+        (ap (λ n. getD (o ++ two) n 0) zeroth ∙ getD-append-add o two 0 0) (ap (λ n. getD (o ++ two) n 0) first ∙ getD-append-add o two 1 0)
+        (subst (λ x. IsNear (goal x) next) (sym same) near)
+        ∙ ap (λ x. some (goal x)) same
 
 -- ---- finished code
 

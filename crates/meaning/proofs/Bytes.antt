@@ -7,10 +7,8 @@ use mathlib.Core.Option.{Option, some, none}
 use native.Mathlib.Omega.{arith}
 use lib.ListN.{length, getD, length-append}
 use borrow.Author.Tests.{eq-eqb}
-use Rattle.definition.specs.Limits.{maxCode}
 use Rattle.definition.specs.Opcode.{Role, CompareOp, Sheet, comparisonByte, dup, pop, loadVar, storeVar, loadConst, loadTrue, loadFalse, arithmetic, logic, neg, boolNot, compare, jmp, jmpIfNot, cmpBr, ret, size, traits, traitsOf}
 use Rattle.definition.specs.Emit.{le16, Call, createLabel, bindLabel, loadVariable, storeVariable, loadConstant, addConstant, emitOpcode, emitJmp, emitJmpIfNot, emitCmpBr, resetStackDepth, setPosition, refused}
-use Rattle.definition.specs.Compile.{displacement}
 use Rattle.definition.specs.Runs.{target, offCode}
 use Rattle.definition.specs.Iec.{taken, truth, calculate, Values, compared, stored}
 use Rattle.definition.specs.Machine.{Image, operandAt, constantAt, compares}
@@ -20,13 +18,12 @@ use Rattle.opcode.proofs.Branches.{taken-iec}
 use Rattle.runs.proofs.Heights.{aim}
 use Rattle.runs.proofs.Passes.{Reads}
 use Rattle.runs.proofs.Decoding.{joined}
-use Rattle.runs.proofs.Patched.{aimedOperand}
+use Rattle.runs.proofs.Patched.{aimedOperand, IsNear}
 use Rattle.counting.proofs.Counting.{standing, step-at}
 use Rattle.counting.proofs.Rows.{Row, rowOf, unpatched, operandOf, bytesOf, codeOf, code-append, Sized}
 use Rattle.counting.proofs.Finished.{finalBytes, finalRows}
-use Rattle.counting.proofs.Placed.{Placed, placed, operand-at, target-at, final-joined}
-use Rattle.counting.proofs.LaidOut.{sixteen, variable-read}
-use Rattle.counting.proofs.LaidOut.{code-length}
+use Rattle.counting.proofs.Placed.{Placed, placed, operand-at, target-read, final-joined}
+use Rattle.counting.proofs.LaidOut.{AllNear, sixteen, variable-read, code-length}
 use Rattle.meaning.proofs.Calls.{State, Step, goes, finishes, stops, breaks, here, at, behind, chosen-not, popOne, popTwo, on-one, on-two, calculated, operated, chosen, called, stepAt, step, isBranch, branchAt, Reach, still, onward, Halt, Finish, Lasts, enough, along, over}
 use Rattle.meaning.proofs.Lays.{creating, pooling, resetting, setting, Is, Lays, ended, quiet, binding, row}
 
@@ -62,7 +59,7 @@ module _ {m : Image} where
   run-on (further e p) q = alongSteps e (run-on p q)
 
 -- the calls' code, its rows, and finished code m
-module _ (s : Sheet) (known : Reads s) (goodSheet : Good s) (goal : ℕ → ℕ) (labels : List (Option ℕ)) (rows : List Row) (sized : Sized s rows) (short : length (codeOf s rows) ≤ maxCode)
+module _ (s : Sheet) (known : Reads s) (goodSheet : Good s) (goal : ℕ → ℕ) (labels : List (Option ℕ)) (rows : List Row) (sized : Sized s rows) (near : AllNear s goal rows)
     (m : Image) (sheet : s ≡ m .sheet) (code : m .bytecode ≡ joined (finalRows s goal 0 rows)) (calls : List Call) where
   -- at place p the calls Q are left, and the rows B
   pub record Front (Q : List Call) (p : ℕ) (B : List Row) : Type 0 where
@@ -126,13 +123,6 @@ module _ (s : Sheet) (known : Reads s) (goodSheet : Good s) (goal : ℕ → ℕ)
       after-it : Stand Q (p + length (bytesOf s r))
       after-it = record { B = x .B; front = past-row Q p r (x .B) (past c Q p (r ∷ x .B) (x .front)); n = x .n; lays = x .rest }
 
-      -- code is short, up to wherever a run stands
-      stand-short : (Q′ : List Call) (q : ℕ) → Stand Q′ q → q ≤ maxCode
-      stand-short Q′ q y =
-          let a : length (codeOf s rows) ≡ length (codeOf s (y .front .A)) + length (codeOf s (y .B)) = ap (λ z. length (codeOf s z)) (y .front .cut) ∙ (ap length (code-append s (y .front .A) (y .B)) ∙ length-append (codeOf s (y .front .A)) (codeOf s (y .B))) in
-          let b = y .front .place in
-          omega arith
-
       step-is : (y : Row) → r ≡ y → (st : List ℕ) (σ : Values) → machine.step m (standing p st σ) ≡ machine.execute (y .role) m p st σ
       step-is y i st σ = step-at m (record { place = p; stack = st; variables = σ }) (y .role) (subst (λ x. Placed m p (x .role) (finalBytes s goal p x)) i stands .stands)
 
@@ -142,8 +132,10 @@ module _ (s : Sheet) (known : Reads s) (goodSheet : Good s) (goal : ℕ → ℕ)
       after-as : (y : Row) → r ≡ y → Stand Q (p + length (bytesOf s y))
       after-as y i = subst (λ x. Stand Q (p + length (bytesOf s x))) i after-it
 
-      within-as : (y : Row) → r ≡ y → p + length (bytesOf s y) ≤ maxCode
-      within-as y i = stand-short _ _ (after-as y i)
+      -- a branch's target
+      target-as : (y : Row) (l : ℕ) → r ≡ y → y .aim ≡ some l → target (m .bytecode) (p + length (bytesOf s y)) ≡ some (goal l)
+      target-as y l i a = target-read m s goal p y l a (stands-as y i)
+          (subst (λ q. IsNear (goal l) (q + length (bytesOf s y))) (sym (x .front .place)) (near l y (x .front .A) (x .B) (x .front .cut ∙ ap (λ z. x .front .A ++ (z ∷ x .B)) i) a))
 
       load-sim : (v : ℕ) → r ≡ rowOf loadVar (le16 v) none → (st : List ℕ) (σ : Values) → Next false (standing p st σ) (here Q (σ v ∷ st) σ)
       unfolding Moves here machine.execute machine.at size traits traitsOf bytesOf operandOf unpatched rowOf le16
@@ -169,40 +161,27 @@ module _ (s : Sheet) (known : Reads s) (goodSheet : Good s) (goal : ℕ → ℕ)
         moves = further (step-is _ i st σ ∙ ap (λ x. machine.at (p + 3) (x ∷ st) σ) (ap (λ x. getD (m .constants) x 0) (variable-read m s goal p loadConst j (stands-as _ i)) ∙ g)) stay;
       }
 
-      -- a branch's target
-      target-of : (o : Role) (l t : ℕ) → Placed m p o (finalBytes s goal p (rowOf o [] (some l))) → goal l ≡ t → t ≤ maxCode → p + 3 ≤ maxCode → target (m .bytecode) (p + 3) ≡ some t
-      unfolding finalBytes aimedOperand operandOf unpatched rowOf le16
-      target-of o l t h g a b =
-          let d : displacement (goal l) (p + 3) ≡ displacement t (p + 3) = ap (λ x. displacement x (p + 3)) g in
-          target-at m p o _ 1 (p + 3) t h (omega arith) (omega arith) (ap (λ x. x % 256) d) (ap (λ x. x / 256) d) a b
-
       -- a branch that is taken, and one that is not
-      tested : (l z : ℕ) (t : Bool) (st : List ℕ) (σ : Values) (st₀ : List ℕ) → Stand Q z → Lands l → machine.step m (standing p st₀ σ) ≡ machine.branchIf t (m .bytecode) z st σ → ((q : ℕ) → goal l ≡ q → q ≤ maxCode → target (m .bytecode) z ≡ some q)
+      tested : (l z : ℕ) (t : Bool) (st : List ℕ) (σ : Values) (st₀ : List ℕ) → Stand Q z → Lands l → machine.step m (standing p st₀ σ) ≡ machine.branchIf t (m .bytecode) z st σ → target (m .bytecode) z ≡ some (goal l)
           → Next true (standing p st₀ σ) (here (chosen t (behind l calls) Q) st σ)
       unfolding Moves here chosen machine.branchIf machine.leadsTo machine.at
       tested l z true st σ st₀ on y e g = record {
         place = y .place;
         stand = y .stand;
-        moves = record { then = standing (y .place) st σ; goes = e ∙ ap (λ t. machine.leadsTo t st σ) (g (y .place) (y .is) (stand-short _ _ (y .stand))); there = stay };
+        moves = record { then = standing (y .place) st σ; goes = e ∙ ap (λ t. machine.leadsTo t st σ) (g ∙ ap some (y .is)); there = stay };
       }
       tested l z false st σ st₀ on y e g = record { place = z; stand = on; moves = record { then = standing z st σ; goes = e; there = stay } }
 
       jump-sim : (l : ℕ) → c ≡ emitJmp l → r ≡ rowOf jmp [] (some l) → (st : List ℕ) (σ : Values) → Next true (standing p st σ) (here (behind l calls) st σ)
       unfolding aim chosen machine.branchIf machine.execute size traits traitsOf bytesOf operandOf unpatched rowOf le16
-      jump-sim l ci i st σ = tested l (p + 3) true st σ st (after-as _ i) (lands l c (x .front .pre) Q (x .front .split) (ap aim ci)) (step-is _ i st σ) (λ q g h. target-of jmp l q (stands-as _ i) g h (within-as _ i))
+      jump-sim l ci i st σ = tested l (p + 3) true st σ st (after-as _ i) (lands l c (x .front .pre) Q (x .front .split) (ap aim ci)) (step-is _ i st σ) (target-as _ l i refl)
 
       unless-sim : (l : ℕ) → c ≡ emitJmpIfNot l → r ≡ rowOf jmpIfNot [] (some l) → (a : ℕ) (st : List ℕ) (σ : Values) → Next true (standing p (a ∷ st) σ) (here (chosen (truth a) Q (behind l calls)) st σ)
       unfolding aim machine.execute machine.popOne size traits traitsOf bytesOf operandOf unpatched rowOf le16
       unless-sim l ci i a st σ = subst (λ x. Next true (standing p (a ∷ st) σ) (here x st σ)) (chosen-not (truth a) (behind l calls) Q)
-          (tested l (p + 3) (not (truth a)) st σ (a ∷ st) (after-as _ i) (lands l c (x .front .pre) Q (x .front .split) (ap aim ci)) (step-is _ i (a ∷ st) σ) (λ q g h. target-of jmpIfNot l q (stands-as _ i) g h (within-as _ i)))
+          (tested l (p + 3) (not (truth a)) st σ (a ∷ st) (after-as _ i) (lands l c (x .front .pre) Q (x .front .split) (ap aim ci)) (step-is _ i (a ∷ st) σ) (target-as _ l i refl))
 
       module _ (o : CompareOp) (v k j l : ℕ) (ci : c ≡ emitCmpBr o v k l) (i : r ≡ rowOf cmpBr (comparisonByte s o ∷ le16 v ++ le16 j) (some l)) (g : getD (m .constants) j 0 ≡ k) where
-        cmp-target : (t : ℕ) → goal l ≡ t → t ≤ maxCode → p + 8 ≤ maxCode → target (m .bytecode) (p + 8) ≡ some t
-        unfolding finalBytes aimedOperand operandOf unpatched rowOf le16
-        cmp-target t q a b =
-            let d : displacement (goal l) (p + 8) ≡ displacement t (p + 8) = ap (λ x. displacement x (p + 8)) q in
-            target-at m p cmpBr _ 6 (p + 8) t (stands-as _ i) (omega arith) (omega arith) (ap (λ x. x % 256) d) (ap (λ x. x / 256) d) a b
-
         cmp-byte : getD (m .bytecode) (p + 1) 0 ≡ comparisonByte s o
         unfolding finalBytes aimedOperand operandOf unpatched rowOf le16
         cmp-byte = stands-as _ i .bytes 1 (omega arith)
@@ -226,7 +205,7 @@ module _ (s : Sheet) (known : Reads s) (goodSheet : Good s) (goal : ℕ → ℕ)
         cmp-sim : (st : List ℕ) (σ : Values) → Next true (standing p st σ) (here (chosen (compared w o (σ v) k) (behind l calls) Q) st σ)
         unfolding aim machine.execute size traits traitsOf bytesOf operandOf unpatched rowOf le16
         cmp-sim st σ = tested l (p + 8) (compared w o (σ v) k) st σ st (after-as _ i) (lands l c (x .front .pre) Q (x .front .split) (ap aim ci)) (step-is _ i st σ ∙ ap (λ b. machine.branchIf b (m .bytecode) (p + 8) st σ) (compares-is σ))
-            (λ q g h. cmp-target q g h (within-as _ i))
+            (target-as _ l i refl)
 
       -- an instruction of one byte goes on behind it
       moved : (o : Role) → r ≡ rowOf o [] none → (st₀ st : List ℕ) (σ : Values) → machine.step m (standing p st₀ σ) ≡ machine.goes (standing (p + 1) st σ) → Next false (standing p st₀ σ) (here Q st σ)

@@ -15,6 +15,7 @@ use Rattle.definition.specs.Claims.{DoesAsSaid, imageIn, Faithful}
 use Rattle.opcode.proofs.Faults.{good}
 use Rattle.rules.proofs.File.{no-rules}
 use Rattle.field.proofs.Results.{ok-is}
+use Rattle.runs.proofs.Finished.{Reaches}
 use Rattle.runs.proofs.Safe.{Compiled, lent, given, made, is-answer}
 use Rattle.meaning.proofs.Whole as whole
 
@@ -33,8 +34,11 @@ module _ (room : Room) (sheet rules program : List ℕ) (a : Answer) (k : Compil
   abbrev m : Compiled sheet rules program (given room sheet rules program a k z)
   m = made room sheet rules program a k z
 
+  no-rule : m .rs ≡ []
+  no-rule = none-read rules (m .rs) empty (m .rulesRead)
+
   finish : finalizeFunction (m .s) [] (m .e) ≡ given room sheet rules program a k z
-  finish = sym (m .finish ∙ ap (λ rs. finalizeFunction (m .s) rs (m .e)) (none-read rules (m .rs) empty (m .rulesRead)))
+  finish = sym (m .finish ∙ ap (λ rs. finalizeFunction (m .s) rs (m .e)) no-rule)
 
   image-is : imageOf (m .s) (finalizeFunction (m .s) [] (m .e)) ≡ imageIn (m .s) a
   image-is = ap (λ f. imageOf (m .s) f) finish ∙ (sym (image-in (m .s) room _) ∙ ap (λ x. imageIn (m .s) x) (sym (is-answer room sheet rules program a k z)))
@@ -47,5 +51,5 @@ module _ (room : Room) (sheet rules program : List ℕ) (a : Answer) (k : Compil
     tree = m .p;
     sheetRead = m .sheetRead;
     programRead = m .programRead;
-    does = λ σ. subst (λ i. DoesAsSaid i (m .p .body) σ) image-is (whole.does (m .s) (good sheet (m .s) (m .sheetRead)) (m .p) (m .e) (m .emission) σ);
+    does = λ σ. subst (λ i. DoesAsSaid i (m .p .body) σ) image-is (whole.does (m .s) (good sheet (m .s) (m .sheetRead)) (m .p) (m .e) (m .emission) (subst (λ rs. Reaches (m .s) rs (m .e)) no-rule (m .reach)) σ);
   }

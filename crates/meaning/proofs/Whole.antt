@@ -5,7 +5,7 @@ use mathlib.Core.List.{List, [], _∷_, _++_}
 use mathlib.Core.Option.{some, none}
 use native.Mathlib.Omega.{arith}
 use lib.ListN.{length}
-use Rattle.definition.specs.Limits.{maxCode, width}
+use Rattle.definition.specs.Limits.{width}
 use Rattle.definition.specs.Res.{ok}
 use Rattle.definition.specs.Opcode.{Sheet}
 use Rattle.definition.specs.Tree.{Pos, Program}
@@ -28,7 +28,8 @@ use Rattle.runs.proofs.Emitted.{program-holds}
 use Rattle.runs.proofs.Passes.{Reads}
 use Rattle.counting.proofs.Once.{program-bytes}
 use Rattle.counting.proofs.Rows.{Row, codeOf, patchesOf, Sized, FormedBy}
-use Rattle.counting.proofs.LaidOut.{goalOf, finished, goal-is}
+use Rattle.runs.proofs.Finished.{Reaches}
+use Rattle.counting.proofs.LaidOut.{AllNear, goalOf, finished, goal-is, all-near}
 use Rattle.counting.proofs.Passes.{at-most-once}
 use Rattle.meaning.proofs.Calls.{here, behind, Finish}
 use Rattle.meaning.proofs.Walks as calls
@@ -94,7 +95,7 @@ module _ (m : Image) where
   on-steps f x (alongSteps {y = y} e q) = along-case f x y e (on-steps f y q)
   on-steps (suc f) x (overStep {y = y} e q) = let r = on-steps f y q in (r .0, one-step f x y e ∙ r .1)
 
-module _ (s : Sheet) (g : Good s) (p : Program) (e : Emitter) (emits : acts s (emitStmts (p .body) 0 .1) (emitterAt (p .pos)) ≡ ok e) where
+module _ (s : Sheet) (g : Good s) (p : Program) (e : Emitter) (emits : acts s (emitStmts (p .body) 0 .1) (emitterAt (p .pos)) ≡ ok e) (reach : Reaches s [] e) where
   abbrev code : List Call
   code = emitStmts (p .body) 0 .1
 
@@ -131,8 +132,8 @@ module _ (s : Sheet) (g : Good s) (p : Program) (e : Emitter) (emits : acts s (e
   sized : Sized s rows
   sized = all .formed .sized
 
-  short : length (codeOf s rows) ≤ maxCode
-  short = subst (λ x. length x ≤ maxCode) (all .formed .is) (all .formed .short)
+  near : AllNear s goal rows
+  near = all-near s known rows e (all .formed) reach
 
   sheet-is : s ≡ image .sheet
   unfolding imageOf
@@ -147,10 +148,10 @@ module _ (s : Sheet) (g : Good s) (p : Program) (e : Emitter) (emits : acts s (e
   constants-are = refl
 
   abbrev StandAt : List Call → ℕ → Type 0
-  StandAt Q q = Stand s known g goal (e .labels) rows sized short image sheet-is code-is code′ Q q
+  StandAt Q q = Stand s known g goal (e .labels) rows sized near image sheet-is code-is code′ Q q
 
   abbrev LandsAt : ℕ → Type 0
-  LandsAt l = Lands s known g goal (e .labels) rows sized short image sheet-is code-is code′ l
+  LandsAt l = Lands s known g goal (e .labels) rows sized near image sheet-is code-is code′ l
 
   lands : (l : ℕ) (c : Call) (pre post : List Call) → code′ ≡ pre ++ (c ∷ post) → aim c ≡ some l → LandsAt l
   lands l c pre post q a =
@@ -172,7 +173,7 @@ module _ (s : Sheet) (g : Good s) (p : Program) (e : Emitter) (emits : acts s (e
   finishes-so : (σ τ : Values) → Finish code width (here code [] σ) τ → Finishes image σ τ
   unfolding imageOf twin start here begin until
   finishes-so σ τ h =
-      let d = finish-run s known g goal (e .labels) rows sized short image sheet-is code-is code′ lands _ τ (finish-sim code width (here code [] σ) τ h (start code width σ)) 0 start-stand in
+      let d = finish-run s known g goal (e .labels) rows sized near image sheet-is code-is code′ lands _ τ (finish-sim code width (here code [] σ) τ h (start code width σ)) 0 start-stand in
       record { run = until image (d .ended); empty = d .empty }
 
   -- for every fuel
@@ -185,8 +186,8 @@ module _ (s : Sheet) (g : Good s) (p : Program) (e : Emitter) (emits : acts s (e
       go (exits i τ) h = h
       go (continues i τ) h = h
       go (returns τ) h = finishes-so σ τ h
-      go (stops τ) h = until image (stops-run s known g goal (e .labels) rows sized short image sheet-is code-is code′ lands _ τ (stops-sim code width (here code [] σ) τ h (start code width σ)) 0 start-stand)
-      go spent h = on-steps image f _ (lasts-run s known g goal (e .labels) rows sized short image sheet-is code-is code′ lands f _ (lasts-sim code width f (here code [] σ) h (start code width σ)) 0 start-stand)
+      go (stops τ) h = until image (stops-run s known g goal (e .labels) rows sized near image sheet-is code-is code′ lands _ τ (stops-sim code width (here code [] σ) τ h (start code width σ)) 0 start-stand)
+      go spent h = on-steps image f _ (lasts-run s known g goal (e .labels) rows sized near image sheet-is code-is code′ lands f _ (lasts-sim code width f (here code [] σ) h (start code width σ)) 0 start-stand)
 
   -- the claim
   pub does : (σ : Values) → DoesAsSaid image (p .body) σ

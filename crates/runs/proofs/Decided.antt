@@ -17,8 +17,7 @@ use Rattle.definition.specs.Emit.{le16, Emitter, emitterAt, PendingPatch, Call,
 use Rattle.definition.specs.Walk.{after, say}
 use Rattle.definition.specs.CompileExpr.{ClassifiedCmp}
 use Rattle.definition.specs.Stmt.{emitStmts}
-use Rattle.definition.specs.Optimize.{optimize}
-use Rattle.definition.specs.Compile.{jumpTargets, finalizeFunction, emitProgram, inReach}
+use Rattle.definition.specs.Compile.{jumpTargets, finalizeFunction, emitProgram}
 use Rattle.definition.specs.Iec.{taken}
 use Rattle.definition.specs.Runs.{offCode, target}
 use Rattle.definition.specs.Machine.{Image, State, Step, finishes, breaks, operandAt, constantAt, compares, at, leadsTo, branchIf, execute, executeIf, isStart, roleAt, step}
@@ -31,7 +30,7 @@ use Rattle.field.proofs.Results.{ok-bind, some-is}
 use Rattle.runs.proofs.Passes.{Fine as FineMatcher}
 use Rattle.runs.proofs.Later.{grown-here, acts-grown}
 use Rattle.runs.proofs.Conditions.{emittedOp, emits, fused, fusedBytes, fusedPatch, coded}
-use Rattle.runs.proofs.Finished.{program-branches, program-before}
+use Rattle.runs.proofs.Finished.{Reaches, program-branches, program-before}
 
 -- ---- the call among the others
 
@@ -142,7 +141,7 @@ unfolding placeAfter lengthOf
 place-is s p cs a q = ap lengthOf q
 
 module _ (s : Sheet) (good : Good s) (rules : List Rule) (fine : (pass : ℕ) → FineMatcher s (λ a b. matches pass rules a b)) (p : Program) (e : Emitter) (q : emitProgram s p ≡ ok e)
-    (reach : inReach (e .labels) (optimize s rules (e .bytecode) (jumpTargets e) .map) (e .patches) ≡ ok tt) (b : FusedBranch (emitStmts (p .body) 0 .1)) where
+    (reach : Reaches s rules e) (b : FusedBranch (emitStmts (p .body) 0 .1)) where
   abbrev code : List ℕ
   code = finalizeFunction s rules e .bytecode
 

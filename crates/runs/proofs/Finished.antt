@@ -64,7 +64,11 @@ each-forth : {A B : Type 0} {P : B → Type 0} (f : A → B) (xs : List A) → E
 each-forth f [] empty = empty
 each-forth f (x ∷ xs) (p also ps) = p also each-forth f xs ps
 
--- where 15 is not answered every branch is near its target
+-- 15 is not answered
+abbrev pub Reaches : Sheet → List Rule → Emitter → Type 0
+Reaches s rules e = inReach (e .labels) (optimize s rules (e .bytecode) (jumpTargets e) .map) (e .patches) ≡ ok tt
+
+-- then every branch is near its target
 pub reach-each : (labels : List (Option ℕ)) (m : OffsetMap) (ps : List PendingPatch) → inReach labels m ps ≡ ok tt
     → Each (λ (p : PendingPatch). IsNear (movedTo m (boundLabel labels (p .label))) (movedTo m (p .instructionOffset) + p .operandDelta + 2)) ps
 unfolding inReach
@@ -235,11 +239,7 @@ module _ (s : Sheet) (back : Reads s) (rules : List Rule) (fine : (pass : ℕ) �
   finished-patches = patches-same (λ i. place-at rows i) (λ i. place-at (piped .rows) i) rows (λ i le. aimed-places T 0 (piped .linked) i)
       ∙ (aimed-patches T 0 (λ i. place-at (piped .rows) i) (piped .linked) ∙ sym patches-moved)
 
-  -- no branch is far
-  abbrev Reach : Type 0
-  Reach = inReach (e .labels) moves (e .patches) ≡ ok tt
-
-  aim-near : Reach → (i l : ℕ) → aim-at rows i ≡ some l → IsNear (T l) (place-at rows (suc i))
+  aim-near : Reaches s rules e → (i l : ℕ) → aim-at rows i ≡ some l → IsNear (T l) (place-at rows (suc i))
   unfolding movedPatch
   aim-near reach i l a =
       let x = aim-row rows i l a in
@@ -248,7 +248,7 @@ module _ (s : Sheet) (back : Reads s) (rules : List Rule) (fine : (pass : ℕ) �
       subst (λ y. IsNear (T l) y) (row-next linked i l (x .0) (x .1) (x .2))
       (each-row (λ (y : PendingPatch). IsNear (T (y .label)) (y .instructionOffset + y .operandDelta + 2)) (λ i. place-at rows i) rows (subst (λ xs. Each (λ (y : PendingPatch). IsNear (T (y .label)) (y .instructionOffset + y .operandDelta + 2)) xs) (sym finished-patches) near) i l (x .0) (x .1) (x .2))
 
-  leads : Reach → (i l : ℕ) → aim-at rows i ≡ some l → (target (bytes-of s rows) (place-at rows (suc i)) ≡ some (T l)) × Stands rows 0 (T l) (Λ l)
+  leads : Reaches s rules e → (i l : ℕ) → aim-at rows i ≡ some l → (target (bytes-of s rows) (place-at rows (suc i)) ≡ some (T l)) × Stands rows 0 (T l) (Λ l)
   unfolding rows
   leads reach i l a =
       let w : place-at rows (suc i) ≡ 0 + place-at (piped .rows) (suc i) = let z = aimed-places T 0 (piped .linked) (suc i) in omega arith in (
@@ -262,7 +262,7 @@ module _ (s : Sheet) (back : Reads s) (rules : List Rule) (fine : (pass : ℕ) �
 
   -- ---- the two claims, of one program
 
-  pub program-runs : Reach → (os : List Bool) (n : ℕ) → Fine s (finalizeFunction s rules e .bytecode) (finalizeFunction s rules e .depth) (run s (finalizeFunction s rules e .bytecode) n (start os))
+  pub program-runs : Reaches s rules e → (os : List Bool) (n : ℕ) → Fine s (finalizeFunction s rules e .bytecode) (finalizeFunction s rules e .depth) (run s (finalizeFunction s rules e .bytecode) n (start os))
   unfolding finalizeFunction start
   program-runs reach os n = subst (λ c. Fine s c (e .maxDepth) (run s c n (start os))) (sym code-rows) (row-fine s rows linked T (leads reach) back (run-fine s rows linked T (leads reach) back n (start os) (begins os) zero-le))
 
@@ -318,7 +318,7 @@ module _ (s : Sheet) (back : Reads s) (rules : List Rule) (fine : (pass : ℕ) �
     unfolding aimedRow
     moved-aim = row-aim rows g (aimedRow T (moved-row .0) r) (moved-row .1) ∙ a
 
-    moved-leads : Reach → (u : Used l) → LeadsTo s (finalizeFunction s rules e .bytecode) own (inTurn s rules code₀ protected (u .placed .place))
+    moved-leads : Reaches s rules e → (u : Used l) → LeadsTo s (finalizeFunction s rules e .bytecode) own (inTurn s rules code₀ protected (u .placed .place))
     moved-leads reach u = subst (λ c. LeadsTo s c own (inTurn s rules code₀ protected (u .placed .place))) (sym code-rows)
         (subst (λ y. LeadsTo s (bytes-of s rows) y (inTurn s rules code₀ protected (u .placed .place))) (sym own-place)
         (subst (λ y. LeadsTo s (bytes-of s rows) (place-at rows g) y) (target-in-turn l u ∙ ap (λ y. inTurn s rules code₀ protected y) (bound-is u))
@@ -331,15 +331,15 @@ module _ (s : Sheet) (back : Reads s) (rules : List Rule) (fine : (pass : ℕ) �
         ∙ (aimed-byte T (moved-row .0) (opcode s (r .role)) (r .aim) (r .operand) k lt
         ∙ sym (ap (λ c. getD c (place-at rows₀ i + k) 0) (acted .inv .bytes) ∙ row-bytes s rows₀ i r x k (omega arith)))))
 
-    branch-leads : Reach → BranchLeads s rules e (finalizeFunction s rules e .bytecode) (record { instructionOffset = place-at rows₀ i; operandDelta = length (r .operand) - 1; label = l })
+    branch-leads : Reaches s rules e → BranchLeads s rules e (finalizeFunction s rules e .bytecode) (record { instructionOffset = place-at rows₀ i; operandDelta = length (r .operand) - 1; label = l })
     branch-leads reach = let u = aim-used g l moved-aim in record { bound = u .placed .place; binds = u .placed .is; leads = moved-leads reach u; kept = moved-bytes }
 
-  each-leads : Reach → Each (λ (x : PendingPatch). BranchLeads s rules e (finalizeFunction s rules e .bytecode) x) (e .patches)
+  each-leads : Reaches s rules e → Each (λ (x : PendingPatch). BranchLeads s rules e (finalizeFunction s rules e .bytecode) x) (e .patches)
   unfolding rows₀
   each-leads reach = subst (λ xs. Each (λ (x : PendingPatch). BranchLeads s rules e (finalizeFunction s rules e .bytecode) x) xs) (sym (acted .inv .patches))
       (each-patch (λ x. BranchLeads s rules e (finalizeFunction s rules e .bytecode) x) (λ i. place-at rows₀ i) rows₀ (λ i l r x a. branch-leads i l r x a reach))
 
-  pub program-branches : Reach → Branches s rules e (finalizeFunction s rules e .bytecode)
+  pub program-branches : Reaches s rules e → Branches s rules e (finalizeFunction s rules e .bytecode)
   program-branches reach = record { emitted = emitted-places; finished = finished-places; leads = each-leads reach }
 
   -- ---- comparison bytes
@@ -380,7 +380,7 @@ module _ (s : Sheet) (back : Reads s) (rules : List Rule) (fine : (pass : ℕ) �
   height-is : (p h : ℕ) → Stands rows 0 p h → h ≡ height-of rows 0 p
   height-is p h st = sym (st .height) ∙ (sym (height-place rows 0 (st .index)) ∙ ap (λ x. height-of rows 0 x) (sym (st .place)))
 
-  rows-heights : Reach → OneHeight s (bytes-of s rows) (e .maxDepth)
+  rows-heights : Reaches s rules e → OneHeight s (bytes-of s rows) (e .maxDepth)
   unfolding start
   rows-heights reach = record {
     heightAt = λ p. height-of rows 0 p;
@@ -389,6 +389,6 @@ module _ (s : Sheet) (back : Reads s) (rules : List Rule) (fine : (pass : ℕ) �
     from = λ x w h le n. let f = run-fine s rows linked T (leads reach) back n x (stands-at x w h) le in (row-fine s rows linked T (leads reach) back f, height-is _ _ (f .stands));
   }
 
-  pub program-heights : Reach → OneHeight s (finalizeFunction s rules e .bytecode) (finalizeFunction s rules e .depth)
+  pub program-heights : Reaches s rules e → OneHeight s (finalizeFunction s rules e .bytecode) (finalizeFunction s rules e .depth)
   unfolding finalizeFunction
   program-heights reach = subst (λ c. OneHeight s c (e .maxDepth)) (sym code-rows) (rows-heights reach)

@@ -16,8 +16,7 @@ use Rattle.definition.specs.Tree.{Program}
 use Rattle.definition.specs.Program.{readProgram}
 use Rattle.definition.specs.Emit.{Emitter}
 use Rattle.definition.specs.Lent.{zeros, filled}
-use Rattle.definition.specs.Compile.{FinalizedFunction, finalizeFunction, emitProgram, compileProgram, compileFiles, Room, compileInto, Answer, answer, Compiles, jumpTargets, inReach}
-use Rattle.definition.specs.Optimize.{optimize}
+use Rattle.definition.specs.Compile.{FinalizedFunction, finalizeFunction, emitProgram, compileProgram, compileFiles, Room, compileInto, Answer, answer, Compiles}
 use Rattle.definition.specs.Claims.{SafeCode, Safe, OneHeight}
 use Rattle.definition.specs.Check.{Passes, Checks, refusesSheet, refusesLength, answers}
 use Rattle.opcode.proofs.Faults.{good}
@@ -25,7 +24,7 @@ use Rattle.opcode.proofs.Sheets.{role-of-opcode}
 use Rattle.field.proofs.Results.{never, some-is, ok-demand, ok-bind, ok-is, ok-given}
 use Rattle.runs.proofs.Answers.{call-numbered, finished}
 use Rattle.runs.proofs.Passes.{Reads, Fine as FineMatcher, rules-fine}
-use Rattle.runs.proofs.Finished.{program-runs, program-branches, program-short, program-heights, program-listed}
+use Rattle.runs.proofs.Finished.{Reaches, program-runs, program-branches, program-short, program-heights, program-listed}
 use Rattle.runs.proofs.Passing.{passes}
 use Rattle.runs.proofs.Decided.{program-fused}
 
@@ -39,7 +38,7 @@ pub record Compiled (sheet rules program : List ℕ) (f : FinalizedFunction) : T
   pub rulesRead : readRules rules ≡ ok rs
   pub programRead : readProgram program ≡ ok p
   pub emission : emitProgram s p ≡ ok e
-  pub reach : inReach (e .labels) (optimize s rs (e .bytecode) (jumpTargets e) .map) (e .patches) ≡ ok tt
+  pub reach : Reaches s rs e
   pub finish : f ≡ finalizeFunction s rs e
 
 ok-both : {A : Type 0} (m : Res (Unit {0})) (k : Res A) (y : A) → (m >> k) ≡ ok y → (m ≡ ok tt) × (k ≡ ok y)
