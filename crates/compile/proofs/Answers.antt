@@ -6,7 +6,7 @@ use Prim.Native.Nat.{ℕ, zero, suc, _*_}
 use native.Mathlib.Omega.{arith}
 use lib.ListN.{length, take}
 use lib.Seq.{length-take-le}
-use Rattle.definition.specs.Limits.{maxCode, maxConstants, maxLines, entrySize}
+use Rattle.definition.specs.Limits.{maxCode, maxConstants, maxLines, entrySize, farBranch}
 use Rattle.definition.specs.Res.{Res, ok, refuse, _>>=_}
 use Rattle.definition.specs.Opcode.{Sheet}
 use Rattle.definition.specs.Rules.{Rule, readRules}
@@ -27,8 +27,10 @@ use Rattle.emit.specs.Steps.{Fine, Begun, Did, run}
 use Rattle.emit.proofs.Calls.{begun-acts}
 use Rattle.opcode.proofs.Sheets.{role-of-opcode}
 use Rattle.runs.proofs.Passes.{Reads, rules-fine}
-use Rattle.runs.proofs.Finished.{each-so, program-near, program-inside}
+use Rattle.runs.proofs.Finished.{each-so, program-bound, program-inside}
 use Rattle.compile.specs.declared.FinalizedFunction as ours
+use Rattle.compile.specs.declared.Finalized.{Finalized}
+use Rattle.compile.specs.declared.Finalized.the-variants.{Done, Far}
 use Rattle.compile.specs.declared.call.Answer.{Answer}
 use Rattle.compile.specs.declared.call.Outcome.{Outcome}
 use Rattle.compile.specs.declared.call.Outcome.the-variants.{Refused, Finished}
@@ -71,14 +73,24 @@ module _ (s : Sheet) (rs : List Rule) (e : Emitter) (code book constants lines :
       let is : ended ≡ refuse (e .refused) (e .place) = rw (stopped (e .refused) (e .place) (state (world e code book constants)) off) in
       record { is = rw is; held = λ f q. absurd (let bad : refuse (e .refused) (e .place) ≡ ok f = sym is ∙ q in let z : _≡_ {A = ℕ} 0 1 = cc in omega arith) }
 
-  pub ends-finished : {b k l : List ℕ} {r : ours.FinalizedFunction} → e .refused ≡ 0 → Fine e → Roomy (room code constants lines) → Finalizes s rs e code book lines b l r → k ≡ zeroedFrom (e .constants) constants
+  -- 15
+  pub ends-far : {b k l : List ℕ} {g : Finalized} {x p : ℕ} → e .refused ≡ 0 → Finalizes s rs e code book lines b l g → g ≡ Far x → p ≡ x → Ends ended code constants lines b k l (Refused farBranch p)
+  unfolding _>>=_
+  ends-far {b} {k} {l} {g} {x} {p} on fin q same =
+      let h : Finalizes s rs e code book lines b l (Far x) = rw q at fin in
+      let is : ended ≡ refuse farBranch p = rw (going (e .refused) (e .place) (state (world e code book constants)) on, same) (h .is constants .0) in
+      record { is = rw is; held = λ f q. absurd (let bad : refuse farBranch p ≡ ok f = sym is ∙ q in let z : _≡_ {A = ℕ} 0 1 = cc in omega arith) }
+
+  pub ends-finished : {b k l : List ℕ} {g : Finalized} {r : ours.FinalizedFunction} → e .refused ≡ 0 → Fine e → Roomy (room code constants lines) → Finalizes s rs e code book lines b l g → g ≡ Done r → k ≡ zeroedFrom (e .constants) constants
       → Ends ended code constants lines b k l (Finished (r .size) (r .«max_stack_depth») (e .constants) (r .entries))
   unfolding _>>=_ finalizeFunction filled zeroedFrom
-  ends-finished {b} {k} {l} {r} on fine roomy fin zeroed =
+  ends-finished {b} {k} {l} {g} {r} on fine roomy fin q zeroed =
+      let done : Finalizes s rs e code book lines b l (Done r) = rw q at fin in
+      let c = done .is constants in
       let F : FinalizedFunction = finalizeFunction s rs (state (world e code book constants)) in
-      let h = fin .is constants in
+      let h = c .1 in
       let many : length (take (e .constants) constants) ≡ e .constants = length-take-le (e .constants) constants (omega (arith, fine .constants, roomy .constants)) in
-      let is : ended ≡ ok F = rw (going (e .refused) (e .place) (state (world e code book constants)) on) in
+      let is : ended ≡ ok F = rw (going (e .refused) (e .place) (state (world e code book constants)) on) (c .0) in
       let pool : k ≡ filled (length constants) (take (e .constants) constants) = zeroed ∙ rw many in
       record {
         is = rw (is, h .size, h .depth, h .entries, many);
@@ -88,7 +100,7 @@ module _ (s : Sheet) (rs : List Rule) (e : Emitter) (code book constants lines :
 -- what the pool holds is nothing to patching
 pub any-pool : (s : Sheet) (rs : List Rule) (e : Emitter) (code book pool : List ℕ) → Patchable s rs (state (world e code book pool)) → Patchable s rs (state (world e code book []))
 unfolding jumpTargets
-any-pool s rs e code book pool q = record { near = q .near; inside = q .inside }
+any-pool s rs e code book pool q = record { bound = q .bound; inside = q .inside }
 
 -- what emission gives can be patched
 pub patchable : (rules : List ℕ) (s : Sheet) (rs : List Rule) → Good s → readRules rules ≡ ok rs → (p : Program) (d : def.Emitter) → emitProgram s p ≡ ok d → Patchable s rs d
@@ -96,7 +108,7 @@ patchable rules s rs g r p d q =
     let back : Reads s = role-of-opcode g in
     let fine = rules-fine s back rules r in
     record {
-      near = each-so (λ (x : PendingPatch) n. record { is = n }) (program-near s back rs fine p d q);
+      bound = each-so (λ (x : PendingPatch) n. record { is = n }) (program-bound s back rs fine p d q);
       inside = each-so (λ (x : PendingPatch) n. record { is = n }) (program-inside s back rs fine p d q);
     }
 

@@ -6,15 +6,16 @@ use mathlib.Core.List.{List, [], _∷_, _++_, map, map-append, append-assoc}
 use Prim.Native.Nat.{ℕ, zero, suc, _+_, _-_, _/_, _%_, _^_, _≤_, _<_}
 use native.Mathlib.Numerals.{add-one}
 use native.Mathlib.Omega.{arith}
-use borrow.Author.Tests.{eqb-true, eqb-false}
-use lib.Dec.{eqb}
+use borrow.Author.Tests.{eqb-true, eqb-false, leb-true, leb-false, le-leb, lt-leb}
+use lib.Dec.{eqb, leb}
 use lib.ListN.{length, getD, take, drop, set, length-set}
 use lib.Seq.{take-suc-set, take-all, sets-eq}
-use Rattle.definition.specs.Limits.{maxCode}
+use Rattle.definition.specs.Limits.{maxCode, maxBack, maxForward, farBranch}
+use Rattle.definition.specs.Res.{Res, ok, refuse, _>>_, demand}
 use Rattle.definition.specs.Emit as def
 use Rattle.definition.specs.Emit.{le16}
 use Rattle.definition.specs.Rewrite.{OffsetMap, movedTo}
-use Rattle.definition.specs.Compile.{boundLabel, displacement, overwrite, patchJump, patchJumps}
+use Rattle.definition.specs.Compile.{boundLabel, displacement, overwrite, patchJump, patchJumps, near, inReach}
 use Rattle.definition.specs.Claims.{Each, empty, _also_}
 use Rattle.store.specs.Store as store
 use Rattle.store.specs.Store.{Store, pushAll}
@@ -24,7 +25,10 @@ use Rattle.emit.specs.declared.patch.PendingPatch.{PendingPatch}
 use Rattle.emit.specs.Book.{patchBase, patchSize, patchIn, row, rows, patchesIn}
 use Rattle.emit.specs.View.{patchView}
 use Rattle.emit.proofs.Tables.{pushed-sets}
-use Rattle.compile.specs.View.{targetsOf, Near, Inside}
+use Rattle.compile.specs.declared.Branch.{Branch}
+use Rattle.compile.specs.declared.Reach.{Reach}
+use Rattle.compile.specs.declared.Reach.the-variants as reach
+use Rattle.compile.specs.View.{targetsOf, BoundIn, Inside, IsBranch, demanded, reachView, reachedWith}
 
 -- ---- what holds of each
 
@@ -56,16 +60,16 @@ each-patch {P} book n i e h is = subst P (sym is) (each-row patchIn patchBase pa
 -- ---- where their labels are bound
 
 module _ {size : ℕ} (labels : List (Option ℕ)) where
-  pub near-small : {p : PendingPatch} {place : ℕ} → size ≤ maxCode → Near size labels (patchView p) → place ≡ boundLabel labels (p .label .0) → place < 2 ^ 16
-  near-small few near e = omega (arith, near .is)
+  pub bound-small : {p : PendingPatch} {place : ℕ} → size ≤ maxCode → BoundIn size labels (patchView p) → place ≡ boundLabel labels (p .label .0) → place < 2 ^ 16
+  bound-small few near e = omega (arith, near .is)
 
-  small-at : (ps : List def.PendingPatch) → Each (Near size labels) ps → (i : ℕ) → getD (targetsOf labels ps) i 0 < suc size
+  small-at : (ps : List def.PendingPatch) → Each (BoundIn size labels) ps → (i : ℕ) → getD (targetsOf labels ps) i 0 < suc size
   unfolding targetsOf
   small-at [] empty i = omega arith
   small-at (p ∷ ps) (n also ns) zero = omega (arith, n .is)
   small-at (p ∷ ps) (n also ns) (suc i) = small-at ps ns i
 
-  pub small-targets : (ps : List def.PendingPatch) → Each (Near size labels) ps → Small (suc size) (targetsOf labels ps)
+  pub small-targets : (ps : List def.PendingPatch) → Each (BoundIn size labels) ps → Small (suc size) (targetsOf labels ps)
   small-targets ps e = record { at = small-at ps e }
 
 module _ (labels : List (Option ℕ)) where
@@ -110,24 +114,23 @@ put-over code at d h =
     let two : List ℕ = d % 256 ∷ d / 256 ∷ [] in
     pushed-sets two code at h ∙ sets-eq two code at h ∙ append-assoc (take at code) two (drop (at + 2) code)
 
--- where a branch's two bytes are
-pub operand-at : {m : OffsetMap} (p : PendingPatch) (code : List ℕ) {from a b : ℕ} → Inside m (length code) (patchView p) → from ≡ movedTo m (p .«instruction_offset») → a ≡ from → b ≡ p .«operand_delta» → a + b + 2 ≤ length code
-operand-at p code inside e f g = omega (arith, inside .is)
+-- where the passes moved it
+pub is-branch : {labels : List (Option ℕ)} {m : OffsetMap} (p : PendingPatch) {from a b place low target : ℕ} → from ≡ movedTo m (p .«instruction_offset») → a ≡ from → b ≡ p .«operand_delta»
+    → place ≡ boundLabel labels (p .label .0) → low ≡ place → target ≡ movedTo m low → IsBranch labels m (patchView p) (record { from = from; next = a + b + 2; target = target })
+is-branch {labels} {m} p e f g at l t = record { from = e; next = omega arith; target = t ∙ ap (movedTo m) (l ∙ at) }
 
 pub same-room : (code : List ℕ) (at d : ℕ) {code′ : List ℕ} {used : ℕ} → store.at code′ used ≡ pushAll (store.at code at) (le16 d) → length code′ ≡ length code
 same-room code at d put = ap (λ (s : Store). length (s .cells)) put ∙ length-pushAll (store.at code at) (le16 d)
 
 module _ (labels : List (Option ℕ)) (m : OffsetMap) (p : PendingPatch) (code : List ℕ) where
-  pub jumped : {from a b next place low target d used : ℕ} {code′ : List ℕ} → Inside m (length code) (patchView p) → from ≡ movedTo m (p .«instruction_offset») → a ≡ from → b ≡ p .«operand_delta»
-      → next ≡ a + b + 2 → length code ≤ maxCode → place ≡ boundLabel labels (p .label .0) → low ≡ place → target ≡ movedTo m low → d < 2 ^ 16 → (d + next) % 2 ^ 16 ≡ target
-      → store.at code′ used ≡ pushAll (store.at code (a + b)) (le16 d) → code′ ≡ patchJump labels m (patchView p) code
+  pub jumped : {b : Branch} {next d used : ℕ} {code′ : List ℕ} → Inside m (length code) (patchView p) → IsBranch labels m (patchView p) b → next ≡ b .next → length code ≤ maxCode → d < 2 ^ 16 → (d + next) % 2 ^ 16 ≡ b .target
+      → store.at code′ used ≡ pushAll (store.at code (b .next - 2)) (le16 d) → code′ ≡ patchJump labels m (patchView p) code
   unfolding patchJump
-  jumped {from} {a} {b} {next} {place} {low} {target} {d} {used} {code′} inside e f g n few at l t small wraps put =
-      let fits : a + b + 2 ≤ length code = operand-at p code inside e f g in
-      let own : a + b ≡ movedTo m (p .«instruction_offset») + p .«operand_delta» = omega arith in
-      let far : target ≡ movedTo m (boundLabel labels (p .label .0)) = t ∙ ap (movedTo m) (l ∙ at) in
-      let is : d ≡ displacement target next = wrapped d target next small (omega arith) wraps in
-      ap (λ (s : Store). s .cells) put ∙ put-over code (a + b) d fits ∙ rw (is, n, far, own)
+  jumped {b} {next} {d} {used} {code′} inside is n few small wraps put =
+      let behind : b .next ≤ length code = omega (arith, inside .is, is .next) in
+      let own : b .next - 2 ≡ movedTo m (p .«instruction_offset») + p .«operand_delta» = omega (arith, is .next) in
+      let bits : d ≡ displacement (b .target) next = wrapped d (b .target) next small (omega arith) wraps in
+      ap (λ (s : Store). s .cells) put ∙ put-over code (b .next - 2) d (omega (arith, is .next)) ∙ rw (bits, n, is .target, own, is .next)
 
 -- ---- all of them
 
@@ -166,3 +169,83 @@ pub same-patches : (labels : List (Option ℕ)) (m n : OffsetMap) (ps : List def
 unfolding patchJumps patchJump
 same-patches labels m n [] code h = refl
 same-patches labels m n (p ∷ ps) code h = rw (h (p .instructionOffset), h (boundLabel labels (p .label))) (same-patches labels m n ps (patchJump labels n p code) h)
+
+-- ---- 15
+
+-- the test by differences
+pub near-back : (target next : ℕ) → target < next → leb (next - target) maxBack ≡ near target next
+unfolding near
+near-back target next lt = go (leb (next - target) maxBack) refl
+  where
+    go : (b : Bool) → leb (next - target) maxBack ≡ b → b ≡ near target next
+    go true e = let h = leb-true (next - target) maxBack e in rw (le-leb next (target + maxBack) (omega arith), le-leb target (next + maxForward) (omega arith))
+    go false e = let h = leb-false (next - target) maxBack e in rw (lt-leb next (target + maxBack) (omega arith))
+
+pub near-forward : (target next : ℕ) → next ≤ target → leb (target - next) maxForward ≡ near target next
+unfolding near
+near-forward target next le = go (leb (target - next) maxForward) refl
+  where
+    go : (b : Bool) → leb (target - next) maxForward ≡ b → b ≡ near target next
+    go true e = let h = leb-true (target - next) maxForward e in rw (le-leb next (target + maxBack) (omega arith), le-leb target (next + maxForward) (omega arith))
+    go false e = let h = leb-false (target - next) maxForward e in rw (le-leb next (target + maxBack) (omega arith), lt-leb target (next + maxForward) (omega arith))
+
+-- one branch more
+pub reach-far : {known : Reach} {x : ℕ} (b : Branch) → known ≡ reach.Far x → reachView (reach.Far x) ≡ reachedWith known b
+unfolding _>>_
+reach-far b e = rw e
+
+pub reach-tested : {known : Reach} {near? : Bool} (b : Branch) (r : Reach) → known ≡ reach.Fine → near? ≡ near (b .target) (b .next) → reachView r ≡ demand near? farBranch (b .from) → reachView r ≡ reachedWith known b
+unfolding _>>_
+reach-tested b r e is h = rw (e, ← is) h
+
+then-assoc : {A B C : Type 0} (a : Res A) (b : Res B) (c : Res C) → (a >> (b >> c)) ≡ ((a >> b) >> c)
+unfolding _>>_
+then-assoc (ok x) b c = refl
+then-assoc (refuse n p) b c = refl
+
+then-done : (a : Res (Unit {0})) → (a >> ok tt) ≡ a
+unfolding _>>_
+then-done (ok u) = refl
+then-done (refuse n p) = refl
+
+module _ (labels : List (Option ℕ)) (m : OffsetMap) where
+  test : def.PendingPatch → Res (Unit {0})
+  test p = demand (near (movedTo m (boundLabel labels (p .label))) (movedTo m (p .instructionOffset) + p .operandDelta + 2)) farBranch (movedTo m (p .instructionOffset))
+
+  reach-more : (ps : List def.PendingPatch) (p : def.PendingPatch) → inReach labels m (ps ++ (p ∷ [])) ≡ (inReach labels m ps >> test p)
+  unfolding inReach test _>>_
+  reach-more [] p = then-done _
+  reach-more (q ∷ ps) p = ap (λ (x : Res (Unit {0})). test q >> x) (reach-more ps p) ∙ then-assoc (test q) (inReach labels m ps) (test p)
+
+  tested-is : {p : def.PendingPatch} {b : Branch} → IsBranch labels m p b → demanded b ≡ test p
+  unfolding test
+  tested-is is = rw (is .from, is .next, is .target)
+
+  pub record Reaching (book : List ℕ) (n : ℕ) (r : Reach) (i : ℕ) : Type 0 where
+    pub is : reachView r ≡ inReach labels m (patchesIn book i)
+    pub within : i ≤ n
+
+  module _ (book : List ℕ) (n : ℕ) where
+    pub reach-begins : Reaching book n reach.Fine 0
+    unfolding inReach rows
+    reach-begins = record { is = refl; within = omega arith }
+
+    pub reach-goes-on : {r r′ : Reach} {i : ℕ} {p : PendingPatch} {b : Branch} → Reaching book n r i → i < n → patchView p ≡ patchIn (row patchBase patchSize book i) → IsBranch labels m (patchView p) b
+        → reachView r′ ≡ reachedWith r b → Reaching book n r′ (i + 1)
+    unfolding rows
+    reach-goes-on {r} {r′} {i} {p} {b} g h at is e = record {
+      is = e ∙ (ap (λ (x : Res (Unit {0})). reachView r >> x) (tested-is is ∙ ap (λ (q : def.PendingPatch). test q) at)
+          ∙ rw (add-one i, g .is) (sym (reach-more (patchesIn book i) (patchIn (row patchBase patchSize book i)))));
+      within = omega arith;
+    }
+
+    pub reach-ends : {r : Reach} {i : ℕ} → Reaching book n r i → n ≤ i → reachView r ≡ inReach labels m (patchesIn book n)
+    reach-ends {r} {i} g h =
+        let same : i ≡ n = omega (arith, g .within) in
+        g .is ∙ ap (λ (k : ℕ). inReach labels m (patchesIn book k)) same
+
+-- a map that moves alike reaches alike
+pub same-reach : (labels : List (Option ℕ)) (m n : OffsetMap) (ps : List def.PendingPatch) → ((x : ℕ) → movedTo m x ≡ movedTo n x) → inReach labels m ps ≡ inReach labels n ps
+unfolding inReach
+same-reach labels m n [] h = refl
+same-reach labels m n (p ∷ ps) h = rw (h (p .instructionOffset), h (boundLabel labels (p .label)), same-reach labels m n ps h)

@@ -6,14 +6,15 @@ use Prim.Native.Nat.{ℕ, _≤_}
 use native.Mathlib.Omega.{arith}
 use lib.ListN.{length, take, drop, length-append, length-drop}
 use lib.Seq.{take-at, length-take-le, take-append-le}
-use Rattle.definition.specs.Limits.{maxCode}
+use Rattle.definition.specs.Limits.{maxCode, farBranch}
+use Rattle.definition.specs.Res.{Res, ok, refuse, _>>_}
 use Rattle.definition.specs.Opcode.{Sheet}
 use Rattle.definition.specs.Rules.{Rule}
 use Rattle.definition.specs.Emit as def
 use Rattle.definition.specs.Rewrite.{OffsetMap, movedTo}
 use Rattle.definition.specs.Optimize.{run, optimize, remapLineMap}
-use Rattle.definition.specs.Lent.{filled, entriesOf}
-use Rattle.definition.specs.Compile.{jumpTargets, patchJumps, finalizeFunction}
+use Rattle.definition.specs.Lent.{filled, zeros, entriesOf}
+use Rattle.definition.specs.Compile.{jumpTargets, patchJumps, inReach, finalizeFunction}
 use Rattle.definition.specs.Claims.{Each}
 use Rattle.store.specs.Fill.{zeroedFrom}
 use Rattle.store.proofs.Fills.{front, length-filled}
@@ -25,13 +26,17 @@ use Rattle.emit.specs.Steps.{Fine}
 use Rattle.emit.specs.View.{world, state}
 use Rattle.runs.proofs.Finished.{each-so}
 use Rattle.compile.specs.declared.FinalizedFunction.{FinalizedFunction}
-use Rattle.compile.specs.View.{targetsOf, targetsIn, Near, Inside, Patchable, Moved, Holds, Finalizes}
-use Rattle.compile.proofs.Patches.{small-targets, same-patches}
+use Rattle.compile.specs.declared.Reach.{Reach}
+use Rattle.compile.specs.declared.Reach.the-variants as reach
+use Rattle.compile.specs.declared.Finalized.{Finalized}
+use Rattle.compile.specs.declared.Finalized.the-variants.{Done, Far}
+use Rattle.compile.specs.View.{targetsOf, targetsIn, BoundIn, Inside, Patchable, Moved, Holds, Finalizes, reachView}
+use Rattle.compile.proofs.Patches.{small-targets, same-patches, same-reach}
 
 -- ---- the passes
 
 pub runnable : {sheet rules code : List ℕ} {count : ℕ} (e : Emitter) (book : List ℕ) {targets : List ℕ} → Tables sheet rules count → Fine e → length code ≡ e .size
-    → Each (Near (e .size) (labelsIn book (e .labels))) (patchesIn book (e .patches)) → targets ≡ targetsIn e book → Runnable sheet rules count code targets
+    → Each (BoundIn (e .size) (labelsIn book (e .labels))) (patchesIn book (e .patches)) → targets ≡ targetsIn e book → Runnable sheet rules count code targets
 runnable e book t fine long near is =
     rw is (record { table = t .table; held = t .held; few = rw long (fine .size); small = rw long (small-targets (labelsIn book (e .labels)) (patchesIn book (e .patches)) near) })
 
@@ -54,9 +59,9 @@ pub emitted-long : (e : Emitter) (code : List ℕ) → Fine e → maxCode ≤ le
 emitted-long e code fine enough = length-take-le (e .size) code (omega (arith, fine .size))
 
 -- labels are bound within what was emitted
-pub nears : (s : Sheet) (rs : List Rule) (e : Emitter) (code book : List ℕ) → Fine e → maxCode ≤ length code → Patchable s rs (state (world e code book []))
-    → Each (Near (e .size) (labelsIn book (e .labels))) (patchesIn book (e .patches))
-nears s rs e code book fine enough q = rw (emitted-long e code fine enough) at (q .near)
+pub bounds : (s : Sheet) (rs : List Rule) (e : Emitter) (code book : List ℕ) → Fine e → maxCode ≤ length code → Patchable s rs (state (world e code book []))
+    → Each (BoundIn (e .size) (labelsIn book (e .labels))) (patchesIn book (e .patches))
+bounds s rs e code book fine enough q = rw (emitted-long e code fine enough) at (q .bound)
 
 module _ (s : Sheet) (rs : List Rule) (e : Emitter) (code book lines : List ℕ) (enough : e .size ≤ length code) {c₁ total : List ℕ} {n : ℕ}
     (mv : Moved (optimize s rs (take (e .size) code) (targetsIn e book)) (take (e .size) code) c₁ total n) where
@@ -96,6 +101,14 @@ module _ (s : Sheet) (rs : List Rule) (e : Emitter) (code book lines : List ℕ)
   unfolding jumpTargets targetsOf
   insides q = each-so (λ (p : def.PendingPatch) i. record { is = rw (rewritten, mv .moved (p .instructionOffset)) (i .is) }) (q .inside)
 
+  -- 15
+  reached : (f : Reach) → reachView f ≡ inReach L (mapIn total) P → inReach L (optimize s rs (take (e .size) code) (targetsIn e book) .map) P ≡ reachView f
+  reached f r = sym (r ∙ same-reach L (mapIn total) _ P (mv .moved))
+
+  pub far : (f : Reach) {x : ℕ} {g : Finalized} {b l : List ℕ} → reachView f ≡ inReach L (mapIn total) P → f ≡ reach.Far x → g ≡ Far x → b ≡ zeros (length b₁) → l ≡ zeros (length lines) → Finalizes s rs e code book lines b l g
+  unfolding _>>_ jumpTargets targetsOf
+  far f r q is zb zl = rw is (record { is = λ pool. (rw (reached f r, q), zb ∙ ap (λ n. zeros n) whole-long, zl) })
+
   module _ {c₂ b₃ : List ℕ} (is : c₂ ≡ patchJumps L (mapIn total) P (take n b₁)) (as-long : length c₂ ≡ length (take n b₁)) (zeroed : b₃ ≡ zeroedFrom n (c₂ ++ drop n b₁)) where
     patched : c₂ ≡ patchJumps L (optimize s rs (take (e .size) code) (targetsIn e book) .map) P done
     patched = is ∙ rw rewritten (same-patches L (mapIn total) _ P done (mv .moved))
@@ -111,18 +124,21 @@ module _ (s : Sheet) (rs : List Rule) (e : Emitter) (code book lines : List ℕ)
 
     -- and the lines
     module _ (part : List ℕ) {lines′ : List ℕ} {k : ℕ} (there : entriesOf part ≡ linesIn book (e .lines)) (remaps : Remaps (remapLineMap (mapIn total) n none (entriesOf part)) lines lines′ k) where
-      pub finalized : Finalizes s rs e code book lines b₃ lines′ (record { size = n; «max_stack_depth» = e .deepest; entries = k })
-      unfolding finalizeFunction jumpTargets targetsOf
-      finalized =
+      pub finalized : (f : Reach) → reachView f ≡ inReach L (mapIn total) P → f ≡ reach.Fine → Finalizes s rs e code book lines b₃ lines′ (Done (record { size = n; «max_stack_depth» = e .deepest; entries = k }))
+      unfolding _>>_ finalizeFunction jumpTargets targetsOf
+      finalized f reaches fine =
           let same : remapLineMap (mapIn total) n none (entriesOf part) ≡ remapLineMap (optimize s rs (take (e .size) code) (targetsIn e book) .map) (length done) none (linesIn book (e .lines))
           = rw (there, mv .end) (same-remap (mapIn total) _ (length done) none (linesIn book (e .lines)) (mv .moved)) in
           let r = rw same at remaps in
           record {
-            is = λ pool. record {
-              code = held ∙ ap (filled (length code)) patched;
-              lines = r .is;
-              size = sym end-is ∙ ap length patched;
-              depth = refl;
-              entries = r .count;
-            };
+            is = λ pool. (
+              rw (reached f reaches, fine),
+              record {
+                code = held ∙ ap (filled (length code)) patched;
+                lines = r .is;
+                size = sym end-is ∙ ap length patched;
+                depth = refl;
+                entries = r .count;
+              },
+            );
           }

@@ -10,7 +10,8 @@ use Rattle.definition.specs.Rules.{Rule}
 use Rattle.definition.specs.Emit as def
 use Rattle.definition.specs.Lent.{filled, entryNumbers}
 use Rattle.definition.specs.Compile as compile
-use Rattle.definition.specs.Compile.{FinalizedFunction, finalizeFunction, Room, answer}
+use Rattle.definition.specs.Compile.{FinalizedFunction, Room, answer}
+use Rattle.compile.specs.View.{finalizing}
 use Rattle.compile.specs.declared.call.Answer.{Answer}
 use Rattle.compile.specs.declared.call.Outcome.{Outcome}
 use Rattle.compile.specs.declared.call.Outcome.the-variants.{Refused, Finished}
@@ -43,7 +44,7 @@ answerView r code constants lines = record {
 
 -- what follows emission
 abbrev pub finishing : Sheet → List Rule → Res def.Emitter → Res FinalizedFunction
-finishing s rs x = x >>= λ d. ok (finalizeFunction s rs d)
+finishing s rs x = x >>= λ d. finalizing s rs d
 
 -- what the part behind the sheet comes to
 abbrev pub outcomeOf : Res FinalizedFunction → Outcome

@@ -4,15 +4,17 @@ use mathlib.Core.Path.{_≡_}
 use mathlib.Core.List.{List, map}
 use mathlib.Core.Option.{Option}
 use lib.ListN.{length}
+use Rattle.definition.specs.Limits.{farBranch}
+use Rattle.definition.specs.Res.{Res, ok, refuse, _>>_, demand}
 use Rattle.definition.specs.Opcode.{Sheet}
 use Rattle.definition.specs.Rules.{Rule}
 use Rattle.definition.specs.Emit as def
 use Rattle.definition.specs.Emit.{PendingPatch}
 use Rattle.definition.specs.Rewrite.{OffsetMap, movedTo}
 use Rattle.definition.specs.Optimize.{Pipeline, optimize}
-use Rattle.definition.specs.Lent.{filled, entryNumbers}
+use Rattle.definition.specs.Lent.{filled, zeros, entryNumbers}
 use Rattle.definition.specs.Compile as compile
-use Rattle.definition.specs.Compile.{boundLabel, jumpTargets, finalizeFunction}
+use Rattle.definition.specs.Compile.{boundLabel, jumpTargets, near, inReach, finalizeFunction}
 use Rattle.definition.specs.Claims.{Each}
 use Rattle.rewrite.specs.View.{smallCode}
 use Rattle.optimize.specs.View.{mapIn}
@@ -20,6 +22,11 @@ use Rattle.emit.specs.declared.Emitter.{Emitter}
 use Rattle.emit.specs.Book.{labelsIn, patchesIn}
 use Rattle.emit.specs.View.{world, state}
 use Rattle.compile.specs.declared.FinalizedFunction.{FinalizedFunction}
+use Rattle.compile.specs.declared.Branch.{Branch}
+use Rattle.compile.specs.declared.Reach.{Reach}
+use Rattle.compile.specs.declared.Reach.the-variants as reach
+use Rattle.compile.specs.declared.Finalized.{Finalized}
+use Rattle.compile.specs.declared.Finalized.the-variants.{Done, Far}
 
 -- ---- branches
 
@@ -36,12 +43,30 @@ abbrev pub targetsIn : Emitter → List ℕ → List ℕ
 targetsIn e book = targetsOf (labelsIn book (e .labels)) (patchesIn book (e .patches))
 
 -- a patch's label is bound within code of this size
-pub record Near (size : ℕ) (labels : List (Option ℕ)) (p : PendingPatch) : Type 0 where
+pub record BoundIn (size : ℕ) (labels : List (Option ℕ)) (p : PendingPatch) : Type 0 where
   pub is : boundLabel labels (p .label) ≤ size
 
 -- its two bytes lie in code of this size, once it is moved
 pub record Inside (m : OffsetMap) (size : ℕ) (p : PendingPatch) : Type 0 where
   pub is : movedTo m (p .instructionOffset) + p .operandDelta + 2 ≤ size
+
+-- a branch where a map moves it: its own place, the place behind it, and its target's
+pub record IsBranch (labels : List (Option ℕ)) (m : OffsetMap) (p : PendingPatch) (b : Branch) : Type 0 where
+  pub from : b .from ≡ movedTo m (p .instructionOffset)
+  pub next : b .next ≡ movedTo m (p .instructionOffset) + p .operandDelta + 2
+  pub target : b .target ≡ movedTo m (boundLabel labels (p .label))
+
+-- 15, of one branch
+abbrev pub demanded : Branch → Res (Unit {0})
+demanded b = demand (near (b .target) (b .next)) farBranch (b .from)
+
+abbrev pub reachView : Reach → Res (Unit {0})
+reachView reach.Fine = ok tt
+reachView (reach.Far x) = refuse farBranch x
+
+-- with one branch more
+abbrev pub reachedWith : Reach → Branch → Res (Unit {0})
+reachedWith known b = reachView known >> demanded b
 
 -- what the three passes make of emitted code
 abbrev pub passed : Sheet → List Rule → def.Emitter → Pipeline
@@ -49,7 +74,7 @@ passed s rules d = optimize s rules (d .bytecode) (jumpTargets d)
 
 -- emitted code whose branches can be patched: whatever a program's emission gives is such (crate runs)
 pub record Patchable (s : Sheet) (rules : List Rule) (d : def.Emitter) : Type 0 where
-  pub near : Each (Near (length (d .bytecode)) (d .labels)) (d .patches)
+  pub bound : Each (BoundIn (length (d .bytecode)) (d .labels)) (d .patches)
   pub inside : Each (Inside (passed s rules d .map) (length (passed s rules d .bytecode))) (d .patches)
 
 -- ---- what the functions give
@@ -69,6 +94,15 @@ pub record Holds (f : compile.FinalizedFunction) (bytes numbers bytes′ numbers
   pub depth : r .«max_stack_depth» ≡ f .depth
   pub entries : r .entries ≡ length (f .lineMap)
 
+-- 15, else finished code
+abbrev pub finalizing : Sheet → List Rule → def.Emitter → Res compile.FinalizedFunction
+finalizing s rules d = inReach (d .labels) (passed s rules d .map) (d .patches) >> ok (finalizeFunction s rules d)
+
+-- what that comes to, with f for finished code; outputs of 0 behind 15
+abbrev pub Comes : Res compile.FinalizedFunction → compile.FinalizedFunction → List ℕ → List ℕ → List ℕ → List ℕ → Finalized → Type 0
+Comes x f bytes numbers bytes′ numbers′ (Done r) = (x ≡ ok f) × Holds f bytes numbers bytes′ numbers′ r
+Comes x f bytes numbers bytes′ numbers′ (Far p) = (x ≡ refuse farBranch p) × (bytes′ ≡ zeros (length bytes)) × (numbers′ ≡ zeros (length numbers))
+
 -- whatever the pool, which is finished as it stands
-pub record Finalizes (s : Sheet) (rules : List Rule) (e : Emitter) (code book lines code′ lines′ : List ℕ) (r : FinalizedFunction) : Type 0 where
-  pub is : (pool : List ℕ) → Holds (finalizeFunction s rules (state (world e code book pool))) code lines code′ lines′ r
+pub record Finalizes (s : Sheet) (rules : List Rule) (e : Emitter) (code book lines code′ lines′ : List ℕ) (r : Finalized) : Type 0 where
+  pub is : (pool : List ℕ) → Comes (finalizing s rules (state (world e code book pool))) (finalizeFunction s rules (state (world e code book pool))) code lines code′ lines′ r

@@ -1,4 +1,4 @@
-// The call: refusals in their order (14, 7, 9, 1, line by line 6, 5, 2, 3, then 4 and 10 to 13 as emission meets them), finished code and its line list.
+// The call: refusals in their order (14, 7, 9, 1, line by line 6, 5, 2, 3, then 4 and 10 to 13 as emission meets them, 15), finished code and its line list.
 // It is parted behind the sheet; only the entry zeroes.
 ghost use mathlib.Core.Path.{_≡_};
 ghost use lib.ListN.{length};
@@ -15,9 +15,11 @@ ghost use Rattle.emit.specs.Steps.{Fine};
 ghost use Rattle.compile.specs.View.{Patchable};
 ghost use Rattle.compile.specs.Call.{room, answerView, finishing, Roomy, Ends};
 ghost use Rattle.compile.specs.Entry.{FromFile, behindRules, behindSheet};
+use crate::Finalized;
 use crate::call;
 use crate::call::Answer;
 use crate::call::Outcome;
+use definition::FAR_BRANCH;
 use definition::MAX_CODE;
 use definition::OUTPUT_SHORT;
 use emit::Constant;
@@ -53,13 +55,20 @@ fn finish(
             place: e.place,
         };
     }
-    let f = crate::finalize_function(sheet, rules, count, e, code, book, lines);
-    store::zero_words(constants, e.constants);
-    Outcome::Finished {
-        bytes: f.size,
-        depth: f.max_stack_depth,
-        pooled: e.constants,
-        entries: f.entries,
+    match crate::finalize_function(sheet, rules, count, e, code, book, lines) {
+        Finalized::Far(x) => Outcome::Refused {
+            number: FAR_BRANCH,
+            place: numbers::wide(x),
+        },
+        Finalized::Done(f) => {
+            store::zero_words(constants, e.constants);
+            Outcome::Finished {
+                bytes: f.size,
+                depth: f.max_stack_depth,
+                pooled: e.constants,
+                entries: f.entries,
+            }
+        }
     }
 }
 

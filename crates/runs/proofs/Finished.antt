@@ -211,9 +211,9 @@ module _ (s : Sheet) (back : Reads s) (rules : List Rule) (fine : (pass : ℕ) �
       }
 
   -- a branch's label is bound within the code, and its two bytes lie in rewritten code
-  pub program-near : Each (λ (x : PendingPatch). boundLabel (e .labels) (x .label) ≤ length (e .bytecode)) (e .patches)
+  pub program-bound : Each (λ (x : PendingPatch). boundLabel (e .labels) (x .label) ≤ length (e .bytecode)) (e .patches)
   unfolding rows₀
-  program-near = each-so (λ x u.
+  program-bound = each-so (λ x u.
       let r = label-row (x .label) u in
       let at = r .place in
       let a = place-within s rows₀ (r .index) in

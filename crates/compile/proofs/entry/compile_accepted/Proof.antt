@@ -26,7 +26,7 @@ compile-accepted-spec =
     (λ c. search needs)  -- slice-aggregate-emit-stmts-3
     (λ c κs. search needs)  -- wide-requires
     (λ c κs. (c .before .before .before .before .before .before .before .before .before .before .before .pre .1 .1 .1 .0 .near, record { fine = c .before .before .before .before .new .ensures .fine; room = length-take-le maxCode (c .before .before .before .before .before .before .before .before .before .before .before .args .code .now) (c .before .before .before .before .before .before .before .before .before .before .before .pre .1 .1 .1 .1 .code); slots = length-replicate {A = ℕ} bookSize 0; held = held-empty }))  -- emit-stmts-requires
-    (λ c. search needs)  -- array-share-prefix-pool
+    (λ c. omega (arith, c .before .before .before .before .before .emit-stmts .ensures .ready .fine .constants, c .before .before .before .before .before .emit-stmts .ensures .ready .held .size))  -- array-share-prefix-pool
     (λ c. sym (length-take-le _ _ (omega (arith, c .before .before .before .before .before .before .emit-stmts .ensures .ready .fine .constants, c .before .before .before .before .before .before .emit-stmts .ensures .ready .held .size))))  -- slice-aggregate-fill-words
     (λ c κs. search needs)  -- fill-words-requires
     (λ c. search needs)  -- slice-aggregate-finish
