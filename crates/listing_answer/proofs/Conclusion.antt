@@ -13,8 +13,7 @@ use Rattle.definition.specs.Program.{endsInLF, readProgram}
 use Rattle.definition.specs.Compile.{FinalizedFunction, compileFiles, compileInto, roomy, answer}
 use Rattle.definition.specs.Listing.{text}
 use Rattle.rules.proofs.File.{no-rules}
-use Rattle.runs.proofs.Refusals.{Numbered}
-use Rattle.runs.proofs.Answers.{call-numbered}
+use Rattle.runs.proofs.Answers.{Refuses, call-numbered}
 use Rattle.store.specs.Store.{contents}
 use Rattle.store.proofs.Fills.{front-of}
 use Rattle.input_machine.specs.Machine.{Stores, Ending, whole, cut, countless, listedFrom, listedAs}
@@ -45,8 +44,8 @@ sheet-files place sheet t e = rw (e, no-rules, no-program) refl
 -- ---- all that was read
 
 -- what a call comes to is printed from the outputs
-done-text : (t : Sheet) (x : Res FinalizedFunction) → Numbered x → answerText true (some t) (answer fullRoom x) ≡ text (x >>= λ f. ok (t, f))
-unfolding answerText wholeText answer text instructionsBy Numbered _>>=_
+done-text : (t : Sheet) (x : Res FinalizedFunction) → Refuses x → answerText true (some t) (answer fullRoom x) ≡ text (x >>= λ f. ok (t, f))
+unfolding answerText wholeText answer text instructionsBy Refuses _>>=_
 done-text t (ok f) h =
     rw (front-of (fullRoom .code) (f .bytecode) refl, front-of (fullRoom .constants) (f .constants) refl, entries-of (fullRoom .lines) (f .lineMap)) refl
 done-text t (refuse n p) h = rw (ne-eqb n 0 h, answerText) refl
@@ -55,7 +54,7 @@ no-sheet-text : (place : ℕ) → answerText true none (answer fullRoom (refuse 
 unfolding answerText answer text
 no-sheet-text place = refl
 
-counted-text : (place : ℕ) (s : Stores) (o : Option Sheet) → readSheet (contents (s .sheet)) ≡ o → Numbered (compileFiles place (contents (s .sheet)) (contents (s .rules)) (contents (s .code)))
+counted-text : (place : ℕ) (s : Stores) (o : Option Sheet) → readSheet (contents (s .sheet)) ≡ o → Refuses (compileFiles place (contents (s .sheet)) (contents (s .rules)) (contents (s .code)))
     → answerText true o (answer fullRoom (compileFiles place (contents (s .sheet)) (contents (s .rules)) (contents (s .code)))) ≡ text (listedFrom place s)
 unfolding listedFrom given _>>=_
 counted-text place s none e h = rw (no-sheet-files place (contents (s .sheet)) (contents (s .rules)) (contents (s .code)) e, e) (no-sheet-text place)

@@ -150,7 +150,7 @@ module _ (heed : Bool) where
 module _ {P : Type 0} (forms : List (Form P)) (left : ℕ) (text : List ℕ) (at : ℕ) where
   pub line-some : (n : ℕ) → lineAt forms left text at ≡ not n → n ≡ 0 → ⊥
   unfolding LineTold
-  line-some n e = let told : LineTold (λ l. Unit {0}) (lineAt forms left text at) = at-told (λ l. Unit {0}) forms left text at (anything forms) in rw e at told
+  line-some n e = let told : LineTold (λ l. Unit {0}) (lineAt forms left text at) = at-told (λ l. Unit {0}) forms left text at (anything forms) in let some = rw e at told in λ z. let a = some .0 in omega arith
 
   -- a line that is read is there, at a nesting level
   pub line-there : (l : P) → lineAt forms left text at ≡ is l → (at < length text) × (0 < left)

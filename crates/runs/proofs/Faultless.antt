@@ -89,7 +89,7 @@ expr-tells (bad f) h q = never (cc)
 out-tells : (s : Source) (x : Option ℕ) → Tells (jumpTo s x)
 unfolding jumpTo Told
 out-tells s (some l) = says _ tt
-out-tells s none = says _ (λ e. omega arith)
+out-tells s none = says _ (omega arith, omega arith)
 
 fused-tells : (f : ClassifiedCmp) (on : Bool) (l : ℕ) → Tells (emitClassifiedCmpBr f on l)
 unfolding emitClassifiedCmpBr Told

@@ -30,7 +30,7 @@ use Rattle.field.proofs.Results.{never, ok-demand}
 use Rattle.runs.proofs.Heights.{Bound}
 use Rattle.definition.specs.Claims.{Either, left, right, Fine, branchPlaces, inTurn, LeadsTo, Each, empty, _also_, BranchLeads, Branches, OneHeight}
 use Rattle.field.proofs.Lists.{has-first, has-later}
-use Rattle.runs.proofs.Rows.{Row, bytes-of, place-at, aim-at, row-of, row-inside, row-aim, row-bytes, height-first, place-first, place-end, place-within, patchHere, patchesBy, patches-same, each-patch, each-row, aim-row, Compared, Linked}
+use Rattle.runs.proofs.Rows.{Row, bytes-of, place-at, aim-at, row-of, row-inside, row-aim, row-bytes, height-first, place-first, place-end, place-within, patchHere, patchesBy, patches-same, each-patch, each-row, aim-row, Rising, patches-rise, place-rises, Compared, Linked}
 use Rattle.runs.proofs.Emitted.{Stands, Placed, Acted, created, emitted}
 use Rattle.runs.proofs.Passes.{Reads, Fine as FineMatcher, insOf, decode-rows, looked-moved, Piped, optimize-piped, moved-in-turn}
 use Rattle.runs.proofs.Patched.{aimedRows, aimed-first, aimed-heights, aimed-count, aimed-linked, aimed-places, aimed-patches, aimedRow, aimed-aims, aimed-row, aimed-byte, aimed-compared, aimed-long, patchWith, movedPatch, patchJumps-with, patched-rows, row-target, inside-rows, IsNear, near-is, row-next}
@@ -63,6 +63,10 @@ each-back f (x ∷ xs) (p also ps) = p also each-back f xs ps
 each-forth : {A B : Type 0} {P : B → Type 0} (f : A → B) (xs : List A) → Each (λ x. P (f x)) xs → Each P (map f xs)
 each-forth f [] empty = empty
 each-forth f (x ∷ xs) (p also ps) = p also each-forth f xs ps
+
+pub each-both : {A : Type 0} {P Q : A → Type 0} {xs : List A} → Each P xs → Each Q xs → Each (λ x. P x × Q x) xs
+each-both empty empty = empty
+each-both (p also ps) (q also qs) = (p, q) also each-both ps qs
 
 -- 15 is not answered
 abbrev pub Reaches : Sheet → List Rule → Emitter → Type 0
@@ -266,6 +270,15 @@ module _ (s : Sheet) (back : Reads s) (rules : List Rule) (fine : (pass : ℕ) �
   unfolding finalizeFunction start
   program-runs reach os n = subst (λ c. Fine s c (e .maxDepth) (run s c n (start os))) (sym code-rows) (row-fine s rows linked T (leads reach) back (run-fine s rows linked T (leads reach) back n (start os) (begins os) zero-le))
 
+  pub program-length : length (finalizeFunction s rules e .bytecode) ≡ length (optimize s rules code₀ protected .bytecode)
+  program-length = ap length code-rows ∙ (same-length ∙ sym (ap length (piped .bytes)))
+
+  -- a branch's target lies in finished code, or at its end
+  pub program-targets : Each (λ (x : PendingPatch). movedTo moves (boundLabel (e .labels) (x .label)) ≤ length (finalizeFunction s rules e .bytecode)) (e .patches)
+  program-targets = each-so (λ x u.
+      let t = target-row (x .label) u in
+      subst (λ c. movedTo moves (boundLabel (e .labels) (x .label)) ≤ length c) (sym code-rows) (subst (λ y. y ≤ length (bytes-of s rows)) (sym (t .place)) (place-within s rows (t .index)))) each-used
+
   pub program-short : length (finalizeFunction s rules e .bytecode) ≤ maxCode
   program-short = subst (λ c. length c ≤ maxCode) (sym code-rows) short
 
@@ -284,6 +297,17 @@ module _ (s : Sheet) (back : Reads s) (rules : List Rule) (fine : (pass : ℕ) �
   target-in-turn l u =
       let r = label-row l u in
       ap (λ y. movedTo moves y) (r .place) ∙ (place-in-turn (r .index) (r .within) ∙ ap (λ y. inTurn s rules code₀ protected y) (sym (r .place)))
+
+  -- each branch's label is bound, and the composed map moves the branch and its label's place as the three maps do in turn
+  pub program-turned : Each (λ (x : PendingPatch). (b : ℕ) × (getD (e .labels) (x .label) none ≡ some b) × (movedTo moves (x .instructionOffset) ≡ inTurn s rules code₀ protected (x .instructionOffset))
+      × (movedTo moves (boundLabel (e .labels) (x .label)) ≡ inTurn s rules code₀ protected b)) (e .patches)
+  program-turned = each-so (λ x (u, o). (u .placed .place, u .placed .is, o, target-in-turn (x .label) u ∙ ap (λ y. inTurn s rules code₀ protected y) (bound-is u))) (each-both each-used offsets-in-turn)
+
+  -- branches stay in the order of their places
+  pub program-rises : Rising 0 (map (λ (x : PendingPatch). movedTo moves (x .instructionOffset)) (e .patches))
+  unfolding movedPatch
+  program-rises = subst (λ xs. Rising 0 xs) (ap (λ xs. map (λ (x : PendingPatch). x .instructionOffset) xs) finished-patches ∙ map-map (λ (x : PendingPatch). x .instructionOffset) (movedPatch moves) (e .patches))
+      (patches-rise (λ i. place-at rows i) (place-rises rows) 0 zero-le rows)
 
   emitted-places : branchPlaces s code₀ ≡ map (λ (x : PendingPatch). x .instructionOffset) (e .patches)
   unfolding rows₀

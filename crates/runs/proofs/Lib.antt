@@ -19,4 +19,5 @@ pub mod Tested
 pub mod Decided
 pub mod Passing
 pub mod Safe
+pub mod Far
 pub mod Values

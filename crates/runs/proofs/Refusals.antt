@@ -1,4 +1,4 @@
--- No refusal of rules or of a program has number 0.
+-- A refusal of rules or of a program has a number from 1 to 14.
 use Prim.Native.Nat.{ℕ, _+_, suc, zero}
 use mathlib.Core.Path.{_≡_, refl}
 use mathlib.Core.List.{List, [], _∷_}
@@ -41,9 +41,9 @@ numbered-given none n p t = t
 pub rules-numbered : (n : ℕ) (ls : List (List ℕ)) → Numbered (rulesFrom n ls)
 unfolding rulesFrom Numbered
 rules-numbered n [] = tt
-rules-numbered n (l ∷ []) = numbered-demand _ badRule n _ (λ e. omega arith) (λ q. tt)
-rules-numbered n (l ∷ m ∷ ls) = numbered-demand _ badRule n _ (λ e. omega arith)
-    (λ q. numbered-bind _ _ (numbered-given (readRule l) badRule n (λ e. omega arith)) (λ r a. numbered-bind _ _ (rules-numbered (n + 1) (m ∷ ls)) (λ rs b. tt)))
+rules-numbered n (l ∷ []) = numbered-demand _ badRule n _ (omega arith, omega arith) (λ q. tt)
+rules-numbered n (l ∷ m ∷ ls) = numbered-demand _ badRule n _ (omega arith, omega arith)
+    (λ q. numbered-bind _ _ (numbered-given (readRule l) badRule n (omega arith, omega arith)) (λ r a. numbered-bind _ _ (rules-numbered (n + 1) (m ∷ ls)) (λ rs b. tt)))
 
 -- ---- a program's lines
 
@@ -52,8 +52,8 @@ no-level : {T : Type 0} (forms : List (Form T)) (text : List ℕ) (at : ℕ) →
 unfolding lineAt refusal
 no-level {T = T} forms text at =
     elim (ltb at (length text)) as (λ t. Number (refusal {L = T} (elim t [ false ↦ not wrongLines | true ↦ elim (eqb 0 0) [ true ↦ not tooDeep | false ↦ lineOf forms (split comma (firstLine (drop at text))) ] ]))) [
-      | false ↦ λ e. omega arith
-      | true ↦ λ e. omega arith
+      | false ↦ (omega arith, omega arith)
+      | true ↦ (omega arith, omega arith)
     ]
 
 -- ---- a program's tree
@@ -165,5 +165,5 @@ fault-numbered (some f) m t k = t
 
 pub read-numbered : (text : List ℕ) → Numbered (readProgram text)
 unfolding readProgram topStmts Numbered
-read-numbered text = numbered-demand _ badText 0 _ (λ e. omega arith) (λ q. numbered-bind _ _ (header-numbered _ (at-told (λ x. Unit {0}) headerForms maxNesting text 0 (anything headerForms)))
-    (λ h a. fault-numbered (faultOfBlock (topStmts h text .0)) _ (block-of _ (h .statements) (λ d. stmt-told maxNesting (h .variables) text d) _) (numbered-demand _ wrongLines _ _ (λ e. omega arith) (λ b. tt))))
+read-numbered text = numbered-demand _ badText 0 _ (omega arith, omega arith) (λ q. numbered-bind _ _ (header-numbered _ (at-told (λ x. Unit {0}) headerForms maxNesting text 0 (anything headerForms)))
+    (λ h a. fault-numbered (faultOfBlock (topStmts h text .0)) _ (block-of _ (h .statements) (λ d. stmt-told maxNesting (h .variables) text d) _) (numbered-demand _ wrongLines _ _ (omega arith, omega arith) (λ b. tt))))

@@ -1,7 +1,7 @@
 -- Code as rows: an instruction with the height at which it stands and, for a branch, its label.
 use Prim.Native.Nat.{ℕ, _+_, _-_, suc, zero, _≤_, _<_, zero-le, suc-le-suc}
 use mathlib.Core.Path.{_≡_, refl, sym, _∙_, ap, subst}
-use mathlib.Core.List.{List, [], _∷_, _++_, append-assoc, append-nil}
+use mathlib.Core.List.{List, [], _∷_, _++_, append-assoc, append-nil, map}
 use mathlib.Core.Bool.{Bool, true, false}
 use mathlib.Core.Option.{Option, some, none}
 use lib.ListN.{length, getD, length-append, List·getD-append}
@@ -127,6 +127,29 @@ row-bytes s (q ∷ rs) (suc i) r e k lt =
     let n : suc (length (q .operand)) + place-at rs i + k ≡ suc (length (q .operand)) + (place-at rs i + k) = omega arith in
     ap (λ x. getD ((opcode s (q .role) ∷ q .operand) ++ bytes-of s rs) x 0) n
     ∙ (getD-append-add (opcode s (q .role) ∷ q .operand) (bytes-of s rs) (place-at rs i + k) 0 ∙ row-bytes s rs i r e k lt)
+
+-- ---- the order of places
+
+-- each is at least n, and the one before it
+pub data Rising : ℕ → List ℕ → Type 0 where
+  risen : {n : ℕ} → Rising n []
+  rises : {n x : ℕ} {xs : List ℕ} → n ≤ x → Rising x xs → Rising n (x ∷ xs)
+
+pub place-rises : (rs : List Row) (i : ℕ) → place-at rs i ≤ place-at rs (suc i)
+unfolding place-at
+place-rises [] i = zero-le
+place-rises (r ∷ rs) zero = zero-le
+place-rises (r ∷ rs) (suc i) = let n = place-rises rs i in omega arith
+
+pub patches-rise : (f : ℕ → ℕ) → ((i : ℕ) → f i ≤ f (suc i)) → (n : ℕ) → n ≤ f 0 → (rs : List Row) → Rising n (map (λ (p : PendingPatch). p .instructionOffset) (patchesBy f rs))
+unfolding patchesBy patchHere
+patches-rise f up n le [] = risen
+patches-rise f up n le (r ∷ rs) = by (r .aim) (λ m h. patches-rise (λ i. f (suc i)) (λ i. up (suc i)) m h rs)
+  where
+    by : (a : Option ℕ) → ((m : ℕ) → m ≤ f 1 → Rising m (map (λ (p : PendingPatch). p .instructionOffset) (patchesBy (λ i. f (suc i)) rs)))
+        → Rising n (map (λ (p : PendingPatch). p .instructionOffset) (patchHere a (f 0) (r .operand) ++ patchesBy (λ i. f (suc i)) rs))
+    by none more = more n (le-trans le (up 0))
+    by (some l) more = rises le (more (f 0) (up 0))
 
 -- ---- rows that may stand as they do
 
