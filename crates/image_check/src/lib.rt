@@ -380,6 +380,12 @@ fn check_table(sheet: &[u8], code: &[u8], depth: u64) -> u8
         let mut work = [0u16; rewrite::SMALL_SLOTS];
         mark_starts(sheet, code, &mut flags);
         check_over(sheet, code, depth, &flags, &mut marks, &mut work)
+    } else if code.len() <= rewrite::MIDDLE_CODE {
+        let mut flags = [0u8; rewrite::MIDDLE_SLOTS];
+        let mut marks = [0u32; rewrite::MIDDLE_SLOTS];
+        let mut work = [0u16; rewrite::MIDDLE_SLOTS];
+        mark_starts(sheet, code, &mut flags);
+        check_over(sheet, code, depth, &flags, &mut marks, &mut work)
     } else {
         let mut flags = [0u8; rewrite::SLOTS];
         let mut marks = [0u32; rewrite::SLOTS];

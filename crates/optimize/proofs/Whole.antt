@@ -122,7 +122,7 @@ limits : (s : Sheet) (rs : List Rule) (g : Given) → afterRules s rs g
 unfolding afterRules
 limits s rs g = refl
 
-pub limit-kept : (code protected entries : ℕ) {n : ℕ} → n ≡ overLimit code protected entries → n ≡ 0 → (code ≤ maxCode) × (protected ≤ maxProtected) × (entries ≤ maxLines)
+limit-kept : (code protected entries : ℕ) {n : ℕ} → n ≡ overLimit code protected entries → n ≡ 0 → (code ≤ maxCode) × (protected ≤ maxProtected) × (entries ≤ maxLines)
 unfolding overLimit
 limit-kept code protected entries = go (leb code maxCode) refl (leb protected maxProtected) refl (leb entries maxLines) refl
   where

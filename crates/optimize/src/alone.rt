@@ -130,6 +130,54 @@ fn rewrite_checked(
     }
 }
 
+// Within the limits, with code that is too long for a small map: the rest, by a middle one or by the longest.
+fn rewrite_long(
+    sheet: &[u8],
+    rules: &[u16],
+    count: usize,
+    code: &[u8],
+    protected: &[u16],
+    lines: &[u16],
+    bytes: &mut [u8],
+    offsets: &mut [u16],
+    entries: &mut [u16],
+) -> Answer
+    requires { ⌜ Tables (now sheet) (now rules) count ⌝ }
+    requires { ⌜ Within (given (now code) (now protected) (now lines)) (room (now bytes) (now offsets) (now entries)) ⌝ }
+    ensures { λ r. ⌜ answerView r (now (bytes .exit)) (now (offsets .exit)) (now (entries .exit)) ≡ answer (room (now (bytes .entry)) (now (offsets .entry)) (now (entries .entry))) (afterLimits (sheetIn (now (sheet .entry))) (rulesIn (now (rules .entry)) count) (given (now (code .entry)) (now (protected .entry)) (now (lines .entry)))) ⌝ }
+{
+    let end = code.len() + 1;
+    if code.len() <= rewrite::MIDDLE_CODE {
+        let mut total = [0u16; rewrite::MIDDLE_SLOTS];
+        rewrite_checked(
+            sheet,
+            rules,
+            count,
+            code,
+            protected,
+            lines,
+            &mut total[..end],
+            bytes,
+            offsets,
+            entries,
+        )
+    } else {
+        let mut total = [0u16; rewrite::SLOTS];
+        rewrite_checked(
+            sheet,
+            rules,
+            count,
+            code,
+            protected,
+            lines,
+            &mut total[..end],
+            bytes,
+            offsets,
+            entries,
+        )
+    }
+}
+
 // 10, 11 and 12, then the rest.
 fn rewrite_limited(
     sheet: &[u8],
@@ -150,10 +198,10 @@ fn rewrite_limited(
     if over != 0 {
         return refuse(over, 0, bytes, offsets, entries);
     }
-    let end = code.len() + 1;
     if code.len() <= rewrite::SMALL_CODE {
+        let end = code.len() + 1;
         let mut total = [0u16; rewrite::SMALL_SLOTS];
-        return rewrite_checked(
+        rewrite_checked(
             sheet,
             rules,
             count,
@@ -164,21 +212,20 @@ fn rewrite_limited(
             bytes,
             offsets,
             entries,
-        );
+        )
+    } else {
+        rewrite_long(
+            sheet,
+            rules,
+            count,
+            code,
+            protected,
+            lines,
+            bytes,
+            offsets,
+            entries,
+        )
     }
-    let mut total = [0u16; rewrite::SLOTS];
-    rewrite_checked(
-        sheet,
-        rules,
-        count,
-        code,
-        protected,
-        lines,
-        &mut total[..end],
-        bytes,
-        offsets,
-        entries,
-    )
 }
 
 // The rules read (9), then the rest.

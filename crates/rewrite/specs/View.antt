@@ -89,6 +89,13 @@ smallCode = 1024
 abbrev pub smallSlots : ℕ
 smallSlots = smallCode + 1
 
+-- the same of middle tables
+abbrev pub middleCode : ℕ
+middleCode = 16384
+
+abbrev pub middleSlots : ℕ
+middleSlots = middleCode + 1
+
 -- a table by offset with nothing in it, and an element for each offset of code of n bytes, its end among them
 pub record Clear (n : ℕ) (table : List ℕ) : Type 0 where
   pub slots : n < length table

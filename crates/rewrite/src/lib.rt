@@ -15,10 +15,15 @@ use rules::Instruction;
 // Elements of a table by offset: one for each offset of the longest code, its end among them.
 pub const SLOTS: usize = MAX_CODE + 1;
 
-// An array is cleared where it is made: code of up to so many bytes has small tables, and does not pay for the longest code's.
+// An array is cleared whole where it is made: code of up to so many bytes has small tables, and does not pay for the longest code's.
 pub const SMALL_CODE: usize = 1024;
 
 pub const SMALL_SLOTS: usize = SMALL_CODE + 1;
+
+// Middle tables, for the same reason: 16 times as long as the small ones, a quarter as long as the longest.
+pub const MIDDLE_CODE: usize = 16384;
+
+pub const MIDDLE_SLOTS: usize = MIDDLE_CODE + 1;
 
 // What is known of the next instruction's action: the second of a matched pair is decided with the first.
 pub enum Next {

@@ -278,6 +278,12 @@ fn measure_table(sheet: &[u8], code: &[u8], depth: u64, outcomes: &mut [u8]) -> 
         let mut work = [0u16; rewrite::SMALL_SLOTS];
         image_check::mark_starts(sheet, code, &mut flags);
         measure_over(sheet, code, depth, &flags, &mut marks, &mut work, outcomes)
+    } else if code.len() <= rewrite::MIDDLE_CODE {
+        let mut flags = [0u8; rewrite::MIDDLE_SLOTS];
+        let mut marks = [0u32; rewrite::MIDDLE_SLOTS];
+        let mut work = [0u16; rewrite::MIDDLE_SLOTS];
+        image_check::mark_starts(sheet, code, &mut flags);
+        measure_over(sheet, code, depth, &flags, &mut marks, &mut work, outcomes)
     } else {
         let mut flags = [0u8; rewrite::SLOTS];
         let mut marks = [0u32; rewrite::SLOTS];

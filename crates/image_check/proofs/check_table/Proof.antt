@@ -1,8 +1,5 @@
 -- Made by `answers` from crates/image_check/answers/check_table.txt: edit that file, not this one.
-use native.Mathlib.Omega.{arith}
-use Prim.Native.Nat.{ℕ}
-use lib.ListN.{length-replicate}
-use Rattle.rewrite.specs.View.{smallSlots, slotCount}
+use Rattle.rewrite.specs.View.{smallSlots, middleSlots, slotCount}
 use Rattle.image_check.proofs.Checking.{cleared}
 use borrow.Author.Needs.{needs}
 use Rattle.image_check.proofs.check_table.Statement.{statement}
@@ -13,16 +10,23 @@ check-table-spec =
     tie.close
     (tie.spec
     (λ c. search needs)  -- slice-aggregate-mark-starts
-    (λ c κs. (c .before .before .before .before .pre .0, (c .before .before .before .before .pre .1, cleared smallSlots (omega (arith, c .before .if1 .taken)))))  -- mark-starts-requires
+    (λ c κs. (c .before .before .before .before .pre .0, (c .before .before .before .before .pre .1, cleared smallSlots (search needs))))  -- mark-starts-requires
     (λ c. search needs)  -- slice-aggregate-check-over
     (λ c. search needs)  -- slice-aggregate-check-over-2
     (λ c. search needs)  -- slice-aggregate-check-over-3
-    (λ c κs. (c .before .before .before .before .mark-starts .ensures, (cleared smallSlots (omega (arith, c .before .before .before .before .before .before .if1 .taken)), omega (arith, c .before .before .before .before .before .before .if1 .taken, length-replicate {A = ℕ} smallSlots 0))))  -- check-over-requires
+    (λ c κs. (c .before .before .before .before .mark-starts .ensures, (cleared smallSlots (search needs), search needs)))  -- check-over-requires
     (λ c. search needs)  -- slice-aggregate-mark-starts-2
-    (λ c κs. (c .before .before .before .before .pre .0, (c .before .before .before .before .pre .1, cleared slotCount (omega (arith, c .before .before .before .before .pre .1)))))  -- mark-starts-requires-2
+    (λ c κs. (c .before .before .before .before .before .pre .0, (c .before .before .before .before .before .pre .1, cleared middleSlots (search needs))))  -- mark-starts-requires-2
     (λ c. search needs)  -- slice-aggregate-check-over-4
     (λ c. search needs)  -- slice-aggregate-check-over-5
     (λ c. search needs)  -- slice-aggregate-check-over-6
-    (λ c κs. (c .before .before .before .before .mark-starts2 .ensures, (cleared slotCount (omega (arith, c .before .before .before .before .before .before .before .before .before .pre .1)), omega (arith, c .before .before .before .before .before .before .before .before .before .pre .1, length-replicate {A = ℕ} slotCount 0))))  -- check-over-requires-2
+    (λ c κs. (c .before .before .before .before .mark-starts2 .ensures, (cleared middleSlots (search needs), search needs)))  -- check-over-requires-2
+    (λ c. search needs)  -- slice-aggregate-mark-starts-3
+    (λ c κs. (c .before .before .before .before .before .pre .0, (c .before .before .before .before .before .pre .1, cleared slotCount (search needs))))  -- mark-starts-requires-3
+    (λ c. search needs)  -- slice-aggregate-check-over-7
+    (λ c. search needs)  -- slice-aggregate-check-over-8
+    (λ c. search needs)  -- slice-aggregate-check-over-9
+    (λ c κs. (c .before .before .before .before .mark-starts3 .ensures, (cleared slotCount (search needs), search needs)))  -- check-over-requires-3
     (λ c. search needs)  -- returns
-    (λ c. search needs))  -- returns-2
+    (λ c. search needs)  -- returns-2
+    (λ c. search needs))  -- returns-3

@@ -1,6 +1,6 @@
 -- Made by `answers` from crates/optimize/answers/optimize.txt: edit that file, not this one.
 use mathlib.Core.Path.{sym}
-use Rattle.rewrite.specs.View.{slotCount, smallSlots}
+use Rattle.rewrite.specs.View.{smallSlots}
 use Rattle.optimize.proofs.Tables.{part-clear, part-long}
 use borrow.Author.Needs.{needs}
 use Rattle.optimize.proofs.optimize.Statement.{statement}
@@ -16,15 +16,11 @@ optimize-spec =
     (λ c. search needs)  -- array-borrow-prefix-moves
     (λ c. sym (part-long smallSlots _ (search needs)))  -- slice-aggregate-passes-2
     (λ c κs. (c .before .before .before .before .before .before .before .before .before .before .before .pre, (part-clear smallSlots _ (search needs), part-clear smallSlots _ (search needs))))  -- passes-requires
+    (λ c κs. search needs)  -- optimize-long-requires
     (λ c. search needs)  -- same-length
     (λ c. search needs)  -- same-length-2
     (λ c. search needs)  -- same-length-3
     (λ c. search needs)  -- returns
-    (λ c. search needs)  -- array-borrow-prefix-marks-2
-    (λ c. sym (part-long slotCount _ (search needs)))  -- slice-aggregate-passes-3
-    (λ c. search needs)  -- array-borrow-prefix-moves-2
-    (λ c. sym (part-long slotCount _ (search needs)))  -- slice-aggregate-passes-4
-    (λ c κs. (c .before .before .before .before .before .before .before .before .before .before .before .pre, (part-clear slotCount _ (search needs), part-clear slotCount _ (search needs))))  -- passes-requires-2
     (λ c. search needs)  -- same-length-4
     (λ c. search needs)  -- same-length-5
     (λ c. search needs)  -- same-length-6
