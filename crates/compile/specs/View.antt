@@ -16,7 +16,7 @@ use Rattle.definition.specs.Lent.{filled, zeros, entryNumbers}
 use Rattle.definition.specs.Compile as compile
 use Rattle.definition.specs.Compile.{boundLabel, jumpTargets, near, inReach, finalizeFunction}
 use Rattle.definition.specs.Claims.{Each}
-use Rattle.rewrite.specs.View.{smallCode}
+use Rattle.rewrite.specs.View.{smallCode, middleCode}
 use Rattle.optimize.specs.View.{mapIn}
 use Rattle.emit.specs.declared.Emitter.{Emitter}
 use Rattle.emit.specs.Book.{labelsIn, patchesIn}
@@ -30,9 +30,12 @@ use Rattle.compile.specs.declared.Finalized.the-variants.{Done, Far}
 
 -- ---- branches
 
--- targets of small code: a branch has three bytes or more
+-- targets of small and of middle code: a branch has three bytes or more
 abbrev pub smallBranches : ℕ
 smallBranches = smallCode / 3
+
+abbrev pub middleBranches : ℕ
+middleBranches = middleCode / 3
 
 -- the places where the labels of pending patches are bound
 unfoldable pub targetsOf : List (Option ℕ) → List PendingPatch → List ℕ

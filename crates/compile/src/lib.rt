@@ -28,8 +28,10 @@ use emit::patch::PendingPatch;
 pub mod call; // call.rt: what the call answers
 pub mod entry; // entry.rt: the call
 
-// Targets of small code: a branch has three bytes or more.
+// Targets of small and of middle code: a branch has three bytes or more.
 const SMALL_BRANCHES: usize = rewrite::SMALL_CODE / 3;
+
+const MIDDLE_BRANCHES: usize = rewrite::MIDDLE_CODE / 3;
 
 // Finished code: its bytes and depth, and how many line entries it has.
 pub struct FinalizedFunction {
@@ -253,8 +255,8 @@ fn finalize_in(
     })
 }
 
-// `finalize_function`, with 15. Both outputs are 0 behind what they hold, and behind 15 whole; the tables are cleared once, and used as far as the code goes.
-pub fn finalize_function(
+// Code that is too long for small tables: by middle ones, or by the longest.
+fn finalize_long(
     sheet: &[u8],
     rules: &[u16],
     count: usize,
@@ -273,10 +275,10 @@ pub fn finalize_function(
 {
     let branches = e.patches;
     let end = e.size + 1;
-    if e.size <= rewrite::SMALL_CODE {
-        let mut targets = [0u16; SMALL_BRANCHES];
-        let mut total = [0u16; rewrite::SMALL_SLOTS];
-        return finalize_in(
+    if e.size <= rewrite::MIDDLE_CODE {
+        let mut targets = [0u16; MIDDLE_BRANCHES];
+        let mut total = [0u16; rewrite::MIDDLE_SLOTS];
+        finalize_in(
             sheet,
             rules,
             count,
@@ -286,19 +288,59 @@ pub fn finalize_function(
             lines,
             &mut targets[..branches],
             &mut total[..end],
-        );
+        )
+    } else {
+        let mut targets = [0u16; MAX_BRANCHES];
+        let mut total = [0u16; rewrite::SLOTS];
+        finalize_in(
+            sheet,
+            rules,
+            count,
+            e,
+            code,
+            book,
+            lines,
+            &mut targets[..branches],
+            &mut total[..end],
+        )
     }
-    let mut targets = [0u16; MAX_BRANCHES];
-    let mut total = [0u16; rewrite::SLOTS];
-    finalize_in(
-        sheet,
-        rules,
-        count,
-        e,
-        code,
-        book,
-        lines,
-        &mut targets[..branches],
-        &mut total[..end],
-    )
+}
+
+// `finalize_function`, with 15. Both outputs are 0 behind what they hold, and behind 15 whole; the tables are cleared once, and used as far as the code goes.
+pub fn finalize_function(
+    sheet: &[u8],
+    rules: &[u16],
+    count: usize,
+    e: Emitter,
+    code: &mut [u8],
+    book: &[u16],
+    lines: &mut [u16],
+) -> Finalized
+    requires { ⌜ Tables (now sheet) (now rules) count ⌝ }
+    requires { ⌜ Fine e ⌝ }
+    requires { ⌜ maxCode ≤ length (now code) ⌝ }
+    requires { ⌜ length (now book) ≡ bookSize ⌝ }
+    requires { ⌜ maxLines * entrySize ≤ length (now lines) ⌝ }
+    requires { ⌜ Patchable (sheetIn (now sheet)) (rulesIn (now rules) count) (state (world e (now code) (now book) [])) ⌝ }
+    ensures { λ r. ⌜ Finalizes (sheetIn (now (sheet .entry))) (rulesIn (now (rules .entry)) count) e (now (code .entry)) (now (book .entry)) (now (lines .entry)) (now (code .exit)) (now (lines .exit)) r ⌝ }
+{
+    if e.size <= rewrite::SMALL_CODE {
+        let branches = e.patches;
+        let end = e.size + 1;
+        let mut targets = [0u16; SMALL_BRANCHES];
+        let mut total = [0u16; rewrite::SMALL_SLOTS];
+        finalize_in(
+            sheet,
+            rules,
+            count,
+            e,
+            code,
+            book,
+            lines,
+            &mut targets[..branches],
+            &mut total[..end],
+        )
+    } else {
+        finalize_long(sheet, rules, count, e, code, book, lines)
+    }
 }

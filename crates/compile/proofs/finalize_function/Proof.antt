@@ -1,8 +1,7 @@
 -- Made by `answers` from crates/compile/answers/finalize_function.txt: edit that file, not this one.
 use mathlib.Core.Path.{sym}
 use native.Mathlib.Omega.{arith}
-use Rattle.definition.specs.Limits.{maxBranches}
-use Rattle.rewrite.specs.View.{slotCount, smallSlots}
+use Rattle.rewrite.specs.View.{smallSlots}
 use Rattle.optimize.proofs.Tables.{part-clear, part-long}
 use Rattle.compile.specs.View.{smallBranches}
 use borrow.Author.Needs.{needs}
@@ -14,19 +13,15 @@ finalize-function-spec =
     tie.close
     (tie.spec
     (λ c. search needs)  -- add-end
-    (λ c. omega (arith, c .before .before .before .before .before .before .before .before .before .before .pre .1 .0 .patches, c .before .before .if1 .taken))  -- array-borrow-prefix-targets
-    (λ c. sym (part-long smallBranches _ (omega (arith, c .before .before .before .before .before .before .before .before .before .before .before .pre .1 .0 .patches, c .before .before .before .if1 .taken))))  -- slice-aggregate-finalize-in
-    (λ c. omega (arith, c .before .before .before .if1 .taken))  -- array-borrow-prefix-total
-    (λ c. sym (part-long smallSlots _ (omega (arith, c .before .before .before .before .if1 .taken))))  -- slice-aggregate-finalize-in-2
-    (λ c κs. (c .before .before .before .before .before .before .before .before .before .before .before .before .pre .0, (c .before .before .before .before .before .before .before .before .before .before .before .before .pre .1 .0, (c .before .before .before .before .before .before .before .before .before .before .before .before .pre .1 .1 .0, (c .before .before .before .before .before .before .before .before .before .before .before .before .pre .1 .1 .1 .0, (c .before .before .before .before .before .before .before .before .before .before .before .before .pre .1 .1 .1 .1 .0, (c .before .before .before .before .before .before .before .before .before .before .before .before .pre .1 .1 .1 .1 .1, (part-long smallBranches _ (omega (arith, c .before .before .before .before .before .before .before .before .before .before .before .before .pre .1 .0 .patches, c .before .before .before .before .if1 .taken)), part-clear smallSlots _ (omega (arith, c .before .before .before .before .if1 .taken))))))))))  -- finalize-in-requires
+    (λ c. omega (arith, c .before .before .before .before .before .before .before .before .before .before .pre .1 .0 .patches, c .before .before .before .if1 .taken))  -- array-borrow-prefix-targets
+    (λ c. sym (part-long smallBranches _ (omega (arith, c .before .before .before .before .before .before .before .before .before .before .before .pre .1 .0 .patches, c .before .before .before .before .if1 .taken))))  -- slice-aggregate-finalize-in
+    (λ c. omega (arith, c .before .before .before .before .if1 .taken))  -- array-borrow-prefix-total
+    (λ c. sym (part-long smallSlots _ (omega (arith, c .before .before .before .before .before .if1 .taken))))  -- slice-aggregate-finalize-in-2
+    (λ c κs. (c .before .before .before .before .before .before .before .before .before .before .before .before .pre .0, (c .before .before .before .before .before .before .before .before .before .before .before .before .pre .1 .0, (c .before .before .before .before .before .before .before .before .before .before .before .before .pre .1 .1 .0, (c .before .before .before .before .before .before .before .before .before .before .before .before .pre .1 .1 .1 .0, (c .before .before .before .before .before .before .before .before .before .before .before .before .pre .1 .1 .1 .1 .0, (c .before .before .before .before .before .before .before .before .before .before .before .before .pre .1 .1 .1 .1 .1, (part-long smallBranches _ (omega (arith, c .before .before .before .before .before .before .before .before .before .before .before .before .pre .1 .0 .patches, c .before .before .before .before .before .if1 .taken)), part-clear smallSlots _ (omega (arith, c .before .before .before .before .before .if1 .taken))))))))))  -- finalize-in-requires
+    (λ c κs. c .before .before .before .before .before .before .before .before .before .pre)  -- finalize-long-requires
     (λ c. search needs)  -- same-length
     (λ c. search needs)  -- same-length-2
     (λ c. search needs)  -- returns
-    (λ c. omega (arith, c .before .before .before .before .before .before .before .before .before .before .pre .1 .0 .patches, c .before .before .before .before .before .before .before .before .before .before .pre .1 .0 .size))  -- array-borrow-prefix-targets-2
-    (λ c. sym (part-long maxBranches _ (omega (arith, c .before .before .before .before .before .before .before .before .before .before .before .pre .1 .0 .patches, c .before .before .before .before .before .before .before .before .before .before .before .pre .1 .0 .size))))  -- slice-aggregate-finalize-in-3
-    (λ c. omega (arith, c .before .before .before .before .before .before .before .before .before .before .before .pre .1 .0 .size))  -- array-borrow-prefix-total-2
-    (λ c. sym (part-long slotCount _ (omega (arith, c .before .before .before .before .before .before .before .before .before .before .before .before .pre .1 .0 .size))))  -- slice-aggregate-finalize-in-4
-    (λ c κs. (c .before .before .before .before .before .before .before .before .before .before .before .before .pre .0, (c .before .before .before .before .before .before .before .before .before .before .before .before .pre .1 .0, (c .before .before .before .before .before .before .before .before .before .before .before .before .pre .1 .1 .0, (c .before .before .before .before .before .before .before .before .before .before .before .before .pre .1 .1 .1 .0, (c .before .before .before .before .before .before .before .before .before .before .before .before .pre .1 .1 .1 .1 .0, (c .before .before .before .before .before .before .before .before .before .before .before .before .pre .1 .1 .1 .1 .1, (part-long maxBranches _ (omega (arith, c .before .before .before .before .before .before .before .before .before .before .before .before .pre .1 .0 .patches, c .before .before .before .before .before .before .before .before .before .before .before .before .pre .1 .0 .size)), part-clear slotCount _ (omega (arith, c .before .before .before .before .before .before .before .before .before .before .before .before .pre .1 .0 .size))))))))))  -- finalize-in-requires-2
     (λ c. search needs)  -- same-length-3
     (λ c. search needs)  -- same-length-4
     (λ c. search needs))  -- returns-2
