@@ -39,7 +39,7 @@ fn long(bytes: usize, more: &[&str]) -> String {
     format!("P,1,{statements},0,0\n{}{}{}", case(100).repeat(cases), returns(rest), more.concat())
 }
 
-/// Just near and just far, back and forward; of two far branches the lower.
+/// Just near and just far, back and forward; of two far branches the lower; one that is not reached.
 #[test]
 fn far_branches() {
     let answers = [
@@ -48,6 +48,7 @@ fn far_branches() {
         (looped(MOST, 5), Err(refusal(15, 32766))),
         (looped(MOST + 1, 0), Err(refusal(15, 32780))),
         (looped(MOST + 2, 0), Err(refusal(15, 19))),
+        (looped(MOST + 1, 0).replace("P,1,1,0,0\n", "P,1,2,0,0\nR,0,0\n"), Err(refusal(15, 32781))),
         (guarded(MOST, 6), Ok(4 + MAX_FORWARD)),
         (guarded(MOST, 7), Err(refusal(15, 1))),
     ];
