@@ -17,8 +17,11 @@ extern "C" {
 #endif
 
 /* Limits, all of them the definition's (crates/definition/specs/Limits.antt; tests/header holds the two against each other). An output shorter
- * than its limit is refused (14), a longer one is zeroed behind the result. */
-#define MEZHUKAN_MAX_CODE 16384      /* bytes of code, emitted and finished */
+ * than its limit is refused (14), a longer one is zeroed behind the result. So lend by these names, and compile a caller again when the library
+ * changes: one from when the code limit was 16,384 bytes gets 14. */
+#define MEZHUKAN_MAX_CODE 65535      /* bytes of code, emitted and finished: its end is a place too, and fits 16 bits */
+#define MEZHUKAN_MAX_BACK 32768      /* bytes that a branch of finished code leads back at most, from the byte behind it */
+#define MEZHUKAN_MAX_FORWARD 32767   /* bytes that it leads forward at most, from there */
 #define MEZHUKAN_MAX_CONSTANTS 1024  /* constants */
 #define MEZHUKAN_MAX_LINES 4096      /* line entries */
 #define MEZHUKAN_ENTRY_SIZE 3        /* numbers of a line entry: offset, line, column */
@@ -34,11 +37,16 @@ extern "C" {
 #define MEZHUKAN_PASS_COUNT 3        /* passes of the rewriter */
 #define MEZHUKAN_WIDTH 32            /* bits of a value */
 
-/* Bytes of stack for a thread that calls: with so many tests/library runs every kind of nesting, as deep as it goes. */
-#define MEZHUKAN_STACK 524288
+/* Bytes of stack for a thread that calls: with so many tests/library runs every kind of nesting, as deep as it goes, and the longest code. */
+#define MEZHUKAN_STACK 524288 /* MEASURE */
 
-/* Refusals. Each has a place: a line of the program from 1 for 2 to 6, a line of the rules from 1 for 9, an offset for 8, for 7 some field at
- * fault from 1 (0 if the line or the field count is bad), else 0. After a refusal every element of every output is 0. */
+/* Refusals. Each has a place: a line of the program from 1 for 2 to 6, a line of the rules from 1 for 9, an offset for 8, the offset in finished
+ * code of the lowest such branch for 15, for 7 some field at fault from 1 (0 if the line or the field count is bad), else 0. After a refusal every
+ * element of every output is 0.
+ *
+ * Of 15: no file is malformed, but what lies between a branch and its target is too long: the body of a loop, a part of an IF, labels or arms of
+ * a CASE, the right side of an AND_THEN or OR_ELSE. That is to be shortened, or the program to be split. Only the lowest such branch is named: behind
+ * it there may be others. */
 #define MEZHUKAN_BAD_TEXT 1         /* program empty, too long, or not ended by LF */
 #define MEZHUKAN_BAD_FORM 2         /* wrong letter, wrong field count or malformed number */
 #define MEZHUKAN_BAD_RANGE 3        /* a number outside its range */
@@ -53,6 +61,7 @@ extern "C" {
 #define MEZHUKAN_LINES_FULL 12      /* line entries over their limit */
 #define MEZHUKAN_CONSTANTS_FULL 13  /* constants over their limit */
 #define MEZHUKAN_OUTPUT_SHORT 14    /* an output shorter than its limit */
+#define MEZHUKAN_FAR_BRANCH 15      /* the call: a branch of finished code, reached or not, leads further than MEZHUKAN_MAX_BACK or MEZHUKAN_MAX_FORWARD */
 #define MEZHUKAN_ASTRAY 20          /* an image's code: a run reaches a place that is neither start nor end, heights ignored */
 #define MEZHUKAN_BAD_HEIGHT 21      /* an image's code: an empty stack popped, the depth exceeded, an unempty end, or a start at two heights */
 

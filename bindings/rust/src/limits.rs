@@ -1,7 +1,11 @@
 //! The definition's limits (`crates/definition/specs/Limits.antt`); `tests/header` holds them against each other.
 
-/// Bytes of code, emitted and finished.
-pub const MAX_CODE: usize = 16384;
+/// Bytes of code, emitted and finished: its end is a place too, and fits 16 bits.
+pub const MAX_CODE: usize = 65535;
+/// Bytes that a branch of finished code leads back at most, from the byte behind it.
+pub const MAX_BACK: usize = 32768;
+/// Bytes that it leads forward at most, from there.
+pub const MAX_FORWARD: usize = 32767;
 /// Constants.
 pub const MAX_CONSTANTS: usize = 1024;
 /// Line entries.
@@ -32,7 +36,7 @@ pub const PASS_COUNT: usize = 3;
 pub const WIDTH: usize = 32;
 
 /// Bytes of stack for a thread that calls.
-pub const STACK: usize = 524288;
+pub const STACK: usize = 524288; // MEASURE
 
 // Numbers of an answer of the call, of rewriting called alone, of the check of an image, and of the slowest call.
 pub(crate) const COMPILED: usize = 6;

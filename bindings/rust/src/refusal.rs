@@ -3,7 +3,8 @@
 use core::error::Error;
 use core::fmt;
 
-use crate::limits::{MAX_CODE, MAX_CONSTANTS, MAX_LABELS, MAX_LINES, MAX_NESTING, MAX_PROGRAM, MAX_PROTECTED};
+use crate::limits::{MAX_BACK, MAX_CODE, MAX_CONSTANTS, MAX_FORWARD, MAX_LABELS};
+use crate::limits::{MAX_LINES, MAX_NESTING, MAX_PROGRAM, MAX_PROTECTED};
 
 /// What a refusal's number means.
 #[derive(Clone, Copy, Debug, PartialEq, Eq, Hash)]
@@ -38,13 +39,16 @@ pub enum Reason {
     ConstantsFull = 13,
     /// A lent output shorter than its limit: only where outputs are lent.
     OutputShort = 14,
+    /// The call: a branch of finished code, reached or not, leads further than [`MAX_BACK`] or [`MAX_FORWARD`]. What lies between it and its target
+    /// is to be shortened, or the program to be split.
+    FarBranch = 15,
     /// An image's code: a run reaches a place that is neither start nor end, heights ignored.
     Astray = 20,
     /// An image's code: an empty stack popped, the depth exceeded, an unempty end, or a start at two heights.
     BadHeight = 21,
 }
 
-const REASONS: [Reason; 16] = [
+const REASONS: [Reason; 17] = [
     Reason::BadText,
     Reason::BadForm,
     Reason::BadRange,
@@ -59,6 +63,7 @@ const REASONS: [Reason; 16] = [
     Reason::LinesFull,
     Reason::ConstantsFull,
     Reason::OutputShort,
+    Reason::FarBranch,
     Reason::Astray,
     Reason::BadHeight,
 ];
@@ -68,8 +73,8 @@ const REASONS: [Reason; 16] = [
 pub struct Refusal {
     /// What is refused: see [`Refusal::reason`].
     pub number: u8,
-    /// Where: a line of the program from 1 for 2 to 6, a line of the rules from 1 for 9, an offset for 8, for 7 some field at fault from 1 (0 if
-    /// the line or the field count is bad), else 0.
+    /// Where: a line of the program from 1 for 2 to 6, a line of the rules from 1 for 9, an offset for 8, the offset in finished code of the lowest
+    /// such branch for 15, for 7 some field at fault from 1 (0 if the line or the field count is bad), else 0.
     pub place: u64,
 }
 
@@ -107,6 +112,7 @@ impl fmt::Display for Reason {
             Reason::LinesFull => write!(f, "over {MAX_LINES} line entries"),
             Reason::ConstantsFull => write!(f, "over {MAX_CONSTANTS} constants"),
             Reason::OutputShort => f.write_str("a lent output shorter than its limit"),
+            Reason::FarBranch => write!(f, "branch over {MAX_BACK} bytes back or {MAX_FORWARD} forward"),
             Reason::Astray => f.write_str("a run reaches a place that is neither start nor end"),
             Reason::BadHeight => {
                 f.write_str("empty stack popped, depth exceeded, unempty end, or a start at two heights")
@@ -132,6 +138,7 @@ impl fmt::Display for Refusal {
             Reason::BadSheet if *place == 0 => f.write_str(": its line or field count"),
             Reason::BadSheet => write!(f, ", at field {place}"),
             Reason::BadCode => write!(f, ", at offset {place}"),
+            Reason::FarBranch => write!(f, ", at offset {place} of finished code"),
             _ => Ok(()),
         }
     }

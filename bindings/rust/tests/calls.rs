@@ -1,24 +1,13 @@
 //! The functions of the wrapper on small inputs: every part of an answer, outputs of every length, and what a refusal says.
 
+mod common;
+
 use std::thread;
 
+use common::{entry, refusal, run, MORE, SHEET};
 use mezhukan::*;
 
-const SHEET: &[u8] = b"1,2,3,4,5,6,7,8,9,10,11,12,13,14,15,16,17,18,19,20,21,22,23,24,25,26,27,1,2,3,4,5,6\n";
 const IF: &[u8] = b"P,2,1,1,1\nI,1,1,1,0\nC,4\nD,0\nK,-3\nA,2,1,1\nK,1\n";
-const MORE: usize = 7;
-
-fn entry(offset: u16, line: u16, column: u16) -> LineEntry {
-    LineEntry { offset, line, column }
-}
-
-fn refusal(number: u8, place: u64) -> Refusal {
-    Refusal { number, place }
-}
-
-fn run(count: u64, outcomes: &[bool]) -> Slowest {
-    Slowest::Run { count, outcomes: outcomes.to_vec() }
-}
 
 #[test]
 fn compiles() {
@@ -221,11 +210,12 @@ fn what_a_refusal_says() {
         (7, 33, "7,33: bad sheet, at field 33"),
         (8, 1, "8,1: unlisted opcode, cut instruction, or protected or line offset neither start nor end, at offset 1"),
         (9, 2, "9,2: bad rule, at line 2 of the rules"),
-        (10, 0, "10,0: code over 16384 bytes"),
+        (10, 0, "10,0: code over 65535 bytes"),
         (11, 0, "11,0: over 4096 labels or 4096 protected offsets"),
         (12, 0, "12,0: over 4096 line entries"),
         (13, 0, "13,0: over 1024 constants"),
         (14, 0, "14,0: a lent output shorter than its limit"),
+        (15, 19, "15,19: branch over 32768 bytes back or 32767 forward, at offset 19 of finished code"),
         (20, 0, "20,0: a run reaches a place that is neither start nor end"),
         (21, 0, "21,0: empty stack popped, depth exceeded, unempty end, or a start at two heights"),
     ];
@@ -233,7 +223,7 @@ fn what_a_refusal_says() {
         assert_eq!(refusal(number, place).to_string(), text);
         assert_eq!(refusal(number, place).reason().map(|reason| reason as u8), Some(number));
     }
-    for number in [0, 15, 19, 22, 255] {
+    for number in [0, 16, 19, 22, 255] {
         let unknown = format!("{number},3: a refusal that this crate does not know");
         assert_eq!((refusal(number, 3).to_string(), refusal(number, 3).reason()), (unknown, None));
     }
