@@ -19,7 +19,7 @@ pub enum Program {
 /// The answer, or what went wrong in the published code.
 pub type Answer = Result<String, String>;
 
-/// Whose an answer of one of our two programs is.
+/// Whose an answer of one of our two programs is; they are counted in this order.
 #[derive(Clone, Copy)]
 pub enum Source {
     Rust,
@@ -64,17 +64,18 @@ pub fn listed(input: &[u8]) -> Sourced {
         Ok(input) => input,
         Err(refusal) => return Ok((Source::Reader, refused(refusal))),
     };
-    match listing::compile(&input) {
-        Ok(finished) => match far::lowest(finished.code())? {
-            None => Ok((Source::Rust, listing::print(&input.sheet, &finished))),
-            Some(place) => Err(format!("the branch at {place} is too far, but the Rust cut no displacement")),
-        },
-        Err(Fault::Cut(finished)) => match far::lowest(finished.code())? {
-            Some(place) => Ok((Source::Far, refused(Refusal::at(FAR_BRANCH, place)))),
-            None => Err("the Rust cut a displacement, but no branch is too far".to_string()),
-        },
-        Err(Fault::Refused(refusal)) => Ok((Source::Rust, refused(refusal))),
-        Err(Fault::Broken(message)) => Err(message),
+    let (finished, cut) = match listing::compile(&input) {
+        Ok(finished) => (finished, false),
+        Err(Fault::Cut(finished)) => (finished, true),
+        Err(Fault::Refused(refusal)) => return Ok((Source::Rust, refused(refusal))),
+        Err(Fault::Broken(message)) => return Err(message),
+    };
+    // That the Rust cuts is seen on its side; the second reading must agree.
+    match (cut, far::lowest(finished.code())?) {
+        (false, None) => Ok((Source::Rust, listing::print(&input.sheet, &finished))),
+        (true, Some(place)) => Ok((Source::Far, refused(Refusal::at(FAR_BRANCH, place)))),
+        (true, None) => Err("the Rust cuts a displacement, but no branch is too far".to_string()),
+        (false, Some(place)) => Err(format!("the branch at {place} is too far, but the Rust cuts no displacement")),
     }
 }
 

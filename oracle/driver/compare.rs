@@ -5,7 +5,7 @@ use std::io;
 use std::path::Path;
 use std::process::{Command, Stdio};
 
-use crate::answer::{Source, Sourced};
+use crate::answer::Sourced;
 use crate::generate::Kind;
 
 /// What was compared, in words, and how many inputs differ.
@@ -70,12 +70,7 @@ pub fn compare(
     Ok(Compared { counts: counted(sources), differences })
 }
 
-fn counted(sources: [usize; 3]) -> String {
-    let of = |source: Source| sources[source as usize];
-    format!(
-        "{} compared with the Rust, {} with the plain reader, {} that the Rust cuts with the second reading of 15",
-        of(Source::Rust),
-        of(Source::Reader),
-        of(Source::Far)
-    )
+fn counted([rust, reader, far]: [usize; 3]) -> String {
+    let cut = if far > 0 { format!(", {far} that the Rust cuts with the second reading of 15") } else { String::new() };
+    format!("{rust} compared with the Rust, {reader} with the plain reader{cut}")
 }
