@@ -1,6 +1,7 @@
 """What the scripts of oracle/ and tests/ share. A script that cannot run ends with one line and exit status 2."""
 
 import argparse
+import re
 import shutil
 import subprocess
 import sys
@@ -11,6 +12,13 @@ from pathlib import Path
 
 ROOT = Path(__file__).resolve().parent.parent
 SHEET = ",".join(str(n) for n in [*range(1, 28), *range(1, 7)])     # document 01's example sheet
+OLD_CODE = 16_384                                                   # document 01's code limit, which 02's L1 raised: our tables change size there
+
+
+def limits():
+    """The oracle's limits by name, as CODE (oracle/shim/limits.rs)."""
+    found = re.findall(r"pub const (\w+): \w+ = ([\d_]+);", (ROOT / "oracle/shim/limits.rs").read_text())
+    return {name: int(number) for name, number in found}
 
 
 def options(doc):

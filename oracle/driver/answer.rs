@@ -4,7 +4,7 @@ use oracle::alone::{self, Unread};
 use oracle::listing::{self, Fault};
 use oracle::reader::{self, Refusal};
 
-use crate::{images, runs, slowest};
+use crate::{far, images, runs, slowest};
 
 /// What an input is for: one of our two programs, the interpreter, the check of images, or the slowest call.
 #[derive(Clone, Copy)]
@@ -19,23 +19,31 @@ pub enum Program {
 /// The answer, or what went wrong in the published code.
 pub type Answer = Result<String, String>;
 
-/// What the listing prints for an input that the plain reader refuses. The Rust has no such answer.
-const UNPARSED: &str = "unparsed\n";
-
-/// Whether the published code gave an answer: else the plain reader did.
-pub fn is_from_rust(program: Program, answer: &str) -> bool {
-    match program {
-        Program::Listing | Program::Meaning => answer != UNPARSED,
-        Program::Passes => answer.starts_with("0,"),
-        Program::Images | Program::Slowest => false,
-    }
+/// Whose an answer of one of our two programs is; they are counted in this order.
+#[derive(Clone, Copy)]
+pub enum Source {
+    Rust,
+    /// The plain reader's: the Rust reads no such input.
+    Reader,
+    /// That of the second reading of far branches: the Rust cut a displacement.
+    Far,
 }
 
-/// The answer to one input. With `reading`, the plain reader's own refusals too.
+/// An answer and whose it is, or what went wrong.
+pub type Sourced = Result<(Source, String), String>;
+
+/// A branch of finished code is too far from its target (02's L1).
+const FAR_BRANCH: u8 = 15;
+
+/// The answer to one input. With `reading`, those too of a listing that are not the Rust's; else a word for them.
 pub fn answer(program: Program, input: &[u8], reading: bool) -> Answer {
     match program {
-        Program::Listing => listed(input, reading),
-        Program::Passes => passed(input),
+        Program::Listing => Ok(match listed(input)? {
+            (Source::Reader, _) if !reading => "unparsed\n".to_string(),
+            (Source::Far, _) if !reading => "cut\n".to_string(),
+            (_, answer) => answer,
+        }),
+        Program::Passes => Ok(passed(input)?.1),
         Program::Meaning => runs::answer(input, reading),
         Program::Images => images::answer(input),
         Program::Slowest => slowest::answer(input),
@@ -51,28 +59,33 @@ fn refused(refusal: Refusal) -> String {
     format!("{},{}\n", refusal.number, refusal.place)
 }
 
-fn fault(fault: Fault) -> Answer {
-    match fault {
-        Fault::Refused(refusal) => Ok(refused(refusal)),
-        Fault::Broken(message) => Err(message),
+pub fn listed(input: &[u8]) -> Sourced {
+    let input = match reader::read(input) {
+        Ok(input) => input,
+        Err(refusal) => return Ok((Source::Reader, refused(refusal))),
+    };
+    let (finished, cut) = match listing::compile(&input) {
+        Ok(finished) => (finished, false),
+        Err(Fault::Cut(finished)) => (finished, true),
+        Err(Fault::Refused(refusal)) => return Ok((Source::Rust, refused(refusal))),
+        Err(Fault::Broken(message)) => return Err(message),
+    };
+    // That the Rust cuts is seen on its side; the second reading must agree.
+    match (cut, far::lowest(finished.code())?) {
+        (false, None) => Ok((Source::Rust, listing::print(&input.sheet, &finished))),
+        (true, Some(place)) => Ok((Source::Far, refused(Refusal::at(FAR_BRANCH, place)))),
+        (true, None) => Err("the Rust cuts a displacement, but no branch is too far".to_string()),
+        (false, Some(place)) => Err(format!("the branch at {place} is too far, but the Rust cuts no displacement")),
     }
 }
 
-fn listed(input: &[u8], reading: bool) -> Answer {
-    let input = match reader::read(input) {
-        Ok(input) => input,
-        Err(refusal) if reading => return Ok(refused(refusal)),
-        Err(_) => return Ok(UNPARSED.to_string()),
-    };
-    listing::compile(&input).map_or_else(fault, |finished| Ok(listing::print(&input.sheet, &finished)))
-}
-
-fn passed(input: &[u8]) -> Answer {
+pub fn passed(input: &[u8]) -> Sourced {
     let request = match alone::read(input) {
         Ok(request) => request,
-        Err(Unread::Refused(refusal)) => return Ok(refused(refusal)),
-        Err(Unread::Malformed(row)) => return Ok(format!("?,{row}\n")),
+        Err(Unread::Refused(refusal)) => return Ok((Source::Reader, refused(refusal))),
+        Err(Unread::Malformed(row)) => return Ok((Source::Reader, format!("?,{row}\n"))),
     };
     let rewritten = alone::rewrite(&request);
-    alone::remap(&request, &rewritten).map_or_else(fault, |entries| Ok(alone::print(&request, &rewritten, &entries)))
+    let entries = alone::remap(&request, &rewritten)?;
+    Ok((Source::Rust, alone::print(&request, &rewritten, &entries)))
 }

@@ -5,7 +5,7 @@ use std::io;
 use std::path::Path;
 use std::process::{Command, Stdio};
 
-use crate::answer::{answer, is_from_rust};
+use crate::answer::Sourced;
 use crate::generate::Kind;
 
 /// What was compared, in words, and how many inputs differ.
@@ -47,20 +47,30 @@ impl<'c> Trial<'c> {
     }
 }
 
-/// Runs `command` on the inputs `from` to `to` of a kind and counts the answers that differ. Each difference is
+/// Runs `command` on the inputs from `from` to below `to` of a kind and counts the answers that differ from those given by `answered`. Each difference is
 /// written to `folder`.
-pub fn compare(kind: Kind, from: u64, to: u64, folder: &Path, command: &[String]) -> Result<Compared, String> {
+pub fn compare(
+    kind: Kind,
+    (from, to): (u64, u64),
+    folder: &Path,
+    command: &[String],
+    answered: fn(&[u8]) -> Sourced,
+) -> Result<Compared, String> {
     let trial = Trial::new(folder, command)?;
-    let (mut rust, mut plain, mut differences) = (0, 0, 0);
+    let (mut sources, mut differences) = ([0; 3], 0);
     for (seed, input) in kind.inputs(from, to) {
         let got = trial.printed(&input)?;
-        let expected = answer(kind.program(), &input, true)?;
-        let from_rust = is_from_rust(kind.program(), &answer(kind.program(), &input, false)?);
-        *(if from_rust { &mut rust } else { &mut plain }) += 1;
+        let (source, expected) = answered(&input)?;
+        sources[source as usize] += 1;
         if got != expected {
             differences += 1;
             trial.note(kind, seed, &input, &expected, &got)?;
         }
     }
-    Ok(Compared { counts: format!("{rust} compared with the Rust, {plain} with the plain reader"), differences })
+    Ok(Compared { counts: counted(sources), differences })
+}
+
+fn counted([rust, reader, far]: [usize; 3]) -> String {
+    let cut = if far > 0 { format!(", {far} that the Rust cuts with the second reading of 15") } else { String::new() };
+    format!("{rust} compared with the Rust, {reader} with the plain reader{cut}")
 }

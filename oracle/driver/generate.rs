@@ -4,7 +4,7 @@ use std::ops::Range;
 
 use crate::answer::Program;
 use crate::short_images::Set;
-use crate::{image_inputs, passes, programs, short, short_images, slowest_inputs};
+use crate::{image_inputs, long, passes, programs, short, short_images, slowest_inputs};
 
 /// Seeds and their inputs.
 type Inputs = Box<dyn Iterator<Item = (u64, Vec<u8>)>>;
@@ -15,6 +15,8 @@ pub enum Kind {
     Programs,
     /// Every short program.
     Short,
+    /// Long ones at random, with branches about as far as they may lead.
+    Long,
     /// The passes called alone, at random.
     Passes,
     /// Programs without rules at random, with starting values.
@@ -31,9 +33,10 @@ pub enum Kind {
 
 impl Kind {
     pub fn of(name: &str) -> Option<Kind> {
-        const KINDS: [Kind; 8] = [
+        const KINDS: [Kind; 9] = [
             Kind::Programs,
             Kind::Short,
+            Kind::Long,
             Kind::Passes,
             Kind::Meaning,
             Kind::Images,
@@ -48,6 +51,7 @@ impl Kind {
         match self {
             Kind::Programs => "programs",
             Kind::Short => "short",
+            Kind::Long => "long",
             Kind::Passes => "passes",
             Kind::Meaning => "meaning",
             Kind::Images => "images",
@@ -59,7 +63,7 @@ impl Kind {
 
     pub fn program(self) -> Program {
         match self {
-            Kind::Programs | Kind::Short => Program::Listing,
+            Kind::Programs | Kind::Short | Kind::Long => Program::Listing,
             Kind::Passes => Program::Passes,
             Kind::Meaning => Program::Meaning,
             Kind::Images | Kind::ShortImages => Program::Images,
@@ -82,6 +86,7 @@ impl Kind {
         let seeds = from..to;
         match self {
             Kind::Programs => Box::new(seeds.map(|seed| (seed, programs::input(seed)))),
+            Kind::Long => Box::new(seeds.map(|seed| (seed, long::input(seed)))),
             Kind::Passes => Box::new(seeds.map(|seed| (seed, passes::input(seed)))),
             Kind::Meaning => Box::new(seeds.map(|seed| (seed, programs::valued(seed)))),
             Kind::Images => Box::new(seeds.map(|seed| (seed, image_inputs::input(seed)))),

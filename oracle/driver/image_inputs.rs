@@ -1,10 +1,10 @@
 //! Images at random: code of our own making, the published code's answers, and these with a few bytes changed.
 
-use oracle::limits::CODE;
 use oracle::{listing, reader};
 
 use crate::answer::fields;
 use crate::head::joined;
+use crate::limits::LENGTHS;
 use crate::programs;
 use crate::random::Random;
 use crate::writer::Writer;
@@ -16,11 +16,11 @@ pub struct Draft {
     pub code: Vec<u8>,
 }
 
-/// A seed of this many has code at its limit.
+/// A seed of this many has code at its limit, or as long as a table.
 pub const LIMIT_EVERY: u64 = 64;
 
 /// Where a seed's code is from.
-const AT_LIMIT: &str = "at the code limit";
+const AT_LIMIT: &str = "at a limit";
 const OWN: &str = "random";
 /// With its own depth it always passes, 02 says.
 pub const FINISHED: &str = "finished at its own depth";
@@ -133,10 +133,10 @@ fn own(random: &mut Random) -> Draft {
         writer.pop_all();
     }
     writer.places.push((writer.code.len(), writer.height));
-    let astray = writer.random.percent(30);
+    let (astray, levels) = (writer.random.percent(30), writer.levels());
     for branch in std::mem::take(&mut writer.branches) {
         let aimed = fitting && !(astray && writer.random.percent(40));
-        writer.aim(branch, aimed);
+        writer.aim(branch, aimed, &levels);
     }
     if writer.random.percent(if fitting { 25 } else { 50 }) {
         writer.slip();
@@ -145,14 +145,15 @@ fn own(random: &mut Random) -> Draft {
     Draft { depth: near(writer.random, highest), sheet: writer.sheet, code: writer.code }
 }
 
-/// Code of the greatest length, one byte less, or one more.
+/// Code of the greatest length or as long as a table, one byte less, or one more.
 fn at_limit(random: &mut Random) -> Draft {
     let mut writer = Writer::new(random);
-    let length = CODE - 1 + writer.random.below(3);
+    let length = writer.random.pick(&LENGTHS) - 1 + writer.random.below(3);
     writer.fill(length);
     writer.places.push((length, 0));
+    let levels = writer.levels();
     for branch in std::mem::take(&mut writer.branches) {
-        writer.aim(branch, true);
+        writer.aim(branch, true, &levels);
     }
     Draft { depth: writer.highest as u64, sheet: writer.sheet, code: writer.code }
 }

@@ -3,6 +3,7 @@
 mod all_runs;
 mod answer;
 mod compare;
+mod far;
 mod from_end;
 mod generate;
 mod head;
@@ -10,6 +11,7 @@ mod heights;
 mod image_inputs;
 mod images;
 mod limits;
+mod long;
 mod machine;
 mod meaning;
 #[cfg(feature = "ours")]
@@ -48,9 +50,10 @@ const USE: &str = "use: oracle [--reader] [--fold-constants] COMMAND
   compare slowest|short-slowest FROM TO FOLDER   our slowest call, likewise
   bench listing|passes|images|slowest RUNS       ns for a run on one input: the published code (images: the check by heights;
                                                  slowest: that and the reading from the end), and ours
-KIND: programs, short or passes; or meaning, whose inputs have a line of starting values on top: PROGRAM's listing is run on them;
+KIND: programs, short, long or passes; or meaning, whose inputs have a line of starting values on top: PROGRAM's listing is run on them;
   or images, short-images, slowest or short-slowest (NOT from the Rust), whose inputs are the lines sheet, depth and code
---reader: the plain reader's refusals by number and place (NOT from the Rust), instead of `unparsed`
+--reader: the plain reader's refusals by number and place, and 15 with its place where the Rust cuts a displacement (NOT from the Rust), instead of
+  `unparsed` and `cut`
 --fold-constants: constant loads folded, as published";
 
 const SEPARATOR: &[u8] = b"====\n";
@@ -177,7 +180,8 @@ fn compare(kind: Kind, from: u64, to: u64, folder: &Path, command: &[String]) ->
         (Program::Images | Program::Slowest, _) => {
             return Err("images are held against our library, not a program".to_string())
         }
-        _ => compare::compare(kind, from, to, folder, command)?,
+        (Program::Passes, _) => compare::compare(kind, (from, to), folder, command, answer::passed)?,
+        (Program::Listing, _) => compare::compare(kind, (from, to), folder, command, answer::listed)?,
     };
     write(format!("{}: {counts}, {differences} differences\n", kind.name()).as_bytes())?;
     match differences {

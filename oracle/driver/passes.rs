@@ -1,8 +1,9 @@
 //! Inputs of the passes called alone, at random.
 
-use oracle::limits::{CODE, ENTRIES, LABELS};
+use oracle::limits::{ENTRIES, LABELS};
 
 use crate::head;
+use crate::limits::LENGTHS;
 use crate::random::Random;
 
 struct Request {
@@ -89,10 +90,10 @@ fn push(random: &mut Random, request: &mut Request, role: usize) {
     request.places.push(request.code.len());
 }
 
-/// Code, protected offsets or entries at their limit, or one over it.
+/// Code at its limit or as long as a table, protected offsets or entries at their limits, or one over it.
 fn at_limits(random: &mut Random) -> Request {
     let mut request = empty(random);
-    let (code, protected, entries) = (full(random, CODE), full(random, LABELS), full(random, ENTRIES));
+    let (code, protected, entries) = (full(random, &LENGTHS), full(random, &[LABELS]), full(random, &[ENTRIES]));
     while request.code.len() + 8 <= code {
         instruction(random, &mut request);
     }
@@ -110,10 +111,10 @@ fn at_limits(random: &mut Random) -> Request {
     request
 }
 
-fn full(random: &mut Random, limit: usize) -> usize {
+fn full(random: &mut Random, limits: &[usize]) -> usize {
     match random.below(5) {
-        0 => limit + 1,
-        1 | 2 => limit,
+        0 => random.pick(limits) + 1,
+        1 | 2 => random.pick(limits),
         _ => random.below(50),
     }
 }

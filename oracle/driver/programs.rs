@@ -20,6 +20,8 @@ struct Style {
     loops: usize,
     /// In a hundred: an EXIT or CONTINUE of a loop that is not open.
     astray: usize,
+    /// How many labels an arm has.
+    labels: &'static [usize],
     /// The operations on two values, and a FOR's steps.
     operations: &'static [u8],
     steps: &'static [i32],
@@ -35,6 +37,7 @@ const MIXED: Style = Style {
     loops: 2,
     astray: 0,
     leaves: b"AAAXNR",
+    labels: &[0, 1, 2, 3],
     operations: &[0, 1, 2, 3, 4, 5, 6, 7],
     steps: &[1, 1, 2, -1, -3, 0, i32::MAX, i32::MIN],
     counting: 0,
@@ -47,6 +50,14 @@ const FOLDS: Style =
 const SUMS: Style = Style { statements: &[(4, b'A'), (1, b'I')], depth: 10, lines: 90, ..MIXED };
 const LARGE: Style = Style { lines: 700, depth: 9, ..MIXED };
 const ASTRAY: Style = Style { astray: 8, lines: 30, ..LOOPS };
+
+/// Much code from little text. A loop that just misses a REPEAT's shape is often refused: in many lines there would always be one.
+const LONG: Style = Style {
+    statements: &[(4, b'A'), (3, b'I'), (4, b'S'), (4, b'F'), (1, b'X'), (1, b'N')],
+    labels: &[0, 1, 2, 40, 150, 400],
+    lines: 5_000,
+    ..MIXED
+};
 
 /// What a program that is to be run is made of: few endless loops and RETURNs, so that much of it is reached.
 const RUN: Style = Style {
@@ -105,22 +116,33 @@ pub fn valued(seed: u64) -> Vec<u8> {
     [head::joined(&values).as_bytes(), b"\n", &text].concat()
 }
 
-fn with_head(random: &mut Random, program: impl FnOnce(&mut Random) -> Vec<String>) -> Vec<u8> {
+pub fn with_head(random: &mut Random, program: impl FnOnce(&mut Random) -> Vec<String>) -> Vec<u8> {
     let (sheet, rules) = (head::sheet(random), head::rules(random));
     with_lines(head::head(&sheet, &rules), &program(random))
 }
 
-fn with_lines(mut text: String, lines: &[String]) -> Vec<u8> {
+pub fn with_lines(mut text: String, lines: &[String]) -> Vec<u8> {
     lines.iter().for_each(|line| text.extend([line.as_str(), "\n"]));
     text.into_bytes()
 }
 
 fn program(random: &mut Random, style: Style) -> Vec<String> {
+    written(random, style, 90)
+}
+
+/// Statements of many kinds on up to 5,000 lines, arms of up to 400 labels among them.
+pub fn long_statements(random: &mut Random) -> Vec<String> {
+    let lines = random.pick(&[1_000, 2_000, 3_500, LONG.lines]);
+    written(random, Style { lines, ..LONG }, 100)
+}
+
+/// A program that goes on behind a top statement in so many of a hundred, while there are lines left.
+fn written(random: &mut Random, style: Style, going_on: usize) -> Vec<String> {
     // Few positions, so that one often equals the last entry's.
     let positions = random.pick(&[1, 2, 3]);
     let mut writer = Writer { random, style, positions, lines: vec![String::new()], open: Vec::new(), assigned: 0 };
     let mut count = 0;
-    while count == 0 || (writer.left() > 0 && writer.random.percent(90)) {
+    while count == 0 || (writer.left() > 0 && writer.random.percent(going_on)) {
         writer.statement(1);
         count += 1;
     }
@@ -274,7 +296,7 @@ impl Writer<'_> {
 
     /// One in four has no label, and then jumps that lead nowhere do no harm.
     fn arm(&mut self, depth: usize) {
-        let (labels, body) = (self.random.pick(&[0, 1, 2, 3]), self.few());
+        let (labels, body) = (self.random.pick(self.style.labels), self.few());
         self.line(format!("M,{labels},{body}"));
         for _ in 0..labels {
             let (low, high, single) = (self.value(), self.value(), self.random.percent(50));

@@ -1,13 +1,12 @@
 //! Images for the slowest call at random: code whose branches lead forward, or back where no run comes; the published code's answers; images of the check.
 
-use oracle::limits::CODE;
-
 use crate::image_inputs::{self, finished, near, printed, Draft, LIMIT_EVERY};
+use crate::limits::LENGTHS;
 use crate::random::Random;
 use crate::writer::Writer;
 
 /// Where a seed's code is from.
-const AT_LIMIT: &str = "at the code limit";
+const AT_LIMIT: &str = "at a limit";
 const FORWARD: &str = "forward";
 const DIAMONDS: &str = "diamonds";
 const UNREACHED: &str = "with unreached code";
@@ -215,10 +214,11 @@ fn write_blocks(writer: &mut Writer, length: usize) {
     }
 }
 
-/// Code of the greatest length, one byte less, or one more.
+/// Code of the greatest length or as long as a table, one byte less, or one more.
 fn full(random: &mut Random) -> Draft {
     let mut writer = Writer::new(random);
-    let length = writer.random.weigh(&[(8, CODE), (1, CODE - 1), (1, CODE + 1)]);
+    let most = writer.random.pick(&LENGTHS);
+    let length = writer.random.weigh(&[(8, most), (1, most - 1), (1, most + 1)]);
     match writer.random.below(6) {
         0 => {
             writer.fill(length);

@@ -1,5 +1,7 @@
 //! Code at random, instruction by instruction.
 
+use std::collections::BTreeMap;
+
 use crate::head;
 use crate::random::Random;
 
@@ -16,6 +18,9 @@ pub struct Writer<'r> {
 
 /// Where the two bytes of an offset stand, and the height behind the branch.
 pub type Branch = (usize, usize);
+
+/// The places at each height, in order.
+pub type Levels = BTreeMap<usize, Vec<usize>>;
 
 /// Roles by what they need: nothing, one value, two.
 const FREE: [usize; 9] = [2, 4, 5, 6, 23, 25, 25, 25, 26];
@@ -65,13 +70,19 @@ impl<'r> Writer<'r> {
         self.random.pick(group)
     }
 
+    pub fn levels(&self) -> Levels {
+        let mut levels = Levels::new();
+        self.places.iter().for_each(|(place, height)| levels.entry(*height).or_default().push(*place));
+        levels
+    }
+
     /// Sets a branch's offset: to a start or the end, at its height if there is one and `fitting`; else anywhere.
-    pub fn aim(&mut self, (at, height): (usize, usize), fitting: bool) {
-        let level: Vec<usize> = self.places.iter().filter(|place| place.1 == height).map(|place| place.0).collect();
+    pub fn aim(&mut self, (at, height): Branch, fitting: bool, levels: &Levels) {
+        let level = levels.get(&height).map_or(&[][..], Vec::as_slice);
         let end = self.code.len();
         let any = self.random.pick(&self.places).0;
         let target = match self.random.below(20) {
-            _ if fitting && !level.is_empty() => self.random.pick(&level),
+            _ if fitting && !level.is_empty() => self.random.pick(level),
             0..14 => any,
             14 => end,
             15 => any + 1,
@@ -93,9 +104,10 @@ impl<'r> Writer<'r> {
     /// Leads every branch forward, to a place at its height: often a near one, and the one behind it too.
     pub fn aim_forward(&mut self) {
         self.places.push((self.code.len(), self.height));
+        let levels = self.levels();
         for (at, height) in std::mem::take(&mut self.branches) {
-            let fits = |place: &&(usize, usize)| place.0 >= at + 2 && place.1 == height;
-            let level: Vec<usize> = self.places.iter().filter(fits).map(|place| place.0).collect();
+            let level = &levels[&height];
+            let level = &level[level.partition_point(|place| *place < at + 2)..];
             let near = level.len().min(self.random.pick(&[1, 3, 5, 9, usize::MAX]));
             let target = self.random.pick(&level[..near]);
             self.lead(at, target);

@@ -6,7 +6,7 @@ use ironplc_container::{SourceColumn, SourceFileId, SourceLine};
 
 use crate::emit::{EmittedLineMapEntry, UnpatchedCode};
 use crate::limits;
-use crate::listing::{print_instruction, Fault};
+use crate::listing::print_instruction;
 use crate::optimize::{optimize, remap_line_map, OffsetMap};
 use crate::reader::{numbers, read_head, split_line, Refusal};
 use crate::rules::{self, Rule};
@@ -110,10 +110,10 @@ pub fn rewrite(request: &Request) -> Rewritten {
     Rewritten { code, map }
 }
 
-/// The entries that are kept, at their new offsets.
-pub fn remap(request: &Request, rewritten: &Rewritten) -> Result<Vec<EmittedLineMapEntry>, Fault> {
+/// The entries that are kept, at their new offsets; else an error of the published code that 01 has no number for.
+pub fn remap(request: &Request, rewritten: &Rewritten) -> Result<Vec<EmittedLineMapEntry>, String> {
     remap_line_map(request.entries.clone(), &rewritten.map, rewritten.code.len() as u16)
-        .map_err(|diagnostic| Fault::Broken(diagnostic.message))
+        .map_err(|diagnostic| diagnostic.message)
 }
 
 pub fn print(request: &Request, rewritten: &Rewritten, entries: &[EmittedLineMapEntry]) -> String {

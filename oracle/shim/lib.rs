@@ -11,6 +11,7 @@ mod compile_partial_access {
     pub(crate) use crate::body::left_out::Bits;
 }
 mod compile_stmt;
+mod cuts;
 mod emit;
 mod optimize;
 

@@ -1,8 +1,8 @@
-//! 01's limits. The published code goes on past a limit; the first one met is the answer.
+//! 01's limits, that of the code as 02's L1 has it. The published code goes on past a limit; the first one met is the answer.
 
 use std::cell::Cell;
 
-pub const CODE: usize = 16_384;
+pub const CODE: usize = 65_535;
 pub const LABELS: usize = 4_096;
 pub const ENTRIES: usize = 4_096;
 pub const CONSTANTS: usize = 1_024;

@@ -10,11 +10,13 @@ use crate::compile_stmt::record_position;
 use crate::emit::Emitter;
 use crate::reader::{Input, Refusal};
 use crate::sheet::{instructions, Sheet};
-use crate::{limits, rules};
+use crate::{cuts, limits, rules};
 
 /// Why there is no listing.
 pub enum Fault {
     Refused(Refusal),
+    /// A displacement was cut to 16 bits: what was finished all the same.
+    Cut(Finished),
     /// An error of the published code that 01 has no number for.
     Broken(String),
 }
@@ -22,6 +24,13 @@ pub enum Fault {
 pub struct Finished {
     function: FinalizedFunction,
     constants: Vec<PoolConstant>,
+}
+
+impl Finished {
+    /// The code over roles.
+    pub fn code(&self) -> &[u8] {
+        &self.function.bytecode
+    }
 }
 
 /// Emits, rewrites and patches a program.
@@ -37,7 +46,11 @@ pub fn compile(input: &Input) -> Result<Finished, Fault> {
     }
     emitted.map_err(fault)?;
     let function = finalize_function(&mut emitter, &mut ctx).map_err(fault)?;
-    Ok(Finished { function, constants: ctx.constants })
+    let finished = Finished { function, constants: ctx.constants };
+    if cuts::take() {
+        return Err(Fault::Cut(finished));
+    }
+    Ok(finished)
 }
 
 /// A loop that is not open is refusal 4, at the statement's line.

@@ -6,7 +6,7 @@ ghost use lib.ListN.{length, drop};
 ghost use Rattle.replay.specs.Case.{begins, separator, partEnd, behind, caseAt, missing};
 
 // More than the stored answers of one program take: a case that was cut off would differ.
-pub const INPUT_ROOM: usize = 330000;
+pub const INPUT_ROOM: usize = 700000;
 
 const SEPARATOR_SIZE: usize = 5;
 
