@@ -20,4 +20,5 @@ pub mod Decided
 pub mod Passing
 pub mod Safe
 pub mod Far
+mod Example
 pub mod Values
