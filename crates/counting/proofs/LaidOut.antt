@@ -33,7 +33,7 @@ use Rattle.runs.proofs.Passes.{Reads}
 use Rattle.runs.proofs.Decoding.{joined}
 use Rattle.runs.proofs.Later.{grown-here, acts-grown}
 use Rattle.runs.proofs.Emitted.{relabelled}
-use Rattle.runs.proofs.Patched.{aimedOperand, IsNear}
+use Rattle.runs.proofs.Patched.{aimedOperand, IsNear, NearBy}
 use Rattle.runs.proofs.Finished.{Reaches, reach-each}
 use Rattle.runs.proofs.Rows.{patchHere}
 use Rattle.runs.proofs.Conditions.{indexed}
@@ -299,15 +299,15 @@ module _ (s : Sheet) (known : Reads s) (rows : List Row) (e : Emitter) (formed :
   pub all-near : Reaches s [] e → AllNear s (goalOf s rows e) rows
   unfolding goalIn patchesOf patchHere bytesOf operandOf unpatched
   all-near reach l r A B q a =
-      let near : Each (λ (p : PendingPatch). IsNear (movedTo (diagonal bounds) (boundLabel (e .labels) (p .label))) (movedTo (diagonal bounds) (p .instructionOffset) + p .operandDelta + 2)) (e .patches) =
+      let near : Each (λ p. NearBy (e .labels) (diagonal bounds) p) (e .patches) =
       reach-each (e .labels) (diagonal bounds) (e .patches) (subst (λ m. inReach (e .labels) m (e .patches) ≡ ok tt) map-is reach) in
-      go (r .aim) a (each-behind (patchesOf s 0 A) _ (subst (λ ps. Each (λ (p : PendingPatch). IsNear (movedTo (diagonal bounds) (boundLabel (e .labels) (p .label))) (movedTo (diagonal bounds) (p .instructionOffset) + p .operandDelta + 2)) ps)
+      go (r .aim) a (each-behind (patchesOf s 0 A) _ (subst (λ ps. Each (λ p. NearBy (e .labels) (diagonal bounds) p) ps)
       (formed .patches ∙ (ap (λ x. patchesOf s 0 x) q ∙ patches-append s 0 A (r ∷ B))) near))
     where
       o : List ℕ
       o = r .operand
 
-      go : (x : Option ℕ) → x ≡ some l → Each (λ (p : PendingPatch). IsNear (movedTo (diagonal bounds) (boundLabel (e .labels) (p .label))) (movedTo (diagonal bounds) (p .instructionOffset) + p .operandDelta + 2)) (patchHere x (0 + length (codeOf s A)) (unpatched x o) ++ patchesOf s (0 + length (codeOf s A) + suc (length (unpatched x o))) B)
+      go : (x : Option ℕ) → x ≡ some l → Each (λ p. NearBy (e .labels) (diagonal bounds) p) (patchHere x (0 + length (codeOf s A)) (unpatched x o) ++ patchesOf s (0 + length (codeOf s A) + suc (length (unpatched x o))) B)
           → IsNear (goalOf s rows e l) (length (codeOf s A) + suc (length (unpatched x o)))
       go none e es = never (cc)
       go (some k) w (n also es) =

@@ -26,7 +26,7 @@ use Rattle.opcode.proofs.Sheets.{role-of-opcode}
 use Rattle.field.proofs.Results.{never, some-is}
 use Rattle.runs.proofs.Rows.{Rising, risen, rises}
 use Rattle.runs.proofs.Passes.{Reads, Fine as FineMatcher, rules-fine}
-use Rattle.runs.proofs.Patched.{IsNear, near-is}
+use Rattle.runs.proofs.Patched.{IsNear, NearBy, near-is}
 use Rattle.runs.proofs.Finished.{Reaches, each-both, reach-each, program-turned, program-rises, program-length, program-targets, program-inside}
 use Rattle.runs.proofs.Answers.{Tested, call-refused, reach-number}
 
@@ -77,7 +77,7 @@ module _ (labels : List (Option ℕ)) (m : OffsetMap) where
   not-below p ps own r y (this a) = let h = a .here in omega arith
   not-below p ps own r y (later t) = let h = at-least ps r t in omega arith
 
-  not-it : (p : PendingPatch) (ps : List PendingPatch) {x : ℕ} → IsNear (movedTo m (boundLabel labels (p .label))) (movedTo m (p .instructionOffset) + p .operandDelta + 2) → ((y : ℕ) → Some (λ q. Astray y q) ps → x ≤ y)
+  not-it : (p : PendingPatch) (ps : List PendingPatch) {x : ℕ} → NearBy labels m p → ((y : ℕ) → Some (λ q. Astray y q) ps → x ≤ y)
       → (y : ℕ) → Some (λ q. Astray y q) (p ∷ ps) → x ≤ y
   not-it p ps k more y (this a) = far-near _ _ (a .far) k
   not-it p ps k more y (later t) = more y t
@@ -133,8 +133,7 @@ module _ (s : Sheet) (back : Reads s) (rules : List Rule) (fine : (pass : ℕ) �
   pub program-far : {x : ℕ} → FarAt s rules e x → Reaches s rules e → ⊥
   program-far a reach = apart (reach-each (e .labels) moves (e .patches) reach) (some-mapped a)
     where
-      apart : {y : ℕ} {ps : List PendingPatch} → Each (λ (x : PendingPatch). IsNear (movedTo moves (boundLabel (e .labels) (x .label))) (movedTo moves (x .instructionOffset) + x .operandDelta + 2)) ps
-          → Some (λ x. Astray (e .labels) moves y x) ps → ⊥
+      apart : {y : ℕ} {ps : List PendingPatch} → Each (λ x. NearBy (e .labels) moves x) ps → Some (λ x. Astray (e .labels) moves y x) ps → ⊥
       apart (n also ns) (this a) = far-near _ _ (a .far) n
       apart (n also ns) (later t) = apart ns t
 

@@ -33,7 +33,7 @@ use Rattle.field.proofs.Lists.{has-first, has-later}
 use Rattle.runs.proofs.Rows.{Row, bytes-of, place-at, aim-at, row-of, row-inside, row-aim, row-bytes, height-first, place-first, place-end, place-within, patchHere, patchesBy, patches-same, each-patch, each-row, aim-row, Rising, patches-rise, place-rises, Compared, Linked}
 use Rattle.runs.proofs.Emitted.{Stands, Placed, Acted, created, emitted}
 use Rattle.runs.proofs.Passes.{Reads, Fine as FineMatcher, insOf, decode-rows, looked-moved, Piped, optimize-piped, moved-in-turn}
-use Rattle.runs.proofs.Patched.{aimedRows, aimed-first, aimed-heights, aimed-count, aimed-linked, aimed-places, aimed-patches, aimedRow, aimed-aims, aimed-row, aimed-byte, aimed-compared, aimed-long, patchWith, movedPatch, patchJumps-with, patched-rows, row-target, inside-rows, IsNear, near-is, row-next}
+use Rattle.runs.proofs.Patched.{aimedRows, aimed-first, aimed-heights, aimed-count, aimed-linked, aimed-places, aimed-patches, aimedRow, aimed-aims, aimed-row, aimed-byte, aimed-compared, aimed-long, patchWith, movedPatch, patchJumps-with, patched-rows, row-target, inside-rows, IsNear, NearBy, near-is, row-next}
 use Rattle.runs.proofs.Running.{row-at, run-fine, row-fine, row-leads, branch-places, height-of, height-place, start-row}
 
 -- ---- patches and what holds of each
@@ -74,7 +74,7 @@ Reaches s rules e = inReach (e .labels) (optimize s rules (e .bytecode) (jumpTar
 
 -- then every branch is near its target
 pub reach-each : (labels : List (Option ℕ)) (m : OffsetMap) (ps : List PendingPatch) → inReach labels m ps ≡ ok tt
-    → Each (λ (p : PendingPatch). IsNear (movedTo m (boundLabel labels (p .label))) (movedTo m (p .instructionOffset) + p .operandDelta + 2)) ps
+    → Each (λ p. NearBy labels m p) ps
 unfolding inReach
 reach-each labels m [] e = empty
 reach-each labels m (p ∷ ps) e = let d = ok-demand _ _ _ _ tt e in near-is _ _ (d .0) also reach-each labels m ps (d .1)

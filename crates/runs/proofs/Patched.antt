@@ -38,6 +38,10 @@ pub near-is : (t n : ℕ) → near t n ≡ true → IsNear t n
 unfolding near
 near-is t n e = (leb-true n (t + maxBack) (and-left _ _ e), leb-true t (n + maxForward) (and-right (leb n (t + maxBack)) _ e))
 
+-- a branch's target is so, where a map moves both
+abbrev pub NearBy : List (Option ℕ) → OffsetMap → PendingPatch → Type 0
+NearBy labels m p = IsNear (movedTo m (boundLabel labels (p .label))) (movedTo m (p .instructionOffset) + p .operandDelta + 2)
+
 -- it is read back
 pub reached-near : (t n : ℕ) → IsNear t n → reached (displacement t n) n ≡ some t
 unfolding displacement reached
