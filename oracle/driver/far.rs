@@ -24,7 +24,7 @@ impl Branch {
     /// As whole numbers.
     fn is_far(&self) -> bool {
         let displacement = self.target as i64 - self.next as i64;
-        displacement < -32_768 || displacement > 32_767
+        !(-32_768..=32_767).contains(&displacement)
     }
 }
 
