@@ -38,7 +38,7 @@ extern "C" {
 #define MEZHUKAN_WIDTH 32            /* bits of a value */
 
 /* Bytes of stack for a thread that calls: with so many tests/library runs every kind of nesting, as deep as it goes, and the longest code. */
-#define MEZHUKAN_STACK 524288 /* MEASURE */
+#define MEZHUKAN_STACK 1048576
 
 /* Refusals. Each has a place: a line of the program from 1 for 2 to 6, a line of the rules from 1 for 9, an offset for 8, the offset in finished
  * code of the lowest such branch for 15, for 7 some field at fault from 1 (0 if the line or the field count is bad), else 0. After a refusal every

@@ -36,7 +36,7 @@ pub const PASS_COUNT: usize = 3;
 pub const WIDTH: usize = 32;
 
 /// Bytes of stack for a thread that calls.
-pub const STACK: usize = 524288; // MEASURE
+pub const STACK: usize = 1048576;
 
 // Numbers of an answer of the call, of rewriting called alone, of the check of an image, and of the slowest call.
 pub(crate) const COMPILED: usize = 6;
