@@ -1,7 +1,10 @@
 -- Made by `answers` from crates/compile_test/answers/is_answered.txt: edit that file, not this one.
 use mathlib.Core.Path.{sym}
+use Prim.Native.Nat.{ℕ}
 use native.Mathlib.Omega.{arith}
+use lib.ListN.{length-replicate}
 use lib.Seq.{length-take-le}
+use Rattle.text.specs.Text.{textRoom}
 use borrow.Author.Needs.{needs}
 use Rattle.compile_test.proofs.is_answered.Statement.{statement}
 use Rattle.compile_test.proofs.is_answered.Tie as tie
@@ -15,7 +18,7 @@ is-answered-spec =
     (λ c. search needs)  -- returns-3
     (λ c. search needs)  -- mul-m
     (λ c. search needs)  -- returns-4
-    (λ c. search needs)  -- slice-aggregate-is-told
+    (λ c. sym (length-replicate {A = ℕ} textRoom 0))  -- slice-aggregate-is-told
     (λ c. sym (length-take-le _ _ (omega arith)))  -- slice-aggregate-is-told-2
     (λ c. sym (length-take-le _ _ (omega arith)))  -- slice-aggregate-is-told-3
     (λ c. sym (length-take-le _ _ (omega arith)))  -- slice-aggregate-is-told-4
