@@ -6,6 +6,7 @@ ghost use lib.ListN.{length};
 ghost use Rattle.replay.specs.Case.{caseCount};
 use definition::MAX_CODE;
 use definition::MAX_OUTCOMES;
+use replay::INPUT_ROOM;
 use text::LISTING_ROOM;
 use text::TEXT_ROOM;
 
@@ -169,4 +170,11 @@ pub fn replay_all(asked: Asked, input: &[u8]) -> u64
         at = case.next;
     }
     replay::total(cases, differ)
+}
+
+// The stored answers on standard input.
+pub fn replay_input(asked: Asked) {
+    let mut input = [0u8; INPUT_ROOM];
+    let n = io::read_full(0, &mut input);
+    replay_all(asked, &input[..n]);
 }

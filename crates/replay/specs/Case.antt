@@ -12,6 +12,10 @@ begins [] text = true
 begins (p ∷ ps) [] = false
 begins (p ∷ ps) (b ∷ bs) = eqb b p && begins ps bs
 
+-- bytes that are read of stored answers at most
+abbrev pub inputRoom : ℕ
+inputRoom = 700000
+
 abbrev pub lf : ℕ
 lf = 10
 
