@@ -11,7 +11,7 @@ use Rattle.definition.specs.Res.{Res, ok, refuse, _>>=_}
 use Rattle.definition.specs.Opcode.{Sheet}
 use Rattle.definition.specs.Rules.{Rule, readRules}
 use Rattle.definition.specs.Emit as def
-use Rattle.definition.specs.Emit.{PendingPatch, emitterAt}
+use Rattle.definition.specs.Emit.{PendingPatch}
 use Rattle.definition.specs.Stmt.{emitStmts}
 use Rattle.definition.specs.Tree.{Program}
 use Rattle.definition.specs.Lent.{filled}
@@ -35,7 +35,7 @@ use Rattle.compile.specs.declared.call.Answer.{Answer}
 use Rattle.compile.specs.declared.call.Outcome.{Outcome}
 use Rattle.compile.specs.declared.call.Outcome.the-variants.{Refused, Finished}
 use Rattle.compile.specs.View.{Patchable, Finalizes}
-use Rattle.compile.specs.Call.{roomOf, room, Roomy, answerView, finishing, outcomeOf, Held, Ends, settled}
+use Rattle.compile.specs.Call.{room, Roomy, answerView, finishing, Ends, settled}
 
 -- ---- a refusal
 

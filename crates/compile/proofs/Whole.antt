@@ -1,13 +1,13 @@
 -- From the emitter to finished code.
-use mathlib.Core.Path.{_≡_, refl, ap, sym, subst, _∙_}
+use mathlib.Core.Path.{_≡_, refl, ap, sym, _∙_}
 use mathlib.Core.Option.{Option, none}
 use mathlib.Core.List.{List, [], _++_}
 use Prim.Native.Nat.{ℕ, _≤_}
 use native.Mathlib.Omega.{arith}
 use lib.ListN.{length, take, drop, length-append, length-drop}
 use lib.Seq.{take-at, length-take-le, take-append-le}
-use Rattle.definition.specs.Limits.{maxCode, farBranch}
-use Rattle.definition.specs.Res.{Res, ok, refuse, _>>_}
+use Rattle.definition.specs.Limits.{maxCode}
+use Rattle.definition.specs.Res.{_>>_}
 use Rattle.definition.specs.Opcode.{Sheet}
 use Rattle.definition.specs.Rules.{Rule}
 use Rattle.definition.specs.Emit as def
@@ -25,12 +25,11 @@ use Rattle.emit.specs.Book.{labelsIn, patchesIn, linesIn}
 use Rattle.emit.specs.Steps.{Fine}
 use Rattle.emit.specs.View.{world, state}
 use Rattle.runs.proofs.Finished.{each-so}
-use Rattle.compile.specs.declared.FinalizedFunction.{FinalizedFunction}
 use Rattle.compile.specs.declared.Reach.{Reach}
 use Rattle.compile.specs.declared.Reach.the-variants as reach
 use Rattle.compile.specs.declared.Finalized.{Finalized}
 use Rattle.compile.specs.declared.Finalized.the-variants.{Done, Far}
-use Rattle.compile.specs.View.{targetsOf, targetsIn, BoundIn, Inside, Patchable, Moved, Holds, Finalizes, reachView}
+use Rattle.compile.specs.View.{targetsOf, targetsIn, BoundIn, Inside, Patchable, Moved, Finalizes, reachView}
 use Rattle.compile.proofs.Patches.{small-targets, same-patches, same-reach}
 
 -- ---- the passes

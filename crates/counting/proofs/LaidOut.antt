@@ -14,7 +14,7 @@ use Rattle.definition.specs.Field.{has}
 use Rattle.definition.specs.Res.{ok, _>>=_}
 use Rattle.definition.specs.Opcode.{Role, Sheet, comparisonByte, comparisonOf, Gt, loadVar, storeVar, loadConst, dup, arithmetic, Add, jmp, cmpBr, size, traits, traitsOf}
 use Rattle.definition.specs.Tree.{Program}
-use Rattle.definition.specs.Emit.{le16, Call, createLabel, bindLabel, loadVariable, storeVariable, loadConstant, emitOpcode, emitJmp, emitCmpBr, Last, other, loaded, stored, PendingPatch, Emitter, emitterAt, indexOf, loadAfter, foldStore, folded, add, act, acts}
+use Rattle.definition.specs.Emit.{le16, Call, createLabel, bindLabel, loadVariable, storeVariable, loadConstant, emitOpcode, emitJmp, emitCmpBr, Last, other, loaded, stored, Emitter, emitterAt, indexOf, loadAfter, foldStore, folded, add, act, acts}
 use Rattle.definition.specs.Walk.{after}
 use Rattle.definition.specs.Stmt.{Loops}
 use Rattle.definition.specs.Rewrite.{boundariesFrom, movedTo}

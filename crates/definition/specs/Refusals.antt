@@ -4,7 +4,7 @@ use Prim.Native.String.{String}
 use mathlib.Core.Path.{_≡_, refl}
 use mathlib.Core.List.{List, [], _∷_, _++_}
 use mathlib.Core.Bool.{Bool, true, false, _&&_, not}
-use mathlib.Core.Option.{Option, some, none}
+use mathlib.Core.Option.{Option, some}
 use Rattle.definition.specs.Limits.{maxCode, maxConstants, maxLines, entrySize}
 use Rattle.definition.specs.Res.{Res, ok, refuse}
 use Rattle.definition.specs.Sheet.{sheetFault}

@@ -1,7 +1,7 @@
 -- The text made of the call's answer is the text of what the machine concludes.
 use mathlib.Core.Path.{_≡_, refl, _∙_}
 use mathlib.Core.Bool.{true, false}
-use mathlib.Core.List.{List, [], _∷_}
+use mathlib.Core.List.{List, []}
 use mathlib.Core.Option.{Option, some, none}
 use Prim.Native.Nat.{ℕ}
 use borrow.Author.Tests.{ne-eqb}

@@ -1,11 +1,11 @@
 -- Folded calls and finished code: a run of the bytes goes where a run of the calls goes.
-use Prim.Native.Nat.{ℕ, _+_, _/_, _%_, suc, _≤_}
+use Prim.Native.Nat.{ℕ, _+_, suc}
 use mathlib.Core.Path.{_≡_, refl, sym, _∙_, ap, subst}
 use mathlib.Core.List.{List, [], _∷_, _++_, append-assoc, append-nil}
 use mathlib.Core.Bool.{Bool, true, false, not}
 use mathlib.Core.Option.{Option, some, none}
 use native.Mathlib.Omega.{arith}
-use lib.ListN.{length, getD, length-append}
+use lib.ListN.{length, getD}
 use borrow.Author.Tests.{eq-eqb}
 use Rattle.definition.specs.Opcode.{Role, CompareOp, Sheet, comparisonByte, dup, pop, loadVar, storeVar, loadConst, loadTrue, loadFalse, arithmetic, logic, neg, boolNot, compare, jmp, jmpIfNot, cmpBr, ret, size, traits, traitsOf}
 use Rattle.definition.specs.Emit.{le16, Call, createLabel, bindLabel, loadVariable, storeVariable, loadConstant, addConstant, emitOpcode, emitJmp, emitJmpIfNot, emitCmpBr, resetStackDepth, setPosition, refused}
@@ -20,7 +20,7 @@ use Rattle.runs.proofs.Passes.{Reads}
 use Rattle.runs.proofs.Decoding.{joined}
 use Rattle.runs.proofs.Patched.{aimedOperand, IsNear}
 use Rattle.counting.proofs.Counting.{standing, step-at}
-use Rattle.counting.proofs.Rows.{Row, rowOf, unpatched, operandOf, bytesOf, codeOf, code-append, Sized}
+use Rattle.counting.proofs.Rows.{Row, rowOf, unpatched, operandOf, bytesOf, codeOf, Sized}
 use Rattle.counting.proofs.Finished.{finalBytes, finalRows}
 use Rattle.counting.proofs.Placed.{Placed, placed, operand-at, target-read, final-joined}
 use Rattle.counting.proofs.LaidOut.{AllNear, sixteen, variable-read, code-length}

@@ -1,15 +1,15 @@
 -- 15 (document 02, L1), of whatever a call answers: it is given exactly where some branch of finished code is too far from its target, with the lowest such branch's
 -- place (`answer-far`, `far-answer`); and never for finished code of at most 32,768 bytes, which is answered as it was before there was a 15 (`short-answers`).
-use Prim.Native.Nat.{ℕ, _+_, _≤_, _<_}
+use Prim.Native.Nat.{ℕ, _+_, _≤_}
 use mathlib.Core.Path.{_≡_, refl, sym, _∙_, ap, subst}
 use mathlib.Core.List.{List, [], _∷_, map}
 use mathlib.Core.Bool.{Bool, true, false, _&&_}
 use mathlib.Core.Option.{Option, some, none}
 use native.Mathlib.Omega.{arith}
 use lib.Dec.{leb}
-use lib.ListN.{length, getD}
+use lib.ListN.{length}
 use borrow.Author.Tests.{le-leb, leb-false}
-use Rattle.definition.specs.Limits.{maxBack, maxForward, outputShort, farBranch}
+use Rattle.definition.specs.Limits.{maxBack, maxForward, farBranch}
 use Rattle.definition.specs.Res.{Res, ok, refuse, _>>=_, _>>_, demand, given}
 use Rattle.definition.specs.Opcode.{Sheet}
 use Rattle.definition.specs.Sheet.{readSheet}
@@ -20,11 +20,11 @@ use Rattle.definition.specs.Emit.{Emitter, PendingPatch}
 use Rattle.definition.specs.Rewrite.{OffsetMap, movedTo}
 use Rattle.definition.specs.Optimize.{optimize}
 use Rattle.definition.specs.Compile.{boundLabel, near, inReach, jumpTargets, finalizeFunction, emitProgram, compileProgram, compileFiles, FinalizedFunction, Room, roomy, compileInto, Answer, answer, Compiles}
-use Rattle.definition.specs.Claims.{Either, left, right, Each, empty, _also_, Some, this, later, inTurn, Far, FarBranch, FarAt, TooFar}
+use Rattle.definition.specs.Claims.{left, right, Each, empty, _also_, Some, this, later, inTurn, Far, FarAt, TooFar}
 use Rattle.opcode.proofs.Faults.{good}
 use Rattle.opcode.proofs.Sheets.{role-of-opcode}
 use Rattle.field.proofs.Results.{never, some-is}
-use Rattle.runs.proofs.Rows.{Rising, risen, rises}
+use Rattle.runs.proofs.Rows.{Rising, rises}
 use Rattle.runs.proofs.Passes.{Reads, Fine as FineMatcher, rules-fine}
 use Rattle.runs.proofs.Patched.{IsNear, NearBy, near-is}
 use Rattle.runs.proofs.Finished.{Reaches, each-both, reach-each, program-turned, program-rises, program-length, program-targets, program-inside}

@@ -7,7 +7,6 @@ use mathlib.Core.Bool.{Bool, true, false}
 use mathlib.Core.Option.{Option, some, none}
 use lib.ListN.{length, getD}
 use native.Mathlib.Omega.{arith}
-use native.Mathlib.Nat.{le-trans}
 use Rattle.definition.specs.Limits.{maxCode}
 use Rattle.definition.specs.Res.{ok}
 use Rattle.definition.specs.Field.{has}
@@ -26,7 +25,7 @@ use Rattle.definition.specs.Rewrite.{opcodeOf, decode, startsFrom, OffsetMap, m
 use Rattle.definition.specs.Optimize.{optimize}
 use Rattle.definition.specs.Compile.{boundOr0, boundLabel, jumpTargets, finalizeFunction, emitProgram, inReach}
 use Rattle.definition.specs.Runs.{State, target, run, start}
-use Rattle.field.proofs.Results.{never, ok-demand}
+use Rattle.field.proofs.Results.{ok-demand}
 use Rattle.runs.proofs.Heights.{Bound}
 use Rattle.definition.specs.Claims.{Either, left, right, Fine, branchPlaces, inTurn, LeadsTo, Each, empty, _also_, BranchLeads, Branches, OneHeight}
 use Rattle.field.proofs.Lists.{has-first, has-later}
