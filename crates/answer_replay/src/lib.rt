@@ -3,7 +3,7 @@
 ghost use mathlib.Core.Path.{_≡_};
 ghost use Prim.Native.Nat.{_≤_};
 ghost use lib.ListN.{length};
-ghost use Rattle.replay.specs.Case.{caseCount};
+ghost use Rattle.replay.specs.Case.{caseCount, Replayed};
 use definition::MAX_CODE;
 use definition::MAX_OUTCOMES;
 use replay::INPUT_ROOM;
@@ -172,9 +172,11 @@ pub fn replay_all(asked: Asked, input: &[u8]) -> u64
     replay::total(cases, differ)
 }
 
-// The stored answers on standard input.
-pub fn replay_input(asked: Asked) {
+// The stored answers on standard input, as far as there is room for them: how many cases there were.
+pub fn replay_input(asked: Asked) -> u64
+    ensures { λ r. ⌜ Replayed r ⌝ }
+{
     let mut input = [0u8; INPUT_ROOM];
     let n = io::read_full(0, &mut input);
-    replay_all(asked, &input[..n]);
+    replay_all(asked, &input[..n])
 }

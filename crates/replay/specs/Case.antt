@@ -1,5 +1,6 @@
 -- Stored answers as bytes: where the parts of a case lie, and what a case counts for.
 use Prim.Native.Nat.{ℕ, _+_, _≤_, _<_, min, zero, suc}
+use mathlib.Core.Path.{_≡_}
 use mathlib.Core.Bool.{Bool, true, false, _&&_}
 use mathlib.Core.List.{List, [], _∷_}
 use lib.Dec.{eqb, ltb}
@@ -51,6 +52,12 @@ casesFrom (suc n) text at = elim (ltb at (length text)) [ true ↦ suc (casesFro
 -- how many cases a text has: each takes a byte or more
 unfoldable pub caseCount : List ℕ → ℕ
 caseCount text = casesFrom (length text) text 0
+
+-- so many cases has some text that fits the room: which one standard input gave is outside any contract
+pub record Replayed (cases : ℕ) : Type 0 where
+  pub text : List ℕ
+  pub within : length text ≤ inputRoom
+  pub count : cases ≡ caseCount text
 
 -- what a case counts for among those that differ
 unfoldable pub missing : Bool → ℕ
