@@ -30,10 +30,11 @@ use Rattle.compile.specs.declared.Finalized.the-variants.{Done, Far}
 
 -- ---- branches
 
--- targets of small and of middle code: a branch has three bytes or more
+-- the branches that small tables are for
 abbrev pub smallBranches : ℕ
-smallBranches = smallCode / 3
+smallBranches = smallCode / 8
 
+-- those that middle code can have: a branch has three bytes or more
 abbrev pub middleBranches : ℕ
 middleBranches = middleCode / 3
 

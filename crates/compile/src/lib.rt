@@ -28,9 +28,10 @@ use emit::patch::PendingPatch;
 pub mod call; // call.rt: what the call answers
 pub mod entry; // entry.rt: the call
 
-// Targets of small and of middle code: a branch has three bytes or more.
-const SMALL_BRANCHES: usize = rewrite::SMALL_CODE / 3;
+// The branches that small tables are for: more of them in as little code take middle ones.
+const SMALL_BRANCHES: usize = rewrite::SMALL_CODE / 8;
 
+// Those that middle code can have: a branch has three bytes or more.
 const MIDDLE_BRANCHES: usize = rewrite::MIDDLE_CODE / 3;
 
 // Finished code: its bytes and depth, and how many line entries it has.
@@ -41,14 +42,14 @@ pub struct FinalizedFunction {
 }
 
 // A branch where the passes moved it: its own place, the place behind it, and its target's.
-pub struct Branch {
-    pub from: u16,
-    pub next: usize,
-    pub target: u16,
+struct Branch {
+    from: u16,
+    next: usize,
+    target: u16,
 }
 
 // What the test of the branches finds: none is far, or the place of the first that is.
-pub enum Reach {
+enum Reach {
     Fine,
     Far(u16),
 }
@@ -76,7 +77,7 @@ fn jump_targets(e: Emitter, book: &[u16], targets: &mut [u16])
     }
 }
 
-// The three passes over emitted code, with the map from its places to where they moved. The targets are lent, one for each branch.
+// The three passes over emitted code, with the map from its places to where they moved. The tables are lent: an element for each branch, and for each offset.
 fn optimize_emitted(
     sheet: &[u8],
     rules: &[u16],
@@ -86,6 +87,8 @@ fn optimize_emitted(
     code: &mut [u8],
     targets: &mut [u16],
     total: &mut [u16],
+    marks: &mut [u8],
+    moves: &mut [u16],
 ) -> usize
     requires { ⌜ Tables (now sheet) (now rules) count ⌝ }
     requires { ⌜ Fine e ⌝ }
@@ -93,12 +96,14 @@ fn optimize_emitted(
     requires { ⌜ length (now code) ≡ e .size ⌝ }
     requires { ⌜ length (now targets) ≡ e .patches ⌝ }
     requires { ⌜ Clear (e .size) (now total) ⌝ }
+    requires { ⌜ Clear (e .size) (now marks) ⌝ }
+    requires { ⌜ Clear (e .size) (now moves) ⌝ }
     requires { ⌜ Each (BoundIn (e .size) (labelsIn (now book) (e .labels))) (patchesIn (now book) (e .patches)) ⌝ }
     ensures { λ r. ⌜ Moved (optimize (sheetIn (now (sheet .entry))) (rulesIn (now (rules .entry)) count) (now (code .entry)) (targetsIn e (now (book .entry)))) (now (code .entry)) (now (code .exit)) (now (total .exit)) r ⌝ }
 {
     jump_targets(e, book, targets);
     optimize::list_boundaries(sheet, code, total);
-    optimize::optimize(sheet, rules, count, code, targets, total)
+    optimize::optimize(sheet, rules, count, code, targets, total, marks, moves)
 }
 
 fn branch_of(e: Emitter, book: &[u16], moves: &[u16], patch: PendingPatch) -> Branch
@@ -208,7 +213,7 @@ fn far(x: u16, code: &mut [u8], lines: &mut [u16]) -> Finalized
     Finalized::Far(x)
 }
 
-// Three passes, then 15, patching and line mapping, with targets and map lent: an element for each branch, and for each offset of the code.
+// Three passes, then 15, patching and line mapping, over lent tables: an element for each branch, and for each offset of the code.
 fn finalize_in(
     sheet: &[u8],
     rules: &[u16],
@@ -219,6 +224,8 @@ fn finalize_in(
     lines: &mut [u16],
     targets: &mut [u16],
     total: &mut [u16],
+    marks: &mut [u8],
+    moves: &mut [u16],
 ) -> Finalized
     requires { ⌜ Tables (now sheet) (now rules) count ⌝ }
     requires { ⌜ Fine e ⌝ }
@@ -228,6 +235,8 @@ fn finalize_in(
     requires { ⌜ Patchable (sheetIn (now sheet)) (rulesIn (now rules) count) (state (world e (now code) (now book) [])) ⌝ }
     requires { ⌜ length (now targets) ≡ e .patches ⌝ }
     requires { ⌜ Clear (e .size) (now total) ⌝ }
+    requires { ⌜ Clear (e .size) (now marks) ⌝ }
+    requires { ⌜ Clear (e .size) (now moves) ⌝ }
     ensures { λ r. ⌜ Finalizes (sheetIn (now (sheet .entry))) (rulesIn (now (rules .entry)) count) e (now (code .entry)) (now (book .entry)) (now (lines .entry)) (now (code .exit)) (now (lines .exit)) r ⌝ }
 {
     let emitted = e.size;
@@ -240,6 +249,8 @@ fn finalize_in(
         &mut code[..emitted],
         targets,
         total,
+        marks,
+        moves,
     );
     if let Reach::Far(x) = in_reach(e, book, total) {
         return far(x, code, lines);
@@ -255,7 +266,7 @@ fn finalize_in(
     })
 }
 
-// Code that is too long for small tables: by middle ones, or by the longest.
+// Code that has too many bytes or branches for small tables: by middle ones, or by the longest.
 fn finalize_long(
     sheet: &[u8],
     rules: &[u16],
@@ -278,6 +289,8 @@ fn finalize_long(
     if e.size <= rewrite::MIDDLE_CODE {
         let mut targets = [0u16; MIDDLE_BRANCHES];
         let mut total = [0u16; rewrite::MIDDLE_SLOTS];
+        let mut marks = [0u8; rewrite::MIDDLE_SLOTS];
+        let mut moves = [0u16; rewrite::MIDDLE_SLOTS];
         finalize_in(
             sheet,
             rules,
@@ -288,10 +301,14 @@ fn finalize_long(
             lines,
             &mut targets[..branches],
             &mut total[..end],
+            &mut marks[..end],
+            &mut moves[..end],
         )
     } else {
         let mut targets = [0u16; MAX_BRANCHES];
         let mut total = [0u16; rewrite::SLOTS];
+        let mut marks = [0u8; rewrite::SLOTS];
+        let mut moves = [0u16; rewrite::SLOTS];
         finalize_in(
             sheet,
             rules,
@@ -302,11 +319,14 @@ fn finalize_long(
             lines,
             &mut targets[..branches],
             &mut total[..end],
+            &mut marks[..end],
+            &mut moves[..end],
         )
     }
 }
 
 // `finalize_function`, with 15. Both outputs are 0 behind what they hold, and behind 15 whole; the tables are cleared once, and used as far as the code goes.
+// More code and more branches ask for `finalize_long` in two places, so that it keeps a frame of its own and short code never touches the longest tables' pages.
 pub fn finalize_function(
     sheet: &[u8],
     rules: &[u16],
@@ -324,23 +344,29 @@ pub fn finalize_function(
     requires { ⌜ Patchable (sheetIn (now sheet)) (rulesIn (now rules) count) (state (world e (now code) (now book) [])) ⌝ }
     ensures { λ r. ⌜ Finalizes (sheetIn (now (sheet .entry))) (rulesIn (now (rules .entry)) count) e (now (code .entry)) (now (book .entry)) (now (lines .entry)) (now (code .exit)) (now (lines .exit)) r ⌝ }
 {
-    if e.size <= rewrite::SMALL_CODE {
-        let branches = e.patches;
-        let end = e.size + 1;
-        let mut targets = [0u16; SMALL_BRANCHES];
-        let mut total = [0u16; rewrite::SMALL_SLOTS];
-        finalize_in(
-            sheet,
-            rules,
-            count,
-            e,
-            code,
-            book,
-            lines,
-            &mut targets[..branches],
-            &mut total[..end],
-        )
-    } else {
-        finalize_long(sheet, rules, count, e, code, book, lines)
+    if e.size > rewrite::SMALL_CODE {
+        return finalize_long(sheet, rules, count, e, code, book, lines);
     }
+    if e.patches > SMALL_BRANCHES {
+        return finalize_long(sheet, rules, count, e, code, book, lines);
+    }
+    let branches = e.patches;
+    let end = e.size + 1;
+    let mut targets = [0u16; SMALL_BRANCHES];
+    let mut total = [0u16; rewrite::SMALL_SLOTS];
+    let mut marks = [0u8; rewrite::SMALL_SLOTS];
+    let mut moves = [0u16; rewrite::SMALL_SLOTS];
+    finalize_in(
+        sheet,
+        rules,
+        count,
+        e,
+        code,
+        book,
+        lines,
+        &mut targets[..branches],
+        &mut total[..end],
+        &mut marks[..end],
+        &mut moves[..end],
+    )
 }

@@ -82,7 +82,7 @@ fn over_limit(code: usize, protected: usize, entries: usize) -> u8
     0
 }
 
-// Within the limits: 8, or the code rewritten and the lines mapped. The map is lent, an element for each offset.
+// Within the limits: 8, or the code rewritten and the lines mapped. The tables are lent, an element for each offset.
 fn rewrite_checked(
     sheet: &[u8],
     rules: &[u16],
@@ -91,6 +91,8 @@ fn rewrite_checked(
     protected: &[u16],
     lines: &[u16],
     total: &mut [u16],
+    marks: &mut [u8],
+    moves: &mut [u16],
     bytes: &mut [u8],
     offsets: &mut [u16],
     entries: &mut [u16],
@@ -99,6 +101,8 @@ fn rewrite_checked(
     requires { ⌜ Within (given (now code) (now protected) (now lines)) (room (now bytes) (now offsets) (now entries)) ⌝ }
     requires { ⌜ Clear (length (now code)) (now total) ⌝ }
     requires { ⌜ length (now total) ≡ suc (length (now code)) ⌝ }
+    requires { ⌜ Clear (length (now code)) (now marks) ⌝ }
+    requires { ⌜ Clear (length (now code)) (now moves) ⌝ }
     ensures { λ r. ⌜ answerView r (now (bytes .exit)) (now (offsets .exit)) (now (entries .exit)) ≡ answer (room (now (bytes .entry)) (now (offsets .entry)) (now (entries .entry))) (afterLimits (sheetIn (now (sheet .entry))) (rulesIn (now (rules .entry)) count) (given (now (code .entry)) (now (protected .entry)) (now (lines .entry)))) ⌝ }
 {
     match crate::check(sheet, code, protected, lines, total) {
@@ -117,6 +121,8 @@ fn rewrite_checked(
                 bytes,
                 offsets,
                 total,
+                marks,
+                moves,
             );
             let e = crate::remap_line_map(total, n, lines, entries);
             Answer {
@@ -130,7 +136,7 @@ fn rewrite_checked(
     }
 }
 
-// Within the limits, with code that is too long for a small map: the rest, by a middle one or by the longest.
+// Within the limits, with code that is too long for small tables: the rest, by middle ones or by the longest.
 fn rewrite_long(
     sheet: &[u8],
     rules: &[u16],
@@ -149,6 +155,8 @@ fn rewrite_long(
     let end = code.len() + 1;
     if code.len() <= rewrite::MIDDLE_CODE {
         let mut total = [0u16; rewrite::MIDDLE_SLOTS];
+        let mut marks = [0u8; rewrite::MIDDLE_SLOTS];
+        let mut moves = [0u16; rewrite::MIDDLE_SLOTS];
         rewrite_checked(
             sheet,
             rules,
@@ -157,12 +165,16 @@ fn rewrite_long(
             protected,
             lines,
             &mut total[..end],
+            &mut marks[..end],
+            &mut moves[..end],
             bytes,
             offsets,
             entries,
         )
     } else {
         let mut total = [0u16; rewrite::SLOTS];
+        let mut marks = [0u8; rewrite::SLOTS];
+        let mut moves = [0u16; rewrite::SLOTS];
         rewrite_checked(
             sheet,
             rules,
@@ -171,6 +183,8 @@ fn rewrite_long(
             protected,
             lines,
             &mut total[..end],
+            &mut marks[..end],
+            &mut moves[..end],
             bytes,
             offsets,
             entries,
@@ -201,6 +215,8 @@ fn rewrite_limited(
     if code.len() <= rewrite::SMALL_CODE {
         let end = code.len() + 1;
         let mut total = [0u16; rewrite::SMALL_SLOTS];
+        let mut marks = [0u8; rewrite::SMALL_SLOTS];
+        let mut moves = [0u16; rewrite::SMALL_SLOTS];
         rewrite_checked(
             sheet,
             rules,
@@ -209,6 +225,8 @@ fn rewrite_limited(
             protected,
             lines,
             &mut total[..end],
+            &mut marks[..end],
+            &mut moves[..end],
             bytes,
             offsets,
             entries,

@@ -230,8 +230,8 @@ fn run(
     n
 }
 
-// The three passes one after another, each over what the one before left.
-fn passes(
+// The three passes, each over what the one before left. Marks and moves are lent without any, an element for each offset: used, and cleared, as far as the code goes.
+pub fn optimize(
     sheet: &[u8],
     rules: &[u16],
     count: usize,
@@ -271,79 +271,6 @@ fn passes(
     )
 }
 
-// The three passes over code that is too long for small tables: by middle ones, or by the longest.
-fn optimize_long(
-    sheet: &[u8],
-    rules: &[u16],
-    count: usize,
-    code: &mut [u8],
-    protected: &mut [u16],
-    total: &mut [u16],
-) -> usize
-    requires { ⌜ Runnable (now sheet) (now rules) count (now code) (now protected) ⌝ }
-    ensures { λ r. ⌜ Ran (passes (sheetIn (now (sheet .entry))) (rulesIn (now (rules .entry)) count) (pipeline (now (code .entry)) (now (protected .entry)) (now (total .entry)))) (now (code .entry)) (now (code .exit)) (now (protected .exit)) (now (total .exit)) r ⌝ }
-{
-    let end = code.len() + 1;
-    if code.len() <= rewrite::MIDDLE_CODE {
-        let mut marks = [0u8; rewrite::MIDDLE_SLOTS];
-        let mut moves = [0u16; rewrite::MIDDLE_SLOTS];
-        passes(
-            sheet,
-            rules,
-            count,
-            code,
-            protected,
-            total,
-            &mut marks[..end],
-            &mut moves[..end],
-        )
-    } else {
-        let mut marks = [0u8; rewrite::SLOTS];
-        let mut moves = [0u16; rewrite::SLOTS];
-        passes(
-            sheet,
-            rules,
-            count,
-            code,
-            protected,
-            total,
-            &mut marks[..end],
-            &mut moves[..end],
-        )
-    }
-}
-
-// The three passes, over the whole of a slice of code. Their tables are used, and cleared, as far as the code goes.
-pub fn optimize(
-    sheet: &[u8],
-    rules: &[u16],
-    count: usize,
-    code: &mut [u8],
-    protected: &mut [u16],
-    total: &mut [u16],
-) -> usize
-    requires { ⌜ Runnable (now sheet) (now rules) count (now code) (now protected) ⌝ }
-    ensures { λ r. ⌜ Ran (passes (sheetIn (now (sheet .entry))) (rulesIn (now (rules .entry)) count) (pipeline (now (code .entry)) (now (protected .entry)) (now (total .entry)))) (now (code .entry)) (now (code .exit)) (now (protected .exit)) (now (total .exit)) r ⌝ }
-{
-    if code.len() <= rewrite::SMALL_CODE {
-        let end = code.len() + 1;
-        let mut marks = [0u8; rewrite::SMALL_SLOTS];
-        let mut moves = [0u16; rewrite::SMALL_SLOTS];
-        passes(
-            sheet,
-            rules,
-            count,
-            code,
-            protected,
-            total,
-            &mut marks[..end],
-            &mut moves[..end],
-        )
-    } else {
-        optimize_long(sheet, rules, count, code, protected, total)
-    }
-}
-
 // What code and protected offsets called alone come to, in lent outputs that have room for them. The code is copied once, here.
 fn rewrite_into(
     sheet: &[u8],
@@ -354,9 +281,13 @@ fn rewrite_into(
     bytes: &mut [u8],
     offsets: &mut [u16],
     total: &mut [u16],
+    marks: &mut [u8],
+    moves: &mut [u16],
 ) -> usize
     requires { ⌜ Runnable (now sheet) (now rules) count (now code) (now protected) ⌝ }
     requires { ⌜ (length (now code) ≤ length (now bytes)) × (length (now protected) ≤ length (now offsets)) ⌝ }
+    requires { ⌜ Clear (length (now code)) (now marks) ⌝ }
+    requires { ⌜ Clear (length (now code)) (now moves) ⌝ }
     ensures { λ r. ⌜ Rewrote (passes (sheetIn (now (sheet .entry))) (rulesIn (now (rules .entry)) count) (pipeline (now (code .entry)) (now (protected .entry)) (now (total .entry)))) (now (bytes .entry)) (now (offsets .entry)) (now (bytes .exit)) (now (offsets .exit)) (now (total .exit)) r ⌝ }
 {
     let n = code.len();
@@ -370,6 +301,8 @@ fn rewrite_into(
         &mut bytes[..n],
         &mut offsets[..k],
         total,
+        marks,
+        moves,
     )
 }
 

@@ -14,10 +14,18 @@ rewrite-long-spec =
     (λ c. search needs)  -- add-end
     (λ c. search needs)  -- array-borrow-prefix-total
     (λ c. sym (part-long middleSlots _ (search needs)))  -- slice-aggregate-rewrite-checked
-    (λ c κs. (c .before .before .before .before .before .before .before .before .before .before .before .before .before .pre .0, (c .before .before .before .before .before .before .before .before .before .before .before .before .before .pre .1, (part-clear middleSlots _ (search needs), part-long middleSlots _ (search needs) ∙ add-one _))))  -- rewrite-checked-requires
+    (λ c. search needs)  -- array-borrow-prefix-marks
+    (λ c. sym (part-long middleSlots _ (search needs)))  -- slice-aggregate-rewrite-checked-2
+    (λ c. search needs)  -- array-borrow-prefix-moves
+    (λ c. sym (part-long middleSlots _ (search needs)))  -- slice-aggregate-rewrite-checked-3
+    (λ c κs. (c .before .before .before .before .before .before .before .before .before .before .before .before .before .before .before .pre .0, (c .before .before .before .before .before .before .before .before .before .before .before .before .before .before .before .pre .1, (part-clear middleSlots _ (search needs), (part-long middleSlots _ (search needs) ∙ add-one _, (part-clear middleSlots _ (search needs), part-clear middleSlots _ (search needs)))))))  -- rewrite-checked-requires
     (λ c. search needs)  -- array-borrow-prefix-total-2
-    (λ c. sym (part-long slotCount _ (search needs)))  -- slice-aggregate-rewrite-checked-2
-    (λ c κs. (c .before .before .before .before .before .before .before .before .before .before .before .before .before .pre .0, (c .before .before .before .before .before .before .before .before .before .before .before .before .before .pre .1, (part-clear slotCount _ (search needs), part-long slotCount _ (search needs) ∙ add-one _))))  -- rewrite-checked-requires-2
+    (λ c. sym (part-long slotCount _ (search needs)))  -- slice-aggregate-rewrite-checked-4
+    (λ c. search needs)  -- array-borrow-prefix-marks-2
+    (λ c. sym (part-long slotCount _ (search needs)))  -- slice-aggregate-rewrite-checked-5
+    (λ c. search needs)  -- array-borrow-prefix-moves-2
+    (λ c. sym (part-long slotCount _ (search needs)))  -- slice-aggregate-rewrite-checked-6
+    (λ c κs. (c .before .before .before .before .before .before .before .before .before .before .before .before .before .before .before .pre .0, (c .before .before .before .before .before .before .before .before .before .before .before .before .before .before .before .pre .1, (part-clear slotCount _ (search needs), (part-long slotCount _ (search needs) ∙ add-one _, (part-clear slotCount _ (search needs), part-clear slotCount _ (search needs)))))))  -- rewrite-checked-requires-2
     (λ c. search needs)  -- same-length
     (λ c. search needs)  -- same-length-2
     (λ c. search needs)  -- same-length-3
