@@ -30,11 +30,10 @@ use Rattle.compile.specs.declared.Finalized.the-variants.{Done, Far}
 
 -- ---- branches
 
--- the branches that small tables are for
+-- targets of small and of middle code: a branch has three bytes or more
 abbrev pub smallBranches : ℕ
-smallBranches = smallCode / 8
+smallBranches = smallCode / 3
 
--- those that middle code can have: a branch has three bytes or more
 abbrev pub middleBranches : ℕ
 middleBranches = middleCode / 3
 

@@ -28,10 +28,9 @@ use emit::patch::PendingPatch;
 pub mod call; // call.rt: what the call answers
 pub mod entry; // entry.rt: the call
 
-// The branches that small tables are for: more of them in as little code take middle ones.
-const SMALL_BRANCHES: usize = rewrite::SMALL_CODE / 8;
+// Targets of small and of middle code: a branch has three bytes or more.
+const SMALL_BRANCHES: usize = rewrite::SMALL_CODE / 3;
 
-// Those that middle code can have: a branch has three bytes or more.
 const MIDDLE_BRANCHES: usize = rewrite::MIDDLE_CODE / 3;
 
 // Finished code: its bytes and depth, and how many line entries it has.
@@ -266,7 +265,7 @@ fn finalize_in(
     })
 }
 
-// Code that has too many bytes or branches for small tables: by middle ones, or by the longest.
+// Code that is too long for small tables: by middle ones, or by the longest.
 fn finalize_long(
     sheet: &[u8],
     rules: &[u16],
@@ -326,7 +325,7 @@ fn finalize_long(
 }
 
 // `finalize_function`, with 15. Both outputs are 0 behind what they hold, and behind 15 whole; the tables are cleared once, and used as far as the code goes.
-// More code and more branches ask for `finalize_long` in two places, so that it keeps a frame of its own and short code never touches the longest tables' pages.
+// Each test of what small tables hold asks for `finalize_long` by itself: called from two places it keeps a frame of its own, and short code never touches the longest tables' pages.
 pub fn finalize_function(
     sheet: &[u8],
     rules: &[u16],
@@ -344,10 +343,10 @@ pub fn finalize_function(
     requires { ⌜ Patchable (sheetIn (now sheet)) (rulesIn (now rules) count) (state (world e (now code) (now book) [])) ⌝ }
     ensures { λ r. ⌜ Finalizes (sheetIn (now (sheet .entry))) (rulesIn (now (rules .entry)) count) e (now (code .entry)) (now (book .entry)) (now (lines .entry)) (now (code .exit)) (now (lines .exit)) r ⌝ }
 {
-    if e.size > rewrite::SMALL_CODE {
+    if e.patches > SMALL_BRANCHES {
         return finalize_long(sheet, rules, count, e, code, book, lines);
     }
-    if e.patches > SMALL_BRANCHES {
+    if e.size > rewrite::SMALL_CODE {
         return finalize_long(sheet, rules, count, e, code, book, lines);
     }
     let branches = e.patches;

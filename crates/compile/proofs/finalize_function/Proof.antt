@@ -21,15 +21,15 @@ finalize-function-spec =
     (λ c. search needs)  -- same-length-4
     (λ c. search needs)  -- returns-2
     (λ c. search needs)  -- add-end
-    (λ c. omega (arith, c .before .before .before .if2 .left))  -- array-borrow-prefix-targets
-    (λ c. sym (part-long smallBranches _ (omega (arith, c .before .before .before .before .if2 .left))))  -- slice-aggregate-finalize-in
-    (λ c. omega (arith, c .before .before .before .before .before .before .if1 .left))  -- array-borrow-prefix-total
-    (λ c. sym (part-long smallSlots _ (omega (arith, c .before .before .before .before .before .before .before .if1 .left))))  -- slice-aggregate-finalize-in-2
-    (λ c. omega (arith, c .before .before .before .before .before .before .before .if1 .left))  -- array-borrow-prefix-marks
-    (λ c. sym (part-long smallSlots _ (omega (arith, c .before .before .before .before .before .before .before .before .if1 .left))))  -- slice-aggregate-finalize-in-3
-    (λ c. omega (arith, c .before .before .before .before .before .before .before .before .if1 .left))  -- array-borrow-prefix-moves
-    (λ c. sym (part-long smallSlots _ (omega (arith, c .before .before .before .before .before .before .before .before .before .if1 .left))))  -- slice-aggregate-finalize-in-4
-    (λ c κs. (c .before .before .before .before .before .before .before .before .before .before .before .before .before .before .before .before .pre .0, (c .before .before .before .before .before .before .before .before .before .before .before .before .before .before .before .before .pre .1 .0, (c .before .before .before .before .before .before .before .before .before .before .before .before .before .before .before .before .pre .1 .1 .0, (c .before .before .before .before .before .before .before .before .before .before .before .before .before .before .before .before .pre .1 .1 .1 .0, (c .before .before .before .before .before .before .before .before .before .before .before .before .before .before .before .before .pre .1 .1 .1 .1 .0, (c .before .before .before .before .before .before .before .before .before .before .before .before .before .before .before .before .pre .1 .1 .1 .1 .1, (part-long smallBranches _ (omega (arith, c .before .before .before .before .before .before .before .if2 .left)), (part-clear smallSlots _ (omega (arith, c .before .before .before .before .before .before .before .before .before .if1 .left)), (part-clear smallSlots _ (omega (arith, c .before .before .before .before .before .before .before .before .before .if1 .left)), part-clear smallSlots _ (omega (arith, c .before .before .before .before .before .before .before .before .before .if1 .left))))))))))))  -- finalize-in-requires
+    (λ c. omega (arith, c .before .before .before .before .before .if1 .left))  -- array-borrow-prefix-targets
+    (λ c. sym (part-long smallBranches _ (omega (arith, c .before .before .before .before .before .before .if1 .left))))  -- slice-aggregate-finalize-in
+    (λ c. omega (arith, c .before .before .before .before .if2 .left))  -- array-borrow-prefix-total
+    (λ c. sym (part-long smallSlots _ (omega (arith, c .before .before .before .before .before .if2 .left))))  -- slice-aggregate-finalize-in-2
+    (λ c. omega (arith, c .before .before .before .before .before .if2 .left))  -- array-borrow-prefix-marks
+    (λ c. sym (part-long smallSlots _ (omega (arith, c .before .before .before .before .before .before .if2 .left))))  -- slice-aggregate-finalize-in-3
+    (λ c. omega (arith, c .before .before .before .before .before .before .if2 .left))  -- array-borrow-prefix-moves
+    (λ c. sym (part-long smallSlots _ (omega (arith, c .before .before .before .before .before .before .before .if2 .left))))  -- slice-aggregate-finalize-in-4
+    (λ c κs. (c .before .before .before .before .before .before .before .before .before .before .before .before .before .before .before .before .pre .0, (c .before .before .before .before .before .before .before .before .before .before .before .before .before .before .before .before .pre .1 .0, (c .before .before .before .before .before .before .before .before .before .before .before .before .before .before .before .before .pre .1 .1 .0, (c .before .before .before .before .before .before .before .before .before .before .before .before .before .before .before .before .pre .1 .1 .1 .0, (c .before .before .before .before .before .before .before .before .before .before .before .before .before .before .before .before .pre .1 .1 .1 .1 .0, (c .before .before .before .before .before .before .before .before .before .before .before .before .before .before .before .before .pre .1 .1 .1 .1 .1, (part-long smallBranches _ (omega (arith, c .before .before .before .before .before .before .before .before .before .if1 .left)), (part-clear smallSlots _ (omega (arith, c .before .before .before .before .before .before .before .if2 .left)), (part-clear smallSlots _ (omega (arith, c .before .before .before .before .before .before .before .if2 .left)), part-clear smallSlots _ (omega (arith, c .before .before .before .before .before .before .before .if2 .left))))))))))))  -- finalize-in-requires
     (λ c. search needs)  -- same-length-5
     (λ c. search needs)  -- same-length-6
     (λ c. search needs))  -- returns-3
