@@ -1,5 +1,7 @@
 // Replays stored answers (crate replay says how they lie): the number of each case that is answered otherwise, and at the end how many cases there were and how
 // many differ.
+#![tactic(auto)]
+
 ghost use Rattle.std.specs.Prelude.{◌≡◌, ◌≤◌, length};
 ghost use Rattle.replay.specs.Case.{case_count, Replayed};
 
@@ -8,7 +10,7 @@ use replay::INPUT_ROOM;
 use text::{LISTING_ROOM, TEXT_ROOM};
 
 // Whose answers they are.
-#[derive(Drop)]
+#[derive(Clone, Copy)]
 pub enum Asked {
     Listing,
     Passes,

@@ -8,7 +8,7 @@ use definition::{ENTRY_SIZE, MAX_CODE, MAX_CONSTANTS, MAX_LINES};
 use emit::Constant;
 
 // What is answered: a refusal's number and place, or 0, 0, how many bytes, constants and line entries the outputs hold, and the depth.
-#[derive(Drop)]
+#[derive(Clone, Copy)]
 pub struct Answer {
     pub number: u8,
     pub place: usize,
@@ -19,7 +19,7 @@ pub struct Answer {
 }
 
 // What the part behind the sheet comes to.
-#[derive(Drop)]
+#[derive(Clone, Copy)]
 pub enum Outcome {
     Refused {
         number: u8,

@@ -1,4 +1,6 @@
 // From the emitter to finished code (compile.rs `finalize_function`, emit.rs `patch_jumps`), and 15 between its passes and patching.
+#![tactic(auto)]
+
 ghost use Rattle.std.specs.Prelude.{◌≡◌, ◌*◌, ◌≤◌, [], length};
 ghost use Rattle.definition.specs.Limits.{max_code, max_lines, entry_size};
 ghost use Rattle.definition.specs.Lent.{zeros};
@@ -28,7 +30,7 @@ const SMALL_BRANCHES: usize = rewrite::SMALL_CODE / 3;
 const MIDDLE_BRANCHES: usize = rewrite::MIDDLE_CODE / 3;
 
 // Finished code: its bytes and depth, and how many line entries it has.
-#[derive(Drop)]
+#[derive(Clone, Copy)]
 pub struct FinalizedFunction {
     pub size: usize,
     pub max_stack_depth: usize,
@@ -36,7 +38,7 @@ pub struct FinalizedFunction {
 }
 
 // A branch where the passes moved it: its own place, the place behind it, and its target's.
-#[derive(Drop)]
+#[derive(Clone, Copy)]
 struct Branch {
     from: u16,
     next: usize,
@@ -44,14 +46,14 @@ struct Branch {
 }
 
 // What the test of the branches finds: none is far, or the place of the first that is.
-#[derive(Drop)]
+#[derive(Clone, Copy)]
 enum Reach {
     Fine,
     Far(u16),
 }
 
 // What finishing comes to: finished code, or the place of a far branch.
-#[derive(Drop)]
+#[derive(Clone, Copy)]
 pub enum Finalized {
     Done(FinalizedFunction),
     Far(u16),

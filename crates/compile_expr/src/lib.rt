@@ -1,5 +1,7 @@
 // The fused compare and branch, loads and stores of variables, and operations of one byte (compile_expr.rs). What is fused is `classify`'s answer (program_shape), already mirrored where the
 // constant stood on the left.
+#![tactic(auto)]
+
 ghost use Rattle.std.specs.Prelude.{◌≡◌, length};
 ghost use Rattle.definition.specs.Limits.{max_code};
 ghost use Rattle.definition.specs.Emit.{emit_opcode, load_variable, store_variable};

@@ -1,5 +1,7 @@
 // Runs a list of cases through the whole call (stdin: its first lines say how a case is written). Prints the name of each case that is answered otherwise,
 // and at the end how many cases there were and how many differ.
+#![tactic(auto)]
+
 ghost use Rattle.std.specs.Prelude.{◌≤◌};
 
 use compile::call::Answer;
@@ -24,7 +26,7 @@ const LINE_ROOM: usize = MAX_LINES * ENTRY_SIZE + OVER;
 
 // A case as far as it was read: where its name stands in the input, and in its text where rules, program and answer begin; the key of the last line; the
 // output that is lent short.
-#[derive(Drop)]
+#[derive(Clone, Copy)]
 struct Case {
     from: usize,
     to: usize,

@@ -1,4 +1,6 @@
 // The limits, counts and refusal numbers of documents 01 and 02 for code, each shown to be the definition's (specs/Limits.antt, Opcode.antt, Rules.antt).
+#![tactic(auto)]
+
 ghost use Rattle.std.specs.Prelude.{◌≡◌, ◌*◌};
 ghost use Rattle.definition.specs.Limits.{max_code, max_back, max_forward, max_branches, max_labels, max_protected, max_lines, max_constants, max_outcomes, entry_size, max_program, max_nesting, max_variables, max_field, max_rules, pass_count, width, bad_text, bad_form, bad_range, no_loop, too_deep, wrong_lines, bad_sheet, bad_code, bad_rule, code_full, labels_full, lines_full, constants_full, output_short, far_branch, astray, bad_height};
 ghost use Rattle.definition.specs.Opcode.{role_count, comparison_count};

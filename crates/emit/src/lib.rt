@@ -3,6 +3,8 @@
 // Lent are the code (MAX_CODE bytes), the book (BOOK_SIZE numbers: labels, patches and line entries) and the pool (POOL_SIZE constants), each exactly as
 // long. A method has only those that its call can change. Its contract names the definition's call that it is, in every state: one that refuses leaves the
 // state that it met, a refusal is sticky, and a refused emitter comes back as it was, with what is lent.
+#![tactic(auto)]
+
 ghost use Rattle.std.specs.Prelude.{◌≡◌, ◌≤◌, ◌<◌, ◌+◌, max, [], length};
 ghost use Rattle.definition.specs.Limits.{max_code};
 ghost use Rattle.definition.specs.Opcode.{shift, effect, cmp_br};
@@ -43,7 +45,7 @@ pub const POOL_SIZE: usize = pool::SIZE;
 const STORE_SIZE: usize = 3;
 
 // The instruction that a load may fold into: the source's `last_load` and `last_store`.
-#[derive(Drop)]
+#[derive(Clone, Copy)]
 pub enum Last {
     Other,
     Loaded(u16),
@@ -51,10 +53,10 @@ pub enum Last {
 }
 
 // A label's number, counted as labels are created. It is never an offset.
-#[derive(Drop)]
+#[derive(Clone, Copy)]
 pub struct Label(pub u16);
 
-#[derive(Drop)]
+#[derive(Clone, Copy)]
 pub struct Emitter {
     // Bytes of code, labels, patches, line entries and constants so far.
     pub size: usize,
@@ -73,14 +75,14 @@ pub struct Emitter {
 }
 
 // What `note` answers: the refusal's number, 0 if there is none, and how many line entries there are.
-#[derive(Drop)]
+#[derive(Clone, Copy)]
 struct Note {
     refused: u8,
     lines: usize,
 }
 
 // What `create_label` answers.
-#[derive(Drop)]
+#[derive(Clone, Copy)]
 pub struct NewLabel {
     pub emitter: Emitter,
     pub label: Label,

@@ -7,7 +7,7 @@ use crate::{Emitter, Last};
 
 // What `load_variable` answers: the offset of the byte that carries the read, whether that is a DUP, and whether the store before it moved by one.
 // After a refusal 0 and false.
-#[derive(Drop)]
+#[derive(Clone, Copy)]
 pub struct Loaded {
     pub emitter: Emitter,
     pub offset: usize,
@@ -16,7 +16,7 @@ pub struct Loaded {
 }
 
 // How a load is emitted.
-#[derive(Drop)]
+#[derive(Clone, Copy)]
 pub enum LoadForm {
     Load,
     Dup,

@@ -6,7 +6,7 @@ ghost use Rattle.emit.specs.View.{patch_view};
 use crate::Label;
 
 // A branch whose operand is patched once its label is bound.
-#[derive(Drop)]
+#[derive(Clone, Copy)]
 pub struct PendingPatch {
     pub instruction_offset: u16,
     pub operand_delta: u16,

@@ -1,5 +1,7 @@
 // Emission of an expression (body/expr.rs), from the text in place: its operands stand behind its line, left first. After a refusal the walk goes on, so the
 // place behind an expression is exact either way.
+#![tactic(auto)]
+
 ghost use Rattle.std.specs.Prelude.{◌≡◌, ◌≤◌, ◌<◌, ◌+◌, ◌-◌, length};
 ghost use Rattle.definition.specs.Limits.{max_code};
 ghost use Rattle.definition.specs.Opcode.{AndThen, OrElse};
@@ -21,7 +23,7 @@ use program::Cursor;
 use program_line::ExprLine;
 
 // Where the walk stands, and the emitter there.
-#[derive(Drop)]
+#[derive(Clone, Copy)]
 pub struct Walked {
     pub cursor: Cursor,
     pub emitter: Emitter,

@@ -1,5 +1,7 @@
 // Lines, fields and decimal numbers of lent bytes. A number of any length is one: it is counted up to a cap above every bound, so that nothing wraps
 // and what is malformed is told apart from what is out of its range.
+#![tactic(auto)]
+
 ghost use Rattle.std.specs.Prelude.{◌≡◌, true, false, ◌≤◌, ◌<◌, ◌+◌, ◌-◌, ◌*◌, ◌^◌, min, ltb, length, get_or};
 ghost use Rattle.definition.specs.Limits.{width};
 ghost use Rattle.definition.specs.Field.{comma, first_line, natural, natural_within, negative, field, up_to, below, value};
@@ -8,7 +10,7 @@ ghost use Rattle.field.specs.View.{read_of, kind_of, number_of, is_digit, longer
 use definition::WIDTH;
 
 // What a field may hold: 0 to a number, 0 to below one, or a value, which may have a minus.
-#[derive(Drop)]
+#[derive(Clone, Copy)]
 pub enum Kind {
     UpTo(u32),
     Below(u32),
@@ -16,7 +18,7 @@ pub enum Kind {
 }
 
 // A field as it is read; a value is its two's complement bits.
-#[derive(Drop)]
+#[derive(Clone, Copy)]
 pub enum Read {
     Malformed,
     Outside,
@@ -24,7 +26,7 @@ pub enum Read {
 }
 
 // A field of a text as it is read, where it ends, and the byte that it ends at: a comma, an LF, or 0 for the text's end.
-#[derive(Drop)]
+#[derive(Clone, Copy)]
 pub struct Next {
     pub read: Read,
     pub end: usize,
@@ -32,14 +34,14 @@ pub struct Next {
 }
 
 // Where a field of a text ends, and the byte that it ends at.
-#[derive(Drop)]
+#[derive(Clone, Copy)]
 pub struct End {
     pub end: usize,
     pub stop: u8,
 }
 
 // A number with no sign, after some of its bytes, counted up to the cap. With a leading zero it is malformed from its second digit on.
-#[derive(Drop)]
+#[derive(Clone, Copy)]
 enum Number {
     Empty,
     Malformed,
@@ -47,14 +49,14 @@ enum Number {
 }
 
 // What digits make, and where they end.
-#[derive(Drop)]
+#[derive(Clone, Copy)]
 struct Run {
     n: u64,
     end: usize,
 }
 
 // The number of a field of a text, where it ends, and the byte that it ends at.
-#[derive(Drop)]
+#[derive(Clone, Copy)]
 struct Counted {
     number: Number,
     end: usize,

@@ -1,4 +1,6 @@
 // The two forms that are proved by hand, run: the emitter lent to each step in turn, and line entries handed over as a run.
+#![tactic(auto)]
+
 ghost use Rattle.std.specs.Prelude.{◌≡◌, [], ◌∷◌, length};
 ghost use Rattle.definition.specs.Limits.{max_code, max_nesting};
 ghost use Rattle.definition.specs.Emit.{load_variable, store_variable, load_constant, emit_jmp, emit_cmp_br, bind_label};
@@ -24,13 +26,13 @@ use program::Cursor;
 
 // ---- a step with a local emitter lent to it
 
-#[derive(Drop)]
+#[derive(Clone, Copy)]
 struct Labelled {
     lent: Lent,
     label: Label,
 }
 
-#[derive(Drop)]
+#[derive(Clone, Copy)]
 struct Followed {
     lent: Lent,
     next: Cursor,

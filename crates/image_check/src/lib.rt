@@ -1,4 +1,6 @@
 // An image checked (document 02, L11): every place that a walk reaches is met, and looked at once, at the height of the first walk that is followed.
+#![tactic(auto)]
+
 ghost use Rattle.std.specs.Prelude.{◌≡◌, true, ◌||◌, ◌+◌, ◌-◌, ◌≤◌, ◌<◌, length};
 ghost use Rattle.definition.specs.Limits.{max_code};
 ghost use Rattle.definition.specs.Field.{has};
@@ -16,7 +18,7 @@ use opcode::sheet::SheetRead;
 use opcode::{Effect, Flow, Role, Traits, sheet};
 
 // How far a traversal is: places still to be looked at; was a height at fault; did a walk go astray.
-#[derive(Drop)]
+#[derive(Clone, Copy)]
 pub struct Trip {
     pub count: usize,
     pub bad: bool,
@@ -388,7 +390,7 @@ fn check_table(sheet: &[u8], code: &[u8], depth: u64) -> u8
 }
 
 // A number, 0 if the image passes, and a place.
-#[derive(Drop)]
+#[derive(Clone, Copy)]
 pub struct Checked {
     pub number: u8,
     pub place: u32,

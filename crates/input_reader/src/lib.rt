@@ -1,4 +1,6 @@
 // The input of the listing and of the passes program, read a byte at a time into lent buffers: the code of input_machine's machine.
+#![tactic(auto)]
+
 ghost use Rattle.std.specs.Prelude.{◌≡◌, [], ◌<◌};
 ghost use Rattle.input_machine.specs.Machine as def;
 ghost use Rattle.input_reader.specs.View.{phase_view, head_view, put_view, ending_view, stores_view, state_view, is_counted, handed_count, Starts};
@@ -9,7 +11,7 @@ use definition::{
 };
 
 // What the line that is read holds; the program is all that is left. At a malformed line, or one that counts no rules, nothing more is read.
-#[derive(Drop)]
+#[derive(Clone, Copy)]
 pub enum Phase {
     SheetLine,
     CountLine,
@@ -24,7 +26,7 @@ pub enum Phase {
 
 // A line of the input, rule lines still to come, the fields of the line before this one, and of this one the bytes that were kept or the number
 // so far.
-#[derive(Drop)]
+#[derive(Clone, Copy)]
 pub struct Head {
     pub phase: Phase,
     pub line: u64,
@@ -35,7 +37,7 @@ pub struct Head {
 }
 
 // How many elements of each buffer are used; a listing's program is in the code's.
-#[derive(Drop)]
+#[derive(Clone, Copy)]
 pub struct Used {
     pub sheet: usize,
     pub rules: usize,
@@ -44,14 +46,14 @@ pub struct Used {
     pub entries: usize,
 }
 
-#[derive(Drop)]
+#[derive(Clone, Copy)]
 pub struct Reader {
     pub head: Head,
     pub used: Used,
 }
 
 // What is kept at a byte, and in which buffer.
-#[derive(Drop)]
+#[derive(Clone, Copy)]
 pub enum Put {
     Nothing,
     IntoSheet(u8),
@@ -62,7 +64,7 @@ pub enum Put {
 }
 
 // How the input ended: whole, at a malformed line, or with no count of rules.
-#[derive(Drop)]
+#[derive(Clone, Copy)]
 pub enum Ending {
     Whole,
     Cut(u64),

@@ -2,6 +2,8 @@
 // their code, which tools/thin writes.
 //
 // Methods of another crate's struct are refused: `Lent` holds the emitter.
+#![tactic(auto)]
+
 ghost use Rattle.std.specs.Prelude.{◌≡◌, length};
 ghost use Rattle.definition.specs.Limits.{max_code, max_nesting};
 ghost use Rattle.definition.specs.Emit.{load_variable, store_variable, emit_jmp, load_constant, emit_cmp_br, bind_label};
@@ -19,7 +21,7 @@ use emit::{Constant, Emitter, Label};
 use opcode::CompareOp;
 use program::Cursor;
 
-#[derive(Drop)]
+#[derive(Clone, Copy)]
 pub struct Lent {
     pub emitter: Emitter,
 }

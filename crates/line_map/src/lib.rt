@@ -1,5 +1,7 @@
 // A source position and a line entry: the types that reading, the emitter and line mapping share (emit.rs `EmittedLineMapEntry`), and how an entry
 // lies in a list of numbers: nothing else in code knows it.
+#![tactic(auto)]
+
 ghost use Rattle.std.specs.Prelude.{◌≡◌, get_or, drop};
 ghost use Rattle.definition.specs.Emit.{same_pos};
 ghost use Rattle.definition.specs.Lent.{one_entry, entry_in};
@@ -7,7 +9,7 @@ ghost use Rattle.store.specs.Store.{at, push_all};
 ghost use Rattle.line_map.specs.View.{pos_view, entry_view};
 
 // A source position.
-#[derive(Drop)]
+#[derive(Clone, Copy)]
 pub struct Pos {
     pub line: u16,
     pub column: u16,
@@ -28,7 +30,7 @@ impl Pos {
 }
 
 // A line entry: the instructions from this offset on stand at this position.
-#[derive(Drop)]
+#[derive(Clone, Copy)]
 pub struct LineEntry {
     pub offset: u16,
     pub pos: Pos,

@@ -1,5 +1,7 @@
 // The line list handed over as a run of entries: `remap_line_map` (optimize/mod.rs) over a lent slice of structs, in place, thin over the covered function for
 // one entry. Its proof is a walk of its code by hand.
+#![tactic(auto)]
+
 ghost use Rattle.std.specs.Prelude.{◌≤◌, ◌<◌, ◌+◌, ◌^◌, ◌≡◌, length};
 ghost use Rattle.line_run.specs.Run.{moved, turned, RemapsRun};
 
@@ -7,7 +9,7 @@ use line_map::LineEntry;
 use optimize::{Kept, Remapped};
 
 // The next entry to look at, how many are kept, and where the last of them lies.
-#[derive(Drop)]
+#[derive(Clone, Copy)]
 struct Turn {
     at: usize,
     kept: usize,
@@ -15,7 +17,7 @@ struct Turn {
 }
 
 // What a turn stores, and the next turn.
-#[derive(Drop)]
+#[derive(Clone, Copy)]
 struct Step {
     entry: LineEntry,
     turn: Turn,

@@ -1,4 +1,6 @@
 // The end of the listing's input: what was read is compiled, and the text of the answer is put into a lent output.
+#![tactic(auto)]
+
 ghost use Rattle.std.specs.Prelude.{◌≡◌, []};
 ghost use Rattle.definition.specs.Sheet.{read_sheet};
 ghost use Rattle.definition.specs.Compile.{Compiles};

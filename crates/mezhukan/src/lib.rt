@@ -1,5 +1,7 @@
 // The library for the phone, the rig and the log reader (`rt staticlib mezhukan`, for a program in C or Rust to link): the call, rewriting called alone, the check
 // of an image, and the slowest call of its code.
+#![tactic(auto)]
+
 ghost use Rattle.std.specs.Prelude.{◌≡◌, length, get_or};
 ghost use Rattle.definition.specs.Compile.{Compiles};
 ghost use Rattle.definition.specs.Alone.{Rewrites};

@@ -1,4 +1,6 @@
 // Casts that lose nothing, and the smaller and the larger of two numbers.
+#![tactic(auto)]
+
 ghost use Rattle.std.specs.Prelude.{◌≡◌, ◌<◌, ◌^◌, min, max};
 
 pub fn wide(x: u16) -> usize

@@ -1,4 +1,6 @@
 // Roles and comparisons: the stand-in for the source's `opcode` and `cmp_op` (document 01, 'Sheet').
+#![tactic(auto)]
+
 ghost use Rattle.std.specs.Prelude.{◌≡◌, ◌<◌};
 ghost use Rattle.definition.specs.Opcode.{arithmetic, logic, binary_role, unary_role, size, number, traits, shift, negate, commute, compare_index};
 ghost use Rattle.definition.specs.Rules.{role_numbered};
@@ -8,7 +10,7 @@ use definition::ROLE_COUNT;
 
 pub mod sheet; // sheet.rt: reading a sheet, and what a sheet gives
 
-#[derive(Drop)]
+#[derive(Clone, Copy)]
 pub enum ArithmeticOp {
     Add,
     Sub,
@@ -17,26 +19,26 @@ pub enum ArithmeticOp {
     Mod,
 }
 
-#[derive(Drop)]
+#[derive(Clone, Copy)]
 pub enum BoolOp {
     BoolAnd,
     BoolOr,
     BoolXor,
 }
 
-#[derive(Drop)]
+#[derive(Clone, Copy)]
 pub enum BinaryOp {
     Arithmetic(ArithmeticOp),
     Logic(BoolOp),
 }
 
-#[derive(Drop)]
+#[derive(Clone, Copy)]
 pub enum UnaryOp {
     Neg,
     BoolNot,
 }
 
-#[derive(Drop)]
+#[derive(Clone, Copy)]
 pub enum CompareOp {
     Eq,
     Ne,
@@ -47,14 +49,14 @@ pub enum CompareOp {
 }
 
 // AND_THEN and OR_ELSE: no roles, emission spells them with branches.
-#[derive(Drop)]
+#[derive(Clone, Copy)]
 pub enum ShortCircuitOp {
     AndThen,
     OrElse,
 }
 
 // The roles, by class.
-#[derive(Drop)]
+#[derive(Clone, Copy)]
 pub enum Role {
     Dup,
     Pop,
@@ -106,7 +108,7 @@ const ROLES: [Role; ROLE_COUNT] = [
 ];
 
 // What an instruction does to the stack's height.
-#[derive(Drop)]
+#[derive(Clone, Copy)]
 pub enum Effect {
     Up,
     Down,
@@ -114,7 +116,7 @@ pub enum Effect {
 }
 
 // Where a run goes on: behind the instruction, at its target, at either by the outcome, or nowhere.
-#[derive(Drop)]
+#[derive(Clone, Copy)]
 pub enum Flow {
     Onward,
     Away,
@@ -123,7 +125,7 @@ pub enum Flow {
 }
 
 // What the sheet's table says of a role: bytes, values that must be on the stack, height change, flow.
-#[derive(Drop)]
+#[derive(Clone, Copy)]
 pub struct Traits {
     pub size: u8,
     pub needs: u8,

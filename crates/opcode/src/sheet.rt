@@ -29,7 +29,7 @@ const MAX_BYTE: u32 = 255;
 const NO_BYTE: u32 = MAX_BYTE + 1;
 
 // What reading answers: a sheet, or a refusal's number and place.
-#[derive(Drop)]
+#[derive(Clone, Copy)]
 pub enum SheetRead {
     Accepted,
     Refused(u8, u32),

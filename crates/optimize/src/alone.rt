@@ -16,7 +16,7 @@ use opcode::sheet::SheetRead;
 use rules::RuleAnswer;
 
 // What is answered: a refusal's number and place, or 0, 0 and how many bytes, protected offsets and entries the outputs hold.
-#[derive(Drop)]
+#[derive(Clone, Copy)]
 pub struct Answer {
     pub number: u8,
     pub place: u32,

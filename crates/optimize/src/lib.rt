@@ -1,4 +1,6 @@
 // The three passes and line mapping (optimize/mod.rs).
+#![tactic(auto)]
+
 ghost use Rattle.std.specs.Prelude.{◌≡◌, map, [], ◌∷◌, ◌*◌, ◌/◌, ◌≤◌, suc, length};
 ghost use Rattle.std.proofs.Math.Option.{none};
 ghost use Rattle.definition.specs.Limits.{max_code, entry_size};
@@ -22,20 +24,20 @@ pub mod alone; // alone.rt: the entry that is called alone
 pub use alone::{Answer, rewrite_alone};
 
 // What the check of a list of offsets finds.
-#[derive(Drop)]
+#[derive(Clone, Copy)]
 pub enum Offset {
     Fine,
     Bad(u16),
 }
 
 // Where the last kept entry lies.
-#[derive(Drop)]
+#[derive(Clone, Copy)]
 pub enum Kept {
     None,
     At(u16),
 }
 
-#[derive(Drop)]
+#[derive(Clone, Copy)]
 pub enum Remapped {
     Gone,
     Moved(LineEntry),

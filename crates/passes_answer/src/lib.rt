@@ -1,4 +1,6 @@
 // The end of the passes program's input: what was read is rewritten, and the text of the answer is put into a lent output.
+#![tactic(auto)]
+
 ghost use Rattle.std.specs.Prelude.{◌≡◌};
 ghost use Rattle.definition.specs.Sheet.{read_sheet};
 ghost use Rattle.definition.specs.Alone.{Rewrites};

@@ -1,4 +1,6 @@
 // Replays the stored answers for rewriting called alone. oracle/store writes its stdin.
+#![tactic(auto)]
+
 use answer_replay::Asked;
 
 fn main() {

@@ -1,4 +1,6 @@
 // The program text: checked in its order (1; then line by line 6, 5, 2, 3), and gone over in place.
+#![tactic(auto)]
+
 ghost use Rattle.std.specs.Prelude.{◌≡◌, ◌+◌, ◌*◌, ◌≤◌, ◌<◌, length};
 ghost use Rattle.definition.specs.Limits.{max_nesting};
 ghost use Rattle.definition.specs.Program.{next_line};
@@ -29,14 +31,14 @@ const YIELDS_TO: usize = 4;
 pub const PLACES_BELOW: usize = 65536;
 
 // A place in the text: the byte where a line starts, and its number.
-#[derive(Drop)]
+#[derive(Clone, Copy)]
 pub struct Cursor {
     pub at: usize,
     pub row: usize,
 }
 
 // A walk's place. Once it is refused it stays there: the refusal's number, 0 while there is none; the place is `row`.
-#[derive(Drop)]
+#[derive(Clone, Copy)]
 pub struct Walk {
     pub at: usize,
     pub row: usize,
@@ -44,7 +46,7 @@ pub struct Walk {
 }
 
 // What follows a statement's line, in this order; `bad` is the line's refusal, 0 if there is none.
-#[derive(Drop)]
+#[derive(Clone, Copy)]
 pub struct Parts {
     pub bad: u8,
     pub exprs: usize,
@@ -54,14 +56,14 @@ pub struct Parts {
 }
 
 // What follows an expression's line.
-#[derive(Drop)]
+#[derive(Clone, Copy)]
 pub struct Operands {
     pub bad: u8,
     pub count: usize,
 }
 
 // The answer of the check: a refusal and its place, or what the header says and where the first top statement stands.
-#[derive(Drop)]
+#[derive(Clone, Copy)]
 pub enum Checked {
     Refused {
         number: u8,

@@ -1,4 +1,6 @@
 // A program's lines, read in place: the line at a byte of the text, as what its letter's fields say, or its refusal (6, 5, 2, 3).
+#![tactic(auto)]
+
 ghost use Rattle.std.specs.Prelude.{◌≡◌, ◌≤◌, ◌<◌, [], ◌∷◌, length, get_or};
 ghost use Rattle.definition.specs.Limits.{max_field};
 ghost use Rattle.definition.specs.Field.{up_to, below};
@@ -21,7 +23,7 @@ const VARIABLES: u16 = MAX_VARIABLES as u16;
 
 // ---- what a line says
 
-#[derive(Drop)]
+#[derive(Clone, Copy)]
 pub enum HeaderLine {
     Header {
         variables: u16,
@@ -32,14 +34,14 @@ pub enum HeaderLine {
 }
 
 // Where a line ends is 0 if it is at fault.
-#[derive(Drop)]
+#[derive(Clone, Copy)]
 pub struct NextHeader {
     pub line: HeaderLine,
     pub end: usize,
 }
 
 // Counts are those of statements, but for Case's arms. A step is its two's complement bits.
-#[derive(Drop)]
+#[derive(Clone, Copy)]
 pub enum StmtLine {
     Assign {
         pos: Pos,
@@ -82,14 +84,14 @@ pub enum StmtLine {
     Bad(u8),
 }
 
-#[derive(Drop)]
+#[derive(Clone, Copy)]
 pub struct NextStmt {
     pub line: StmtLine,
     pub end: usize,
 }
 
 // A constant is its two's complement bits.
-#[derive(Drop)]
+#[derive(Clone, Copy)]
 pub enum ExprLine {
     Const(u32),
     Bool(bool),
@@ -101,32 +103,32 @@ pub enum ExprLine {
     Bad(u8),
 }
 
-#[derive(Drop)]
+#[derive(Clone, Copy)]
 pub struct NextExpr {
     pub line: ExprLine,
     pub end: usize,
 }
 
-#[derive(Drop)]
+#[derive(Clone, Copy)]
 pub enum ArmLine {
     Arm { labels: u16, statements: u16 },
     Bad(u8),
 }
 
-#[derive(Drop)]
+#[derive(Clone, Copy)]
 pub struct NextArm {
     pub line: ArmLine,
     pub end: usize,
 }
 
-#[derive(Drop)]
+#[derive(Clone, Copy)]
 pub enum LabelLine {
     Value(u32),
     Range(u32, u32),
     Bad(u8),
 }
 
-#[derive(Drop)]
+#[derive(Clone, Copy)]
 pub struct NextLabel {
     pub line: LabelLine,
     pub end: usize,
@@ -135,7 +137,7 @@ pub struct NextLabel {
 // ---- the fields behind a line's letter
 
 // How the numbers of a line stand so far: a malformed one (2) wins over one outside its range (3), whatever their order.
-#[derive(Drop)]
+#[derive(Clone, Copy)]
 pub enum Verdict {
     Good,
     Far,
@@ -143,7 +145,7 @@ pub enum Verdict {
 }
 
 // A place among a line's fields: where the next one starts, if there is one, and how those before it stand.
-#[derive(Drop)]
+#[derive(Clone, Copy)]
 pub struct Scan {
     pub at: usize,
     pub more: bool,
@@ -151,28 +153,28 @@ pub struct Scan {
 }
 
 // A number that was read, 0 where there is none, and the place behind its field.
-#[derive(Drop)]
+#[derive(Clone, Copy)]
 pub struct Number {
     pub n: u32,
     pub scan: Scan,
 }
 
 // The same of 16 bits.
-#[derive(Drop)]
+#[derive(Clone, Copy)]
 pub struct Short {
     pub n: u16,
     pub scan: Scan,
 }
 
 // A line's letter, 0 where field 0 is not one byte, and the place behind it.
-#[derive(Drop)]
+#[derive(Clone, Copy)]
 pub struct Letter {
     pub letter: u8,
     pub scan: Scan,
 }
 
 // A position that was read, and the place behind its fields.
-#[derive(Drop)]
+#[derive(Clone, Copy)]
 pub struct Placed {
     pub pos: Pos,
     pub scan: Scan,

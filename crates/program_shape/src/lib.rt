@@ -1,5 +1,7 @@
 // What emission must know of a part of the text before it comes to it: where the part ends, whether a condition is fused, and whether a loop is a
 // WHILE or a REPEAT. Each answer is that of the total reading, whatever the text.
+#![tactic(auto)]
+
 ghost use Rattle.std.specs.Prelude.{◌≡◌, ◌*◌, ◌<◌, length};
 ghost use Rattle.definition.specs.Limits.{max_nesting};
 ghost use Rattle.definition.specs.Program.{expr_at, stmt_at, block_of};
@@ -16,7 +18,7 @@ use program::{BODIES, Cursor, END_SIZE, ENDS_SIZE, PLACES_BELOW, Walk};
 use program_line::{ExprLine, StmtLine};
 
 // A side of a comparison, or a FOR's end.
-#[derive(Drop)]
+#[derive(Clone, Copy)]
 pub enum Operand {
     Variable(u16),
     Constant(u32),
@@ -24,14 +26,14 @@ pub enum Operand {
 }
 
 // The comparison that a line is, if it is one.
-#[derive(Drop)]
+#[derive(Clone, Copy)]
 pub enum Compared {
     By(CompareOp),
     Other,
 }
 
 // A comparison that one CMP_BR tests, the variable on the left.
-#[derive(Drop)]
+#[derive(Clone, Copy)]
 pub struct ClassifiedCmp {
     pub op: CompareOp,
     pub variable: u16,
@@ -39,21 +41,21 @@ pub struct ClassifiedCmp {
 }
 
 // A condition: one that CMP_BR tests, or any other.
-#[derive(Drop)]
+#[derive(Clone, Copy)]
 pub enum Condition {
     Fused(ClassifiedCmp),
     Other,
 }
 
 // An IF whose one branch is a sole EXIT and whose other is empty: where its condition stands, and where it ends.
-#[derive(Drop)]
+#[derive(Clone, Copy)]
 pub enum ExitIf {
     Exits { condition: Cursor, end: Cursor },
     Other,
 }
 
 // A loop's shape, with where its condition stands; a WHILE's body goes on at `rest`, and a REPEAT ends at `end`.
-#[derive(Drop)]
+#[derive(Clone, Copy)]
 pub enum Shape {
     While { condition: Cursor, rest: Cursor },
     Repeat { condition: Cursor, end: Cursor },
@@ -61,7 +63,7 @@ pub enum Shape {
 }
 
 // Where a body ends, if that was noted.
-#[derive(Drop)]
+#[derive(Clone, Copy)]
 pub enum BodyEnd {
     Known(Cursor),
     Unknown,

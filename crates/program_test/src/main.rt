@@ -1,12 +1,14 @@
 // Reads stored texts from standard input, checks each and prints what the check answers. tests/program-texts/make writes the texts and the
 // answers. A text is chunks, each a line `times,length` and then its bytes; a line `0,0` ends it.
+#![tactic(auto)]
+
 ghost use Rattle.std.specs.Prelude.{◌≤◌, ◌<◌, length};
 
 use field::Read;
 use program::Checked;
 
 // A chunk of a text: its bytes stand from `from` to `to` of the input, and are to be repeated.
-#[derive(Drop)]
+#[derive(Clone, Copy)]
 struct Chunk {
     times: usize,
     from: usize,

@@ -1,5 +1,7 @@
 // Stored answers, which programs of the gate replay: a case is an input, a line ====, the answer, a line ====. Finds the cases, and tells the
 // number of each that differs.
+#![tactic(auto)]
+
 ghost use Rattle.std.specs.Prelude.{◌≡◌, ◌≤◌, ◌<◌, length, drop};
 ghost use Rattle.replay.specs.Case.{begins, separator, part_end, behind, case_at, missing};
 
@@ -11,7 +13,7 @@ const SEPARATOR_SIZE: usize = 5;
 const SEPARATOR: [u8; SEPARATOR_SIZE] = [61, 61, 61, 61, 10];
 
 // Where a case's input ends, where its answer starts and ends, and where the next case starts.
-#[derive(Drop)]
+#[derive(Clone, Copy)]
 pub struct Case {
     pub end: usize,
     pub answer: usize,

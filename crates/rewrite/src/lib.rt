@@ -1,4 +1,6 @@
 // One pass of pair rewriting, in place over lent code (optimize/rewrite.rs). Only our own crates call it: they lend tables that were read.
+#![tactic(auto)]
+
 ghost use Rattle.std.specs.Prelude.{◌≡◌, ◌+◌, ◌≤◌, length, take, drop};
 ghost use Rattle.definition.specs.Rewrite.{decode, operand_of, instruction, applied, apply_peephole};
 ghost use Rattle.opcode.specs.Table.{IsTable, sheet_in};
@@ -23,14 +25,14 @@ pub const MIDDLE_CODE: usize = 16384;
 pub const MIDDLE_SLOTS: usize = MIDDLE_CODE + 1;
 
 // What is known of the next instruction's action: the second of a matched pair is decided with the first.
-#[derive(Drop)]
+#[derive(Clone, Copy)]
 pub enum Next {
     Ask,
     Do(Action),
 }
 
 // What is decided for one instruction; a size of 0 for none.
-#[derive(Drop)]
+#[derive(Clone, Copy)]
 pub struct Plan {
     pub size: usize,
     pub action: Action,

@@ -1,4 +1,6 @@
 // Pair rules: reading a rule file from any bytes into a lent table, and the lookup that the rewriter asks.
+#![tactic(auto)]
+
 ghost use Rattle.std.specs.Prelude.{◌≡◌, map, ℕ, ◌≤◌, ◌+◌, ◌*◌, length};
 ghost use Rattle.std.proofs.Math.Option.{none};
 ghost use Rattle.std.proofs.Math.Seq.{paste};
@@ -15,7 +17,7 @@ use field::Read;
 use opcode::{Effect, Role};
 
 // What is done with one instruction of a matched pair.
-#[derive(Drop)]
+#[derive(Clone, Copy)]
 pub enum Action {
     Keep,
     Remove,
@@ -23,28 +25,28 @@ pub enum Action {
 }
 
 // An instruction as a rule sees it. A number over the last role's stands for no role.
-#[derive(Drop)]
+#[derive(Clone, Copy)]
 pub struct Instruction {
     pub role: u8,
     pub operand: u16,
 }
 
 // How many rules there are, or a refusal's number and place.
-#[derive(Drop)]
+#[derive(Clone, Copy)]
 pub enum RuleAnswer {
     Rules(usize),
     Refused(u8, u32),
 }
 
 // Which rule of a table fits.
-#[derive(Drop)]
+#[derive(Clone, Copy)]
 pub enum Found {
     At(usize),
     Nothing,
 }
 
 // A rule line's numbers and where the next line starts, if it is good.
-#[derive(Drop)]
+#[derive(Clone, Copy)]
 struct Line {
     good: bool,
     numbers: [u16; ROW_SIZE],

@@ -1,4 +1,6 @@
 // The slowest call (document 02, L12): from the last place back to the first, the instructions of the longest run from there; then that run is followed.
+#![tactic(auto)]
+
 ghost use Rattle.std.specs.Prelude.{◌≡◌, true, false, ◌+◌, ◌≤◌, ◌<◌, ◌^◌, length};
 ghost use Rattle.definition.specs.Limits.{max_code, max_outcomes};
 ghost use Rattle.definition.specs.Claims.{branches};
@@ -15,7 +17,7 @@ use opcode::{Flow, sheet};
 
 // How the longest run goes on from a place: not at all, after so many instructions; onwards; or behind a branch, which falls through or jumps. Back: the branch there
 // leads to its own start or before it.
-#[derive(Drop)]
+#[derive(Clone, Copy)]
 pub enum Way {
     Back,
     Ends(u16),
@@ -202,7 +204,7 @@ fn follow(sheet: &[u8], code: &[u8], flags: &[u8], counts: &[u16], outcomes: &mu
 }
 
 // A refusal's number, or 0, and its place; is the answer 'loops'; else instructions, and how many outcomes.
-#[derive(Drop)]
+#[derive(Clone, Copy)]
 pub struct Measured {
     pub number: u8,
     pub place: u32,

@@ -1,4 +1,6 @@
 // Replays the stored answers for the slowest call: telling code, code of random bytes, and finished code. oracle/store writes its stdin.
+#![tactic(auto)]
+
 use answer_replay::Asked;
 
 fn main() {

@@ -1,4 +1,6 @@
 // Standard input, read to its end by the reader of the listing's and the passes program's input.
+#![tactic(auto)]
+
 ghost use Rattle.std.specs.Prelude.{◌-◌, ◌^◌};
 ghost use Rattle.input_reader.specs.View.{phase_view, state_view, begun};
 ghost use Rattle.standard_input.specs.Turns.{Turned};
@@ -6,7 +8,7 @@ ghost use Rattle.standard_input.specs.Turns.{Turned};
 use input_reader::{Phase, Reader};
 
 // What was read, and whether there may be more; or that a read failed.
-#[derive(Drop)]
+#[derive(Clone, Copy)]
 pub struct Turn {
     pub reader: Reader,
     pub more: bool,

@@ -1,4 +1,6 @@
 // Emission of statements (body/stmt.rs), from the text in place. After a refusal the walk goes on, so the place behind a statement is exact either way.
+#![tactic(auto)]
+
 ghost use Rattle.std.specs.Prelude.{◌≡◌, ◌≤◌, ◌<◌, ◌+◌, ◌-◌, length};
 ghost use Rattle.definition.specs.Limits.{max_code, max_nesting};
 ghost use Rattle.definition.specs.Opcode.{ret};

@@ -22,7 +22,7 @@ use program::Cursor;
 use program_line::{ArmLine, LabelLine};
 
 // What an arm's line says: `bad` is its refusal, 0 if there is none.
-#[derive(Drop)]
+#[derive(Clone, Copy)]
 pub struct ArmParts {
     pub bad: u8,
     pub labels: usize,

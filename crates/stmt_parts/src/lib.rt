@@ -1,4 +1,6 @@
 // What statement emission (body/stmt.rs) is made of below blocks: where a statement stands, conditions, the labels of CASE arms, and open loops.
+#![tactic(auto)]
+
 ghost use Rattle.std.specs.Prelude.{◌≡◌, ◌<◌, ◌-◌};
 ghost use Rattle.definition.specs.Limits.{max_nesting};
 ghost use Rattle.stmt_parts.specs.Context.{inner_of, in_loop};
@@ -8,7 +10,7 @@ pub mod labels; // labels.rt: the labels of CASE arms
 pub mod loops; // loops.rt: the open loops
 
 // Where a statement stands: the program's variables, the nesting levels left, and how many loops are open around it.
-#[derive(Drop)]
+#[derive(Clone, Copy)]
 pub struct Context {
     pub variables: u16,
     pub left: usize,

@@ -1,5 +1,7 @@
 // Lent lists of bytes (u8), numbers (u16) and words (u32): their room tested, set, zeroed, filled from another list; and a buffer that is filled from its start, where
 // each push answers how many elements are used then, and changes nothing where there is no room.
+#![tactic(auto)]
+
 ghost use Rattle.std.specs.Prelude.{◌≡◌, length};
 ghost use Rattle.store.specs.Store.{push, at};
 ghost use Rattle.store.specs.Room.{have_room};

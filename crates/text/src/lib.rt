@@ -1,4 +1,6 @@
 // What the listing and the passes program print, put into a lent output as far as there is room. Each function answers how much is used then.
+#![tactic(auto)]
+
 ghost use Rattle.std.specs.Prelude.{◌≡◌, [], ◌∷◌, ◌+◌, ◌*◌, ◌<◌, min};
 ghost use Rattle.definition.specs.Limits.{entry_size, width};
 ghost use Rattle.definition.specs.Field.{digit0};
