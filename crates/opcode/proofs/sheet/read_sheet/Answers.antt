@@ -14,4 +14,4 @@ pub read_table-answer-requires : goal.read_table-answer-requires
 read_table-answer-requires c = length-take-le table_size c.args.sheet.now c.if-sheet-lt-TABLE_SIZE.false
 
 pub returns : goal.returns
-returns c = fit c.args.text.now c.args.sheet.now c.read_table-answer.new.1.0 c.if-sheet-lt-TABLE_SIZE.false c.read_table-answer.auto.1.0 c.read_table-answer.ensures c.zero_bytes.ensures
+returns c = fit c.args.text.now c.args.sheet.now c.read_table-answer.new.sheet c.if-sheet-lt-TABLE_SIZE.false c.read_table-answer.auto.sheet c.read_table-answer.ensures c.zero_bytes.ensures
