@@ -8,9 +8,6 @@ use Rattle.replay.proofs.is_separator.Goals as goal
 pub returns-then-input-at-lt-SEPARATOR_SIZE : goal.returns-then-input-at-lt-SEPARATOR_SIZE
 returns-then-input-at-lt-SEPARATOR_SIZE c = begins-short separator _ (let d = length-drop c.args.at c.args.input.now in omega (arith, d, c.if-input-at-lt-SEPARATOR_SIZE.true))
 
-pub loop-i-init : goal.loop-i-init
-loop-i-init c = match-begins _ _
-
 pub returns-then-input-at : goal.returns-then-input-at
 returns-then-input-at c = match-not _ _ _ c.loop-i.invariant (search rules) (search rules) c.if-input-at.true
 
