@@ -1,0 +1,9 @@
+use Rattle.emit.proofs.State.{bare-stays, resets}
+use borrow.Author.Rules.{rules}
+use Rattle.emit.proofs.Emitter.reset_stack_depth.Goals as goal
+
+pub returns-then-self-ne0 : goal.returns-then-self-ne0
+returns-then-self-ne0 c = bare-stays _ (search rules) c.if-self-ne0.true
+
+pub returns : goal.returns
+returns c = resets _ (search rules) c.if-self-ne0.false c.wide.ensures (search rules)
