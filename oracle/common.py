@@ -55,10 +55,11 @@ def made(script, *words):
     return Path(run.stdout.strip())
 
 
-def proved(*words):
-    """Runs rt on our crates, as `rt check passes`."""
+def proved(verb, *names):
+    """Runs rt on our crates, each in its folder: `rt check` of `passes`, say."""
     needs("rt")
-    run = subprocess.run(["rt", *words], cwd=ROOT, stdout=subprocess.PIPE, stderr=subprocess.STDOUT, text=True)
-    if run.returncode:
-        print("\n".join(run.stdout.splitlines()[-12:]), file=sys.stderr)
-        stop(f"`rt {' '.join(words)}` failed (above)")
+    for name in names:
+        run = subprocess.run(["rt", verb], cwd=ROOT / "crates" / name, text=True, stdin=subprocess.DEVNULL, stdout=subprocess.PIPE, stderr=subprocess.STDOUT)
+        if run.returncode:
+            print("\n".join(run.stdout.splitlines()[-12:]), file=sys.stderr)
+            stop(f"`rt {verb}` of crate {name} failed (above)")
