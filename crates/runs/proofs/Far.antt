@@ -53,6 +53,7 @@ far-near t n (right lt) k = absurd (let a = k.1 in omega arith)
 some-so : {A : Type 0} {P Q R : A → Type 0} {xs : List A} → ((x : A) → P x → Q x → R x) → Each P xs → Some Q xs → Some R xs
 some-so f (p also ps) (this q) = this (f _ p q)
 some-so f (p also ps) (later s) = later (some-so f ps s)
+some-so f empty s = elim s [ ]
 
 module _ (labels : List (Option ℕ)) (m : OffsetMap) where
   -- a patch's branch is moved to a place, and is too far from its target
@@ -67,6 +68,7 @@ module _ (labels : List (Option ℕ)) (m : OffsetMap) where
   unfolding places
   at_least (p ∷ ps) (rises le r) (this a) = let h = a.here in omega arith
   at_least (p ∷ ps) (rises le r) (later s) = let n = at_least ps r s in omega arith
+  at_least [] r s = elim s [ ]
 
   record Lowest (ps : List PendingPatch) (x : ℕ) : Type 0 where
     far : Some (λ p. Astray x p) ps
@@ -136,6 +138,7 @@ module _ (s : Sheet) (back : Reads s) (rules : List Rule) (fine : (pass : ℕ) �
       apart : {y : ℕ} {ps : List PendingPatch} → Each (λ x. NearBy e.labels moves x) ps → Some (λ x. Astray e.labels moves y x) ps → ⊥
       apart (n also ns) (this a) = far-near _ _ a.far n
       apart (n also ns) (later t) = apart ns t
+      apart empty t = elim t [ ]
 
   -- in code of at most so many bytes no place is too far from another
   pub program-near : length (finalize_function s rules e).bytecode ≤ max_back → Reaches s rules e

@@ -71,7 +71,7 @@ executes (compare c) m p (b ∷ []) vs os = refl
 executes (compare c) m p (b ∷ a ∷ st) vs os = enough (compare c) m.bytecode p (suc (suc (length st))) os (omega arith) refl
 executes jmp m p st vs os = enough jmp m.bytecode p (length st) os (omega arith) refl ∙ leads (target m.bytecode (p + 3)) _ st os
 executes jmp_if_not m p [] vs os = refl
-executes jmp_if_not m p (a ∷ st) vs os = enough jmp_if_not m.bytecode p (suc (length st)) (not (truth a) ∷ os) (omega arith) refl ∙ branches (not (truth a)) m.bytecode (p + 3) _ st os
+executes jmp_if_not m p (a ∷ st) vs os = enough jmp_if_not m.bytecode p (suc (length st)) (not (truth a) ∷ os) (omega arith) refl ∙ branches (not (truth a)) m.bytecode (p + 3) (record { place = p; stack = a ∷ st; variables = vs }) st os
 executes cmp_br m p st vs os = enough cmp_br m.bytecode p (length st) (compares m p vs ∷ os) (omega arith) refl ∙ branches (compares m p vs) m.bytecode (p + 8) _ st os
 executes ret m p st vs os = enough ret m.bytecode p (length st) os (omega arith) refl
 

@@ -1,0 +1,27 @@
+use mathlib.Core.Path.{ap}
+use native.Mathlib.Omega.{arith}
+use lib.ListN.{length-set}
+use Rattle.rules.specs.View.{action_view}
+use Rattle.rewrite.proofs.Copy.{three, puts-kept, puts-removed, puts-rewritten}
+use Rattle.rewrite.proofs.apply.Goals as goal
+
+pub bounds-code-from : goal.bounds-code-from
+bounds-code-from c = omega (arith, c.requires.to_le_from, three (ap action_view c.in-RewriteOperand.is) c.requires.fitting)
+
+pub bounds-code-to : goal.bounds-code-to
+bounds-code-to c = omega (arith, c.requires.to_le_from, three (ap action_view c.in-RewriteOperand.is) c.requires.fitting)
+
+pub bounds-code-to-in-RewriteOperand : goal.bounds-code-to-in-RewriteOperand
+bounds-code-to-in-RewriteOperand c = simp length-set (omega (arith, c.requires.to_le_from, three (ap action_view c.in-RewriteOperand.is) c.requires.fitting))
+
+pub bounds-code-to-in-RewriteOperand-2 : goal.bounds-code-to-in-RewriteOperand-2
+bounds-code-to-in-RewriteOperand-2 c = simp length-set (omega (arith, c.requires.to_le_from, three (ap action_view c.in-RewriteOperand.is) c.requires.fitting))
+
+pub returns-in-Keep : goal.returns-in-Keep
+returns-in-Keep c = puts-kept c.args.from c.args.size (ap action_view c.in-Keep.is) c.copy_down.ensures
+
+pub returns-in-Remove : goal.returns-in-Remove
+returns-in-Remove c = puts-removed _ c.args.from _ c.args.size (ap action_view c.in-Remove.is) (omega (arith, c.requires.to_le_from))
+
+pub returns-in-RewriteOperand : goal.returns-in-RewriteOperand
+returns-in-RewriteOperand c = puts-rewritten _ c.args.from _ c.args.size (ap action_view c.in-RewriteOperand.is) c.requires.fitting c.requires.to_le_from.0 c.requires.to_le_from.1
