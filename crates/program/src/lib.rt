@@ -203,7 +203,7 @@ fn pass_line(text: &[u8], w: Walk, end: usize) -> Walk
 }
 
 // So many expressions.
-#[cycle(walk_expr_walk_exprs)]
+#[cycle(exprs)]
 fn walk_exprs(text: &[u8], variables: u16, heed: bool, left: usize, n: usize, w: Walk) -> Walk
     requires { Near text.now w.at w.row }
     ensures { Walked (many n (over_expr heed left variables text.now)) text.now w result }
@@ -221,7 +221,7 @@ fn walk_exprs(text: &[u8], variables: u16, heed: bool, left: usize, n: usize, w:
 }
 
 // An expression, with so many nesting levels left.
-#[cycle(walk_expr_walk_exprs)]
+#[cycle(exprs)]
 pub fn walk_expr(text: &[u8], variables: u16, heed: bool, left: usize, w: Walk) -> Walk
     requires { Near text.now w.at w.row }
     ensures { Walked (over_expr heed left variables text.now) text.now w result }
@@ -439,7 +439,7 @@ fn note(ends: &mut [u16], heed: bool, left: usize, p: Parts, b: Walk, c: Walk)
 }
 
 // So many arms.
-#[cycle(walk_arm_walk_arms_walk_stmt_walk_stmts)]
+#[cycle(stmts)]
 fn walk_arms(
     text: &[u8],
     ends: &mut [u16],
@@ -467,7 +467,7 @@ fn walk_arms(
 }
 
 // An arm: its line, its labels and its body.
-#[cycle(walk_arm_walk_arms_walk_stmt_walk_stmts)]
+#[cycle(stmts)]
 fn walk_arm(text: &[u8], ends: &mut [u16], variables: u16, heed: bool, left: usize, w: Walk) -> Walk
     requires near { Near text.now w.at w.row }
     requires sound { Sound text.now variables ends.old }
@@ -491,7 +491,7 @@ fn walk_arm(text: &[u8], ends: &mut [u16], variables: u16, heed: bool, left: usi
 }
 
 // So many statements.
-#[cycle(walk_arm_walk_arms_walk_stmt_walk_stmts)]
+#[cycle(stmts)]
 pub fn walk_stmts(
     text: &[u8],
     ends: &mut [u16],
@@ -519,7 +519,7 @@ pub fn walk_stmts(
 }
 
 // A statement, with so many nesting levels left: its line, then its parts.
-#[cycle(walk_arm_walk_arms_walk_stmt_walk_stmts)]
+#[cycle(stmts)]
 fn walk_stmt(
     text: &[u8],
     ends: &mut [u16],
