@@ -59,7 +59,7 @@ fn behind(text: &[u8], c: Cursor, end: usize, emitter: Emitter) -> Walked
 }
 
 // The expression at a place, which starts at height h, with so many nesting levels left.
-#[cycle(emit_and_then_emit_expr_emit_or_else_emit_two)]
+#[cycle(exprs)]
 pub fn emit_expr(
     text: &[u8],
     sheet: &[u8],
@@ -119,7 +119,7 @@ pub fn emit_expr(
 }
 
 // The two operands of the line at a place, which ends at `end`: the first below the second on the stack.
-#[cycle(emit_and_then_emit_expr_emit_or_else_emit_two)]
+#[cycle(exprs)]
 fn emit_two(
     text: &[u8],
     sheet: &[u8],
@@ -151,7 +151,7 @@ fn emit_two(
 }
 
 // The right side is the value where the left is true; else it is false.
-#[cycle(emit_and_then_emit_expr_emit_or_else_emit_two)]
+#[cycle(exprs)]
 fn emit_and_then(
     text: &[u8],
     sheet: &[u8],
@@ -195,7 +195,7 @@ fn emit_and_then(
 }
 
 // The right side is the value where the left is false; else it is true.
-#[cycle(emit_and_then_emit_expr_emit_or_else_emit_two)]
+#[cycle(exprs)]
 fn emit_or_else(
     text: &[u8],
     sheet: &[u8],
