@@ -56,7 +56,7 @@ fn record_position(e: Emitter, line: StmtLine, recording: bool) -> Emitter
 }
 
 // n statements in order, each at its own position if positions are recorded (the source's `record`).
-#[cycle(arm_arms_case_else__for__if__loop__loop_body_plain_repeat_sequence_stmt_while_)]
+#[cycle(stmts)]
 fn sequence(
     text: &[u8],
     sheet: &[u8],
@@ -99,7 +99,7 @@ fn sequence(
 }
 
 // A statement whose line, at c, was read, and behind which the next stands at `on`; its parts stand one level further in.
-#[cycle(arm_arms_case_else__for__if__loop__loop_body_plain_repeat_sequence_stmt_while_)]
+#[cycle(stmts)]
 fn stmt(
     text: &[u8],
     sheet: &[u8],
@@ -209,7 +209,7 @@ fn return_(
 }
 
 // An IF, behind its line.
-#[cycle(arm_arms_case_else__for__if__loop__loop_body_plain_repeat_sequence_stmt_while_)]
+#[cycle(stmts)]
 fn if_(
     text: &[u8],
     sheet: &[u8],
@@ -244,7 +244,7 @@ fn if_(
 }
 
 // Its ELSE, which is jumped over only where there is one.
-#[cycle(arm_arms_case_else__for__if__loop__loop_body_plain_repeat_sequence_stmt_while_)]
+#[cycle(stmts)]
 fn else_(
     text: &[u8],
     sheet: &[u8],
@@ -281,7 +281,7 @@ fn else_(
 }
 
 // A CASE, behind its line: n arms, and m statements if none fits.
-#[cycle(arm_arms_case_else__for__if__loop__loop_body_plain_repeat_sequence_stmt_while_)]
+#[cycle(stmts)]
 fn case(
     text: &[u8],
     sheet: &[u8],
@@ -323,7 +323,7 @@ fn case(
 }
 
 // n arms. A line that is at fault ends them.
-#[cycle(arm_arms_case_else__for__if__loop__loop_body_plain_repeat_sequence_stmt_while_)]
+#[cycle(stmts)]
 fn arms(
     text: &[u8],
     sheet: &[u8],
@@ -373,7 +373,7 @@ fn arms(
 }
 
 // An arm behind its line. Without a label it is gone over, and not emitted.
-#[cycle(arm_arms_case_else__for__if__loop__loop_body_plain_repeat_sequence_stmt_while_)]
+#[cycle(stmts)]
 fn arm(
     text: &[u8],
     sheet: &[u8],
@@ -415,7 +415,7 @@ fn arm(
 }
 
 // A FOR, behind its line. Its end is looked at before its start is emitted.
-#[cycle(arm_arms_case_else__for__if__loop__loop_body_plain_repeat_sequence_stmt_while_)]
+#[cycle(stmts)]
 fn for_(
     text: &[u8],
     sheet: &[u8],
@@ -465,7 +465,7 @@ fn for_(
 }
 
 // A loop, behind its line, by its shape.
-#[cycle(arm_arms_case_else__for__if__loop__loop_body_plain_repeat_sequence_stmt_while_)]
+#[cycle(stmts)]
 fn loop_(
     text: &[u8],
     sheet: &[u8],
@@ -505,7 +505,7 @@ fn loop_(
 }
 
 // A loop of no shape, behind its line.
-#[cycle(arm_arms_case_else__for__if__loop__loop_body_plain_repeat_sequence_stmt_while_)]
+#[cycle(stmts)]
 fn plain(
     text: &[u8],
     sheet: &[u8],
@@ -547,7 +547,7 @@ fn plain(
 }
 
 // A WHILE: its body without the IF, of n statements, stands at c.
-#[cycle(arm_arms_case_else__for__if__loop__loop_body_plain_repeat_sequence_stmt_while_)]
+#[cycle(stmts)]
 fn while_(
     text: &[u8],
     sheet: &[u8],
@@ -585,7 +585,7 @@ fn while_(
 }
 
 // A REPEAT: its body stands at c, its condition in the IF behind that, and it ends at `last`.
-#[cycle(arm_arms_case_else__for__if__loop__loop_body_plain_repeat_sequence_stmt_while_)]
+#[cycle(stmts)]
 fn repeat(
     text: &[u8],
     sheet: &[u8],
@@ -630,7 +630,7 @@ fn repeat(
 }
 
 // The body of loop i, and the label of its CONTINUEs.
-#[cycle(arm_arms_case_else__for__if__loop__loop_body_plain_repeat_sequence_stmt_while_)]
+#[cycle(stmts)]
 fn loop_body(
     text: &[u8],
     sheet: &[u8],

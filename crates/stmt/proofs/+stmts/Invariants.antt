@@ -1,0 +1,58 @@
+use Prim.Native.Nat.{◌+◌, ◌*◌}
+use Rattle.opcode.specs.Table.{sheet_in}
+use Rattle.program.specs.Walk.{cursor_of}
+use Rattle.emit.specs.View.{world}
+use Rattle.stmt.proofs.Laws.{Doing}
+use Rattle.stmt.proofs.Cases.{Arming}
+use Rattle.stmt.proofs.+stmts.Given as goal
+
+abbrev pub decreases-arm : goal.decreases-arm
+decreases-arm l = 5 * l.ctx.left + 2
+
+abbrev pub decreases-arms : goal.decreases-arms
+decreases-arms l = 5 * l.ctx.left + 3
+
+abbrev pub decreases-case : goal.decreases-case
+decreases-case l = 5 * l.ctx.left + 4
+
+abbrev pub decreases-else_ : goal.decreases-else_
+decreases-else_ l = 5 * l.ctx.left + 2
+
+abbrev pub decreases-for_ : goal.decreases-for_
+decreases-for_ l = 5 * l.ctx.left + 3
+
+abbrev pub decreases-if_ : goal.decreases-if_
+decreases-if_ l = 5 * l.ctx.left + 3
+
+abbrev pub decreases-loop_ : goal.decreases-loop_
+decreases-loop_ l = 5 * l.ctx.left + 4
+
+abbrev pub decreases-loop_body : goal.decreases-loop_body
+decreases-loop_body l = 5 * l.ctx.left + 2
+
+abbrev pub decreases-plain : goal.decreases-plain
+decreases-plain l = 5 * l.ctx.left + 3
+
+abbrev pub decreases-repeat : goal.decreases-repeat
+decreases-repeat l = 5 * l.ctx.left + 3
+
+abbrev pub decreases-sequence : goal.decreases-sequence
+decreases-sequence l = 5 * l.ctx.left + 1
+
+abbrev pub decreases-stmt : goal.decreases-stmt
+decreases-stmt l = 5 * l.ctx.left
+
+abbrev pub decreases-while_ : goal.decreases-while_
+decreases-while_ l = 5 * l.ctx.left + 3
+
+abbrev pub invariant-arms-loop-more : goal.invariant-arms-loop-more
+invariant-arms-loop-more l = Arming (sheet_in l.sheet) l.ctx l.text l.end.0 l.n (cursor_of l.initial.here) (world l.initial.on l.initial.code l.initial.book l.initial.pool) l.initial.loops (world l.on l.code l.book l.pool) l.loops l.more l.here
+
+abbrev pub decreases-arms-loop-more : goal.decreases-arms-loop-more
+decreases-arms-loop-more l = l.more
+
+abbrev pub invariant-sequence-loop-more : goal.invariant-sequence-loop-more
+invariant-sequence-loop-more l = Doing (sheet_in l.sheet) l.ctx l.text l.recording l.n (cursor_of l.initial.here) (world l.initial.on l.initial.code l.initial.book l.initial.pool) l.initial.loops (world l.on l.code l.book l.pool) l.loops l.more l.here
+
+abbrev pub decreases-sequence-loop-more : goal.decreases-sequence-loop-more
+decreases-sequence-loop-more l = l.more
