@@ -8,7 +8,7 @@ use Rattle.definition.specs.Limits.{max_code, max_constants, max_lines, entry_si
 use Rattle.definition.specs.Sheet.{read_sheet}
 use Rattle.definition.specs.Compile.{Room, Answer, answer, compile_into, Compiles}
 use Rattle.definition.specs.Check.{Checks}
-use Rattle.definition.specs.Cases.{bytes, plain_sheet, open-Definition}
+use Rattle.definition.specs.Cases.{bytes, plain_sheet}
 use Rattle.field.proofs.Results.{never}
 use Rattle.runs.proofs.Safe.{compiled-checks}
 use Rattle.image_check.proofs.Tells.{checks-by, open-Traversal}

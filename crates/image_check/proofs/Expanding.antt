@@ -1,12 +1,12 @@
 -- What `expand` does.
 use Prim.Native.Nat.{ℕ, ◌+◌, ◌-◌, suc, zero, ◌≤◌, ◌<◌, zero-le}
-use mathlib.Core.Path.{◌≡◌, refl, sym, ◌∙◌, ap, subst, fun_ext}
+use mathlib.Core.Path.{◌≡◌, refl, sym, ◌∙◌, ap, fun_ext}
 use mathlib.Core.List.{List, [], ◌∷◌}
-use mathlib.Core.Bool.{Bool, true, false, not, ◌&&◌, ◌||◌}
+use mathlib.Core.Bool.{Bool, true, false, ◌&&◌, ◌||◌}
 use mathlib.Core.Option.{Option, some, none}
 use lib.ListN.{length, get_or}
 use lib.Dec.{eqb, ltb}
-use borrow.Author.Tests.{eq-eqb, ne_eqb, eqb-true, eqb-false, ltb-true, ltb-false, lt-ltb, le-ltb}
+use borrow.Author.Tests.{eqb-true, eqb-false, ltb-true, ltb-false, lt-ltb, le-ltb}
 use native.Mathlib.Omega.{arith}
 use Rattle.definition.specs.Field.{has}
 use Rattle.definition.specs.Opcode.{shift, up, down, same}
@@ -23,7 +23,7 @@ use Rattle.opcode.specs.declared.Traits.{Traits}
 use Rattle.opcode.specs.Table.{sheet_in}
 use Rattle.field.proofs.Results.{never}
 use Rattle.image_check.specs.Graph.{Node, Table, and_then, wrong, behind, meet_at, meet, meet_all, expand}
-use Rattle.image_check.specs.Place.{halts, node_at}
+use Rattle.image_check.specs.Place.{halts}
 use Rattle.image_check.specs.View.{stack_of, table_of, view, blanks, Ready, flagged, is_place, Image, met_if, Meets, node_in, Looks, place_or, wrong_by, behind_by, Expands}
 use Rattle.image_check.specs.declared.Trip.{Trip}
 use Rattle.image_check.proofs.Meeting.{is-past}

@@ -1,12 +1,12 @@
 -- The loop of the traversal.
-use Prim.Native.Nat.{ℕ, ◌+◌, ◌-◌, suc, zero, ◌≤◌, ◌<◌, zero-le}
-use mathlib.Core.Path.{◌≡◌, refl, sym, ◌∙◌, ap, subst, fun_ext}
+use Prim.Native.Nat.{ℕ, ◌+◌, ◌-◌, suc, zero, ◌≤◌, ◌<◌}
+use mathlib.Core.Path.{◌≡◌, refl, sym, ◌∙◌, ap}
 use mathlib.Core.List.{List, [], ◌∷◌}
 use mathlib.Core.Bool.{Bool, true, false}
-use mathlib.Core.Option.{Option, some, none}
+use mathlib.Core.Option.{Option, some}
 use lib.ListN.{length, get_or}
 use native.Mathlib.Omega.{arith}
-use Rattle.image_check.specs.Graph.{Node, Table, and_then, expand, traverse}
+use Rattle.image_check.specs.Graph.{Node, and_then, traverse}
 use Rattle.image_check.specs.View.{stack_of, table_of, view, Ready, node_in, Expands, on_from, Going, Traverses}
 use Rattle.image_check.specs.declared.Trip.{Trip}
 use Rattle.image_check.proofs.Meeting.{view-on, view-lost}

@@ -1,10 +1,9 @@
 -- Flags of the starts.
-use Prim.Native.Nat.{ℕ, ◌+◌, ◌-◌, suc, zero, ◌≤◌, ◌<◌, zero-le}
+use Prim.Native.Nat.{ℕ, ◌+◌, ◌≤◌, ◌<◌, zero-le}
 use mathlib.Core.Path.{◌≡◌, refl, sym, ◌∙◌, ap, subst}
 use mathlib.Core.List.{List, [], ◌∷◌}
 use mathlib.Core.Bool.{Bool, true, false, not, ◌||◌}
-use mathlib.Core.Option.{Option, some, none}
-use lib.ListN.{length, get_or, set, drop, take, length-set}
+use lib.ListN.{length, get_or, set, drop, length-set}
 use lib.Seq.{get_or-set_same, get_or-set_other}
 use lib.Dec.{eqb}
 use borrow.Author.Tests.{eq-eqb, ne_eqb, eqb-true, eqb-false}
@@ -20,7 +19,6 @@ use Rattle.field.proofs.Tests.{or-none, or-any}
 use Rattle.opcode.specs.Table.{sheet_in, IsTable}
 use Rattle.rewrite.specs.View.{first_of, Clear}
 use Rattle.rewrite.proofs.Decoding.{first}
-use Rattle.field.proofs.Results.{never}
 use Rattle.image_check.specs.View.{flagged, Marking, Image}
 
 flag-set : (flags : List ℕ) (at q : ℕ) → at < length flags → q ≡ at → flagged (set flags at 1) q ≡ true

@@ -1,7 +1,6 @@
 -- Code as a graph of nodes: its walks and its runs, as the definition has them, are those of the graph.
-use Prim.Native.Nat.{ℕ, ◌+◌, ◌-◌, suc, zero, ◌≤◌, ◌<◌}
+use Prim.Native.Nat.{ℕ, ◌+◌, suc, zero, ◌≤◌, ◌<◌}
 use mathlib.Core.Path.{◌≡◌, refl, sym, ◌∙◌, ap, subst}
-use mathlib.Core.Logic.{◌↔◌}
 use mathlib.Core.List.{List, [], ◌∷◌}
 use mathlib.Core.Bool.{Bool, true, false}
 use mathlib.Core.Option.{Option, some, none}
@@ -11,15 +10,15 @@ use borrow.Author.Tests.{eq-eqb, ne_eqb, eqb-true, eqb-false, ltb-true, ltb-fals
 use native.Mathlib.Omega.{arith}
 use native.Mathlib.Decide.{dec_le, dec_lt, ℕ_discrete}
 use Rattle.definition.specs.Field.{has}
-use Rattle.definition.specs.Opcode.{Role, Sheet, role_of, size, needs, Effect, same, effect, shift, Flow, onward, away, either, stop, flow}
-use Rattle.definition.specs.Runs.{State, Break, off_code, empty_stack, Step, goes, finishes, waits, breaks, target, jump, branch, follow, out_of_outcomes, execute, execute_if, step_over, Stand, stand, run_over, start}
+use Rattle.definition.specs.Opcode.{Role, Sheet, role_of, size, needs, effect, shift, Flow, onward, away, either, stop, flow}
+use Rattle.definition.specs.Runs.{State, Break, off_code, empty_stack, Step, goes, finishes, waits, breaks, target, jump, branch, follow, out_of_outcomes, execute, step_over, Stand, stand, run_over, start}
 use Rattle.definition.specs.Claims.{Either, left, right, FineOver}
 use Rattle.definition.specs.Check.{starts, OneOf, here, later, exits, Walks, Off, Astray, stands, Meet, HeightFault, Passes, Answers}
 use Rattle.field.proofs.Results.{never, some_is}
 use Rattle.image_check.specs.Place.{halts, end_node, role_node, node_of, node_at}
 use Rattle.image_check.specs.Graph.{Node, Nowhere, Walked, Reached, Strays, Faults, traversed, verdict}
 use Rattle.runs.proofs.Steps.{over-end, over-off, over-start}
-use Rattle.image_check.proofs.Traversal.{Decided, decided}
+use Rattle.image_check.proofs.Traversal.{decided}
 use Rattle.image_check.proofs.Starts.{start-holds}
 
 node_by : Bool → Bool → Option Role → List ℕ → ℕ → Option Node
@@ -230,10 +229,12 @@ module _ (s : Sheet) (code : List ℕ) where
       rest,
       goes_on rest (ap (λ y. out_of_outcomes y rest) e) ∙ (ap (λ y. follow y code (p + size a.role) (shift (effect a.role) h) rest) e ∙ ap (λ y. goes (at y (shift (effect a.role) h) rest)) (some_is (sym x))),
     )
+    leads-by q rest onward e (later i) = elim i [ ]
     leads-by q rest away e (here x) = (
       rest,
       goes_on rest (ap (λ y. out_of_outcomes y rest) e) ∙ (ap (λ y. follow y code (p + size a.role) (shift (effect a.role) h) rest) e ∙ ap (λ y. jump (shift (effect a.role) h) rest y) (sym x)),
     )
+    leads-by q rest away e (later i) = elim i [ ]
     leads-by q rest either e (here x) = (
       false ∷ rest,
       goes_on (false ∷ rest) (ap (λ y. out_of_outcomes y (false ∷ rest)) e) ∙ (ap (λ y. follow y code (p + size a.role) (shift (effect a.role) h) (false ∷ rest)) e ∙ ap (λ y. goes (at y (shift (effect a.role) h) rest)) (some_is (sym x))),
@@ -242,17 +243,23 @@ module _ (s : Sheet) (code : List ℕ) where
       true ∷ rest,
       goes_on (true ∷ rest) (ap (λ y. out_of_outcomes y (true ∷ rest)) e) ∙ (ap (λ y. follow y code (p + size a.role) (shift (effect a.role) h) (true ∷ rest)) e ∙ ap (λ y. jump (shift (effect a.role) h) rest y) (sym x)),
     )
+    leads-by q rest either e (later (later i)) = elim i [ ]
+    leads-by q rest stop e i = elim i [ ]
 
     -- or off the code
     lost-by : (f : Flow) → flow a.role ≡ f → OneOf none (exits f code (p + size a.role)) → (os : List Bool) × (step_over S s code (at p h os) ≡ breaks off_code)
     unfolding exits follow branch jump out_of_outcomes
     lost-by onward e (here x) = never (cc)
+    lost-by onward e (later i) = elim i [ ]
     lost-by away e (here x) = ([], goes_on [] (ap (λ y. out_of_outcomes y []) e) ∙ (ap (λ y. follow y code (p + size a.role) (shift (effect a.role) h) []) e ∙ ap (λ y. jump (shift (effect a.role) h) [] y) (sym x)))
+    lost-by away e (later i) = elim i [ ]
     lost-by either e (here x) = never (cc)
     lost-by either e (later (here x)) = (
       true ∷ [],
       goes_on (true ∷ []) (ap (λ y. out_of_outcomes y (true ∷ [])) e) ∙ (ap (λ y. follow y code (p + size a.role) (shift (effect a.role) h) (true ∷ [])) e ∙ ap (λ y. jump (shift (effect a.role) h) [] y) (sym x)),
     )
+    lost-by either e (later (later i)) = elim i [ ]
+    lost-by stop e i = elim i [ ]
 
   -- each height that is reached has its run, with any outcomes left
   pub record Runs (p h : ℕ) (rest : List Bool) : Type 0 where

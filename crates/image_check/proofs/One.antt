@@ -1,14 +1,12 @@
 -- The definition leaves one answer: a number is 0, 20 or 21, and any two are the same. So the three claims exclude each other.
-use Prim.Native.Nat.{ℕ, ◌<◌}
+use Prim.Native.Nat.{ℕ}
 use mathlib.Core.Path.{◌≡◌, refl, sym, ◌∙◌, subst}
 use mathlib.Core.List.{List}
 use mathlib.Core.Option.{some, none}
 use native.Mathlib.Omega.{arith}
 use native.Mathlib.Decide.{ℕ_discrete}
-use lib.ListN.{length}
-use Rattle.definition.specs.Limits.{bad_sheet, astray, bad_height}
+use Rattle.definition.specs.Limits.{astray, bad_height}
 use Rattle.definition.specs.Opcode.{Sheet}
-use Rattle.definition.specs.Sheet.{read_sheet}
 use Rattle.definition.specs.Check.{Answers, Checks, refuses_sheet, refuses_length}
 use Rattle.definition.specs.Check as check
 use Rattle.field.proofs.Results.{never, some_is}

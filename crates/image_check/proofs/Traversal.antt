@@ -1,5 +1,5 @@
 -- The traversal is right: its invariant, and what it means at the end.
-use Prim.Native.Nat.{ℕ, ◌+◌, ◌-◌, suc, zero, ◌≤◌, ◌<◌}
+use Prim.Native.Nat.{ℕ, ◌+◌, ◌-◌, suc, zero, ◌≤◌}
 use mathlib.Core.Path.{◌≡◌, refl, sym, ◌∙◌, ap, subst}
 use mathlib.Core.Logic.{◌↔◌}
 use mathlib.Core.List.{List, [], ◌∷◌}
@@ -7,11 +7,10 @@ use mathlib.Core.Bool.{Bool, true, false, not, ◌&&◌, ◌||◌}
 use mathlib.Core.Option.{Option, some, none}
 use lib.ListN.{length}
 use lib.Dec.{eqb, ltb}
-use borrow.Author.Tests.{eq-eqb, ne_eqb, eqb-true, eqb-false, ltb-true, ltb-false, not-true, not-false}
+use borrow.Author.Tests.{eqb-true, eqb-false, ltb-true, ltb-false, not-false}
 use native.Mathlib.Omega.{arith}
 use Rattle.definition.specs.Limits.{astray, bad_height}
-use Rattle.definition.specs.Opcode.{Effect, shift}
-use Rattle.definition.specs.Claims.{Either, left, right}
+use Rattle.definition.specs.Opcode.{shift}
 use Rattle.definition.specs.Check.{OneOf, here, later}
 use Rattle.field.proofs.Tests.{or-false, or_left, or_right}
 use Rattle.field.proofs.Results.{never, some_is}
@@ -118,6 +117,7 @@ module _ (node : ℕ → Option Node) (depth L : ℕ) (bounded : (p : ℕ) (nd :
 
         met : (x : Option ℕ) → OneOf x (some q ∷ []) → Met u h x
         met x (here e) = record { place = q; is = e; mark = h; has = marked-same t.marks q h q refl; same = λ b. refl }
+        met x (later i) = elim i [ ]
 
         -- a mark is the new one or an old one
         by : (P : ℕ → ℕ → Type 0) → P q h → ((p g : ℕ) → t.marks p ≡ suc g → P p g) → (p g : ℕ) → marked t.marks q h p ≡ suc g → P p g
@@ -160,6 +160,7 @@ module _ (node : ℕ → Option Node) (depth L : ℕ) (bounded : (p : ℕ) (nd :
 
         met : (x : Option ℕ) → OneOf x (some q ∷ []) → Met u h x
         met x (here e) = record { place = q; is = e; mark = g; has = z; same = λ b. eqb-true g h (not-false (eqb g h) (or-false t.bad _ b).1) }
+        met x (later i) = elim i [ ]
 
         real : Real t → Real u
         real (faulted b f) = faulted (or_left t.bad _ b) f

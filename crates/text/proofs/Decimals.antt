@@ -10,7 +10,7 @@ use lib.Dec.{ltb}
 use Rattle.definition.specs.Field.{digit0, minus}
 use Rattle.definition.specs.Iec.{signed_of}
 use Rattle.definition.specs.Listing.{digits_onto, decimal, signed_decimal}
-use Rattle.store.specs.Store.{Store, at, push, push_all}
+use Rattle.store.specs.Store.{Store, push, push_all}
 use Rattle.text.proofs.Puts.{put_first, put_then, put_one}
 
 -- ---- by cases: is it one digit?

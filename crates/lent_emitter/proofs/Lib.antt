@@ -1,4 +1,0 @@
-pub mod Coded
-pub mod Facts
-pub mod Lying
-pub mod Value
