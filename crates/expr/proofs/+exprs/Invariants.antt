@@ -2,6 +2,7 @@ use Prim.Native.Nat.{◌+◌, ◌*◌}
 use Rattle.expr.specs.Lines.{lines_left}
 use Rattle.expr.proofs.+exprs.Given as goal
 
+-- the others are called at the place of emit_expr's line, which they pass before they call it
 abbrev pub decreases-emit_and_then : goal.decreases-emit_and_then
 decreases-emit_and_then l = 2 * lines_left l.text.now l.c.at
 

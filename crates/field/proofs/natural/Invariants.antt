@@ -5,6 +5,7 @@ use Rattle.field.specs.declared.Number.TheVariants.{Empty}
 use Rattle.field.proofs.Numbers.{after}
 use Rattle.field.proofs.natural.Given as goal
 
+-- what is left makes of the number so far what all of it makes of none
 abbrev pub invariant-loop-i : goal.invariant-loop-i
 invariant-loop-i l = (l.i ≤ length l.bytes) × (after Empty l.bytes ≡ after l.number (drop l.i l.bytes))
 

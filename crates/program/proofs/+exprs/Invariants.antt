@@ -3,6 +3,7 @@ use Rattle.program.specs.Walk.{over_expr}
 use Rattle.program.proofs.Laws.{Going}
 use Rattle.program.proofs.+exprs.Given as goal
 
+-- walk_expr at `left` calls walk_exprs at one level less, which calls walk_expr there
 abbrev pub decreases-walk_expr : goal.decreases-walk_expr
 decreases-walk_expr l = 2 * l.left
 

@@ -4,6 +4,7 @@ use Rattle.program.specs.Ends.{Sound}
 use Rattle.program.proofs.Laws.{Going, ends}
 use Rattle.program.proofs.+stmts.Given as goal
 
+-- walk_stmt at `left` calls the others at one level less; there walk_arms calls walk_arm, which calls walk_stmts, which calls walk_stmt
 abbrev pub decreases-walk_arm : goal.decreases-walk_arm
 decreases-walk_arm l = 4 * l.left + 2
 

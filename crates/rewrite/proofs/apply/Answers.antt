@@ -5,6 +5,7 @@ use Rattle.rules.specs.View.{action_view}
 use Rattle.rewrite.proofs.Copy.{three, puts-kept, puts-removed, puts-rewritten}
 use Rattle.rewrite.proofs.apply.Goals as goal
 
+-- an index of the three bytes, after stores
 pub bounds-code-from : goal.bounds-code-from
 bounds-code-from c = omega (arith, c.requires.to_le_from, three (ap action_view c.in-RewriteOperand.is) c.requires.fitting)
 

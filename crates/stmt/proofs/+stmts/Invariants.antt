@@ -6,6 +6,8 @@ use Rattle.stmt.proofs.Laws.{Doing}
 use Rattle.stmt.proofs.Cases.{Arming}
 use Rattle.stmt.proofs.+stmts.Given as goal
 
+-- stmt at `left` calls the others at one level less; there loop_ calls while_, repeat and plain, which call loop_body, case calls arms, arms arm, if_ else_; these
+-- and all call sequence, which calls stmt
 abbrev pub decreases-arm : goal.decreases-arm
 decreases-arm l = 5 * l.ctx.left + 2
 
