@@ -55,11 +55,10 @@ def made(script, *words):
     return Path(run.stdout.strip())
 
 
-def proved(verb, *names):
-    """Runs rt on our crates, each in its folder: `rt check` of `passes`, say."""
+def proved(*names):
+    """Proves crates and builds what they are (tools/build)."""
     needs("rt")
-    for name in names:
-        run = subprocess.run(["rt", verb], cwd=ROOT / "crates" / name, text=True, stdin=subprocess.DEVNULL, stdout=subprocess.PIPE, stderr=subprocess.STDOUT)
-        if run.returncode:
-            print("\n".join(run.stdout.splitlines()[-12:]), file=sys.stderr)
-            stop(f"`rt {verb}` of crate {name} failed (above)")
+    run = subprocess.run([ROOT / "tools/build", *names], stdout=subprocess.PIPE, stderr=subprocess.STDOUT, text=True)
+    if run.returncode:
+        print("\n".join(run.stdout.splitlines()[-12:]), file=sys.stderr)
+        stop(f"`tools/build {' '.join(names)}` failed (above)")
