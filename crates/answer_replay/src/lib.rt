@@ -2,11 +2,13 @@
 // many differ.
 #![tactic(auto)]
 
-ghost use Rattle.std.specs.Prelude.{◌≡◌, ◌≤◌, length};
+ghost use Rattle.std.specs.Prelude.{◌≡◌, ◌≤◌, length, IfOk};
 ghost use Rattle.replay.specs.Case.{case_count, Replayed};
 
 use definition::{MAX_CODE, MAX_OUTCOMES};
 use replay::INPUT_ROOM;
+use std::io;
+use std::io::{Read, Write};
 use text::{LISTING_ROOM, TEXT_ROOM};
 
 // Whose answers they are.
@@ -30,13 +32,13 @@ const MAX_DEPTH: u64 = 18446744073709551615;
 fn is_listed(input: &[u8], expected: &[u8]) -> bool {
     let mut out = [0u8; LISTING_ROOM];
     let n = listing_answer::answer(input, &mut out);
-    check::same(&out[..n], expected)
+    &out[..n] == expected
 }
 
 fn is_passed(input: &[u8], expected: &[u8]) -> bool {
     let mut out = [0u8; TEXT_ROOM];
     let n = passes_answer::answer(input, &mut out);
-    check::same(&out[..n], expected)
+    &out[..n] == expected
 }
 
 fn digit(b: u8) -> u64
@@ -91,7 +93,7 @@ fn is_checked(sheet: &[u8], code: &[u8], depth: u64, expected: &[u8]) -> bool {
     if used > ANSWER_ROOM {
         return false;
     }
-    check::same(&out[..used], expected)
+    &out[..used] == expected
 }
 
 fn bit(b: bool) -> u64 {
@@ -118,7 +120,7 @@ fn is_measured(sheet: &[u8], code: &[u8], depth: u64, expected: &[u8]) -> bool {
     if used > MEASURED_ROOM {
         return false;
     }
-    check::same(&out[..used], expected)
+    &out[..used] == expected
 }
 
 // An image's input is three lines: the sheet, the depth, and the code's bytes by commas.
@@ -152,9 +154,9 @@ fn is_answered(asked: Asked, input: &[u8], expected: &[u8]) -> bool {
     }
 }
 
-// How many cases there were is answered; which of them differ is printed.
-pub fn replay_all(asked: Asked, input: &[u8]) -> u64
-    ensures { result ≡ case_count input.now }
+// How many cases there were is answered; which of them differ is printed. An error is the writer's.
+pub fn replay_all<W: Write>(out: &mut W, asked: Asked, input: &[u8]) -> io::Result<u64>
+    ensures { IfOk result (λ n. n ≡ case_count input.now) }
 {
     let mut at = 0;
     let mut cases = 0u64;
@@ -166,17 +168,17 @@ pub fn replay_all(asked: Asked, input: &[u8]) -> u64
         let stop = case.stop;
         cases += 1;
         let same = is_answered(asked, &input[at..end], &input[answer..stop]);
-        differ += replay::missed(cases, same);
+        differ += replay::missed(out, cases, same)?;
         at = case.next;
     }
-    replay::total(cases, differ)
+    replay::total(out, cases, differ)
 }
 
-// The stored answers on standard input, as far as there is room for them: how many cases there were.
-pub fn replay_input(asked: Asked) -> u64
-    ensures { Replayed result }
+// The stored answers that a reader gives, as far as there is room for them: how many cases there were. An error is the reader's or the writer's.
+pub fn replay_input<R: Read, W: Write>(from: &mut R, out: &mut W, asked: Asked) -> io::Result<u64>
+    ensures { IfOk result (λ n. Replayed (R.remaining from.old) (R.remaining from.new) n) }
 {
     let mut input = [0u8; INPUT_ROOM];
-    let n = io::read_full(0, &mut input);
-    replay_all(asked, &input[..n])
+    let n = replay::read_full(from, &mut input)?;
+    replay_all(out, asked, &input[..n])
 }

@@ -7,6 +7,9 @@ ghost use Rattle.std.specs.Prelude.{◌≤◌};
 use compile::call::Answer;
 use definition::{ENTRY_SIZE, MAX_CODE, MAX_CONSTANTS, MAX_LINES};
 use field::Read;
+use replay::read_full;
+use std::io;
+use std::io::Write;
 use text::TEXT_ROOM;
 
 // More than the list takes: a case that was cut off would differ.
@@ -114,7 +117,7 @@ fn less(n: usize) -> usize {
 // A case whose line `n name` stands from `at` to `end` of the input.
 fn named(at: usize, end: usize) -> Case {
     Case {
-        from: std::num::wrapping_add_usize(at, 2),
+        from: at.wrapping_add(2),
         to: end,
         rules: 0,
         program: 0,
@@ -223,7 +226,7 @@ fn is_told(
     if used > out.len() {
         return false;
     }
-    check::same(&out[..used], expected)
+    &out[..used] == expected
 }
 
 // The answer is the one that is expected, and behind it every output is 0.
@@ -324,9 +327,9 @@ fn is_passed(c: Case, text: &[u8]) -> bool {
 
 // ---- the list
 
-fn print(n: u64, last: u8) {
-    io::print_decimal(1, n);
-    io::write_all(1, &[last]);
+fn print<W: Write>(out: &mut W, n: u64, last: u8) -> io::Result<()> {
+    write!(out, "{n}")?;
+    out.write_all(&[last])
 }
 
 // 1 for a line that runs a case.
@@ -335,27 +338,27 @@ fn ran(key: u8) -> u64 {
 }
 
 // 1 for a case that is run and differs, whose name is printed.
-fn missed(key: u8, c: Case, text: &[u8], input: &[u8]) -> u64 {
+fn missed<W: Write>(out: &mut W, key: u8, c: Case, text: &[u8], input: &[u8]) -> io::Result<u64> {
     if key != b'.' {
-        return 0;
+        return Ok(0);
     }
     if is_passed(c, text) {
-        return 0;
+        return Ok(0);
     }
     let from = c.from;
     let to = c.to;
     if to > input.len() {
-        return 1;
+        return Ok(1);
     }
     if from > to {
-        return 1;
+        return Ok(1);
     }
-    io::write_all(1, &input[from..to]);
-    io::write_all(1, b"\n");
-    1
+    out.write_all(&input[from..to])?;
+    out.write_all(b"\n")?;
+    Ok(1)
 }
 
-fn replay(input: &[u8], text: &mut [u8]) {
+fn replay<W: Write>(out: &mut W, input: &[u8], text: &mut [u8]) -> io::Result<()> {
     let mut at = 0;
     let mut cases = 0u64;
     let mut differ = 0u64;
@@ -363,18 +366,18 @@ fn replay(input: &[u8], text: &mut [u8]) {
     while at < input.len() {
         let end = field::line_end(input, at);
         let key = input[at];
-        cases = std::num::wrapping_add_u64(cases, ran(key));
-        differ = std::num::wrapping_add_u64(differ, missed(key, c, text, input));
+        cases = cases.wrapping_add(ran(key));
+        differ = differ.wrapping_add(missed(out, key, c, text, input)?);
         c = read_line(&input[at..end], at, end, text, c);
         at = end + 1;
     }
-    print(cases, b',');
-    print(differ, b'\n');
+    print(out, cases, b',')?;
+    print(out, differ, b'\n')
 }
 
-fn main() {
+fn main(rt: HostRuntime) -> io::Result<()> {
     let mut input = [0u8; INPUT_ROOM];
-    let n = io::read_full(0, &mut input);
+    let n = read_full(&mut rt.stdin(), &mut input)?;
     let mut text = [0u8; CASE_ROOM];
-    replay(&input[..n], &mut text);
+    replay(&mut rt.stdout(), &input[..n], &mut text)
 }

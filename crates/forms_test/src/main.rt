@@ -23,6 +23,8 @@ use line_map::{LineEntry, Pos};
 use opcode::CompareOp;
 use opcode::sheet::TABLE_SIZE;
 use program::Cursor;
+use std::io;
+use std::io::Write;
 
 // ---- a step with a local emitter lent to it
 
@@ -156,39 +158,39 @@ fn remap_two(a: LineEntry, b: LineEntry, moves: &[u16], end: usize) -> [LineEntr
 
 // ---- what is run
 
-fn print(n: u64, last: u8) {
-    io::print_decimal(1, n);
-    io::write_all(1, &[last]);
+fn print<W: Write>(out: &mut W, n: u64, last: u8) -> io::Result<()> {
+    write!(out, "{n}")?;
+    out.write_all(&[last])
 }
 
-fn print_byte(b: u8) {
-    io::print_hex(1, b as u64, 2);
-    io::write_all(1, b" ");
+fn print_byte<W: Write>(out: &mut W, b: u8) -> io::Result<()> {
+    write!(out, "{b:02x} ")
 }
 
-fn print_bytes(bytes: &[u8]) {
+fn print_bytes<W: Write>(out: &mut W, bytes: &[u8]) -> io::Result<()> {
     let mut i = 0;
     while i < bytes.len() {
-        print_byte(bytes[i]);
+        print_byte(out, bytes[i])?;
         i += 1;
     }
-    io::write_all(1, b"\n");
+    out.write_all(b"\n")
 }
 
 // The code, and where each branch stands and leads.
-fn print_emitted(e: Emitter, code: &[u8], book: &[u16])
+fn print_emitted<W: Write>(out: &mut W, e: Emitter, code: &[u8], book: &[u16]) -> io::Result<()>
     requires fine { Fine e }
     requires code_len { length code.now ≡ max_code }
     requires book_len { length book.now ≡ book_size }
 {
-    print_bytes(&code[..e.size]);
+    print_bytes(out, &code[..e.size])?;
     let mut n = 0;
     while n < e.patches {
         let patch = book::patch_at(book, n);
-        print(patch.instruction_offset as u64, b',');
-        print(e.bound_label(book, patch.label) as u64, b'\n');
+        print(out, patch.instruction_offset as u64, b',')?;
+        print(out, e.bound_label(book, patch.label) as u64, b'\n')?;
         n += 1;
     }
+    Ok(())
 }
 
 fn start() -> Emitter
@@ -253,20 +255,20 @@ fn loop_statement(
     bind_label(d, book, end.label)
 }
 
-fn by_steps(sheet: &[u8]) {
+fn by_steps<W: Write>(out: &mut W, sheet: &[u8]) -> io::Result<()> {
     let mut code = [0u8; MAX_CODE];
     let mut book = [0u16; BOOK_SIZE];
     let mut pool = [0u32; POOL_SIZE];
     let lent = Lent { emitter: start() };
     let done = loop_statement(lent, sheet, &mut code, &mut book, &mut pool);
-    print_emitted(done.emitter, &code, &book);
+    print_emitted(out, done.emitter, &code, &book)
 }
 
 // ---- the statements of a text: with the emitter lent, and by the core
 
-fn by_reference(sheet: &[u8], text: &[u8], n: usize) {
+fn by_reference<W: Write>(out: &mut W, sheet: &[u8], text: &[u8], n: usize) -> io::Result<()> {
     if text.len() > MAX_PROGRAM {
-        return;
+        return Ok(());
     }
     let mut code = [0u8; MAX_CODE];
     let mut book = [0u16; BOOK_SIZE];
@@ -277,12 +279,12 @@ fn by_reference(sheet: &[u8], text: &[u8], n: usize) {
         lent, text, sheet, &mut code, &mut book, &mut pool, 2, n, top,
     );
     let done = w.lent;
-    print_emitted(done.emitter, &code, &book);
+    print_emitted(out, done.emitter, &code, &book)
 }
 
-fn by_value(sheet: &[u8], text: &[u8], n: usize) {
+fn by_value<W: Write>(out: &mut W, sheet: &[u8], text: &[u8], n: usize) -> io::Result<()> {
     if text.len() > MAX_PROGRAM {
-        return;
+        return Ok(());
     }
     let mut code = [0u8; MAX_CODE];
     let mut book = [0u16; BOOK_SIZE];
@@ -299,16 +301,16 @@ fn by_value(sheet: &[u8], text: &[u8], n: usize) {
         start(),
         top,
     );
-    print_emitted(w.emitter, &code, &book);
+    print_emitted(out, w.emitter, &code, &book)
 }
 
 // ---- entries
 
-fn print_entry(e: LineEntry) {
+fn print_entry<W: Write>(out: &mut W, e: LineEntry) -> io::Result<()> {
     let pos = e.pos;
-    print(e.offset as u64, b',');
-    print(pos.line as u64, b',');
-    print(pos.column as u64, b'\n');
+    print(out, e.offset as u64, b',')?;
+    print(out, pos.line as u64, b',')?;
+    print(out, pos.column as u64, b'\n')
 }
 
 fn entry(offset: u16, line: u16) -> LineEntry {
@@ -322,33 +324,40 @@ fn entry(offset: u16, line: u16) -> LineEntry {
 }
 
 // Two entries remapped as a run of structs, and then as numbers, with the count that is kept.
-fn remapped(a: LineEntry, b: LineEntry, moves: &[u16], end: usize) {
+fn remapped<W: Write>(
+    out: &mut W,
+    a: LineEntry,
+    b: LineEntry,
+    moves: &[u16],
+    end: usize,
+) -> io::Result<()> {
     let es = remap_two(a, b, moves, end);
-    print_entry(es[0]);
-    print_entry(es[1]);
+    print_entry(out, es[0])?;
+    print_entry(out, es[1])?;
     let mut lines = [0u16; 2 * ENTRY_SIZE];
     let behind = line_map::put_entry(&mut lines, 0, a);
     line_map::put_entry(&mut lines, behind, b);
-    let mut out = [0u16; 2 * ENTRY_SIZE];
-    let n = optimize::remap_line_map(moves, end, &lines, &mut out);
-    print_entry(line_map::entry_at(&out, 0));
-    print_entry(line_map::entry_at(&out, ENTRY_SIZE));
-    print(n as u64, b'\n');
+    let mut mapped = [0u16; 2 * ENTRY_SIZE];
+    let n = optimize::remap_line_map(moves, end, &lines, &mut mapped);
+    print_entry(out, line_map::entry_at(&mapped, 0))?;
+    print_entry(out, line_map::entry_at(&mapped, ENTRY_SIZE))?;
+    print(out, n as u64, b'\n')
 }
 
-fn main() {
+fn main(rt: HostRuntime) -> io::Result<()> {
     let mut sheet = [0u8; TABLE_SIZE];
     opcode::sheet::read_sheet(
         b"1,2,3,4,5,6,7,8,9,10,11,12,13,14,15,16,17,18,19,20,21,22,23,24,25,26,27,1,2,3,4,5,6\n",
         &mut sheet,
     );
     let text = b"L,1,1,0,3,0\nA,1,1,0\nK,7\nA,1,1,1\nD,0\nI,1,1,1,0\nC,5\nD,0\nK,5\nX,1,1,0\n";
-    by_steps(&sheet);
-    by_reference(&sheet, text, 1);
-    by_value(&sheet, text, 1);
+    let out = &mut rt.stdout();
+    by_steps(out, &sheet)?;
+    by_reference(out, &sheet, text, 1)?;
+    by_value(out, &sheet, text, 1)?;
     let moves = [0u16, 9, 0, 2, 0, 0, 4];
-    remapped(entry(0, 1), entry(3, 2), &moves, 4);
-    remapped(entry(0, 1), entry(2, 2), &moves, 4);
-    remapped(entry(1, 1), entry(3, 2), &moves, 4);
-    remapped(entry(3, 1), entry(6, 2), &moves, 4);
+    remapped(out, entry(0, 1), entry(3, 2), &moves, 4)?;
+    remapped(out, entry(0, 1), entry(2, 2), &moves, 4)?;
+    remapped(out, entry(1, 1), entry(3, 2), &moves, 4)?;
+    remapped(out, entry(3, 1), entry(6, 2), &moves, 4)
 }

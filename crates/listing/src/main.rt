@@ -4,22 +4,24 @@
 #![tactic(auto)]
 
 use input_reader::{PROGRAM_ROOM, Phase, RULE_ROOM, Reader, SHEET_ROOM};
+use std::io::Write;
 use text::LISTING_ROOM;
 
 // The text of the answer; false where it could not be written.
-fn print(reader: Reader, sheet: &[u8], rules: &[u8], program: &[u8]) -> bool {
+fn print<W: Write>(to: &mut W, reader: Reader, sheet: &[u8], rules: &[u8], program: &[u8]) -> bool {
     let mut out = [0u8; LISTING_ROOM];
     let n = listing_answer::finish(reader, sheet, rules, program, &mut out);
-    io::write_all(1, &out[..n])
+    to.write_all(&out[..n]).is_ok()
 }
 
-fn main() {
+fn main(rt: HostRuntime) {
     let mut sheet = [0u8; SHEET_ROOM];
     let mut rules = [0u8; RULE_ROOM];
     let mut program = [0u8; PROGRAM_ROOM];
     let mut offsets = [0u16; 0];
     let mut entries = [0u16; 0];
     let turn = standard_input::read_all(
+        &mut rt.stdin(),
         Phase::ProgramText,
         &mut sheet,
         &mut rules,
@@ -28,10 +30,10 @@ fn main() {
         &mut entries,
     );
     if turn.failed {
-        io::write_all(2, b"listing: standard input cannot be read\n");
+        let _ = rt.eprintln("listing: standard input cannot be read");
         return;
     }
-    if !print(turn.reader, &sheet, &rules, &program) {
-        io::write_all(2, b"listing: standard output cannot be written\n");
+    if !print(&mut rt.stdout(), turn.reader, &sheet, &rules, &program) {
+        let _ = rt.eprintln("listing: standard output cannot be written");
     }
 }

@@ -2,7 +2,9 @@
 #![tactic(auto)]
 
 use answer_replay::Asked;
+use std::io;
 
-fn main() {
-    answer_replay::replay_input(Asked::Listing);
+fn main(rt: HostRuntime) -> io::Result<()> {
+    answer_replay::replay_input(&mut rt.stdin(), &mut rt.stdout(), Asked::Listing)?;
+    Ok(())
 }

@@ -4,10 +4,12 @@
 #![tactic(auto)]
 
 use input_reader::{CODE_ROOM, ENTRY_ROOM, OFFSET_ROOM, Phase, RULE_ROOM, Reader, SHEET_ROOM};
+use std::io::Write;
 use text::TEXT_ROOM;
 
 // The text of the answer; false where it could not be written.
-fn print(
+fn print<W: Write>(
+    to: &mut W,
     reader: Reader,
     sheet: &[u8],
     rules: &[u8],
@@ -17,16 +19,17 @@ fn print(
 ) -> bool {
     let mut out = [0u8; TEXT_ROOM];
     let n = passes_answer::finish(reader, sheet, rules, code, offsets, entries, &mut out);
-    io::write_all(1, &out[..n])
+    to.write_all(&out[..n]).is_ok()
 }
 
-fn main() {
+fn main(rt: HostRuntime) {
     let mut sheet = [0u8; SHEET_ROOM];
     let mut rules = [0u8; RULE_ROOM];
     let mut code = [0u8; CODE_ROOM];
     let mut offsets = [0u16; OFFSET_ROOM];
     let mut entries = [0u16; ENTRY_ROOM];
     let turn = standard_input::read_all(
+        &mut rt.stdin(),
         Phase::CodeLine,
         &mut sheet,
         &mut rules,
@@ -35,10 +38,18 @@ fn main() {
         &mut entries,
     );
     if turn.failed {
-        io::write_all(2, b"passes: standard input cannot be read\n");
+        let _ = rt.eprintln("passes: standard input cannot be read");
         return;
     }
-    if !print(turn.reader, &sheet, &rules, &code, &offsets, &entries) {
-        io::write_all(2, b"passes: standard output cannot be written\n");
+    if !print(
+        &mut rt.stdout(),
+        turn.reader,
+        &sheet,
+        &rules,
+        &code,
+        &offsets,
+        &entries,
+    ) {
+        let _ = rt.eprintln("passes: standard output cannot be written");
     }
 }

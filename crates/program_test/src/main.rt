@@ -6,6 +6,11 @@ ghost use Rattle.std.specs.Prelude.{◌≤◌, ◌<◌, length};
 
 use field::Read;
 use program::Checked;
+use std::io;
+use std::io::Write;
+
+// More than the stored texts take: a text that was cut off would be answered otherwise.
+const INPUT_ROOM: usize = 65536;
 
 // A chunk of a text: its bytes stand from `from` to `to` of the input, and are to be repeated.
 #[derive(Clone, Copy)]
@@ -97,17 +102,17 @@ fn put_all(text: &mut [u8], used: usize, bytes: &[u8], times: usize) -> usize
     at
 }
 
-fn print(n: u64, last: u8) {
-    io::print_decimal(1, n);
-    io::write_all(1, &[last]);
+fn print<W: Write>(out: &mut W, n: u64, last: u8) -> io::Result<()> {
+    write!(out, "{n}")?;
+    out.write_all(&[last])
 }
 
-fn answer(text: &[u8]) {
+fn answer<W: Write>(out: &mut W, text: &[u8]) -> io::Result<()> {
     let checked = program::check_program(text);
     match checked {
         Checked::Refused { number, place } => {
-            print(number as u64, b',');
-            print(place as u64, b'\n');
+            print(out, number as u64, b',')?;
+            print(out, place as u64, b'\n')
         }
         Checked::Accepted {
             variables,
@@ -115,18 +120,18 @@ fn answer(text: &[u8]) {
             pos,
             next,
         } => {
-            print(0, b',');
-            print(variables as u64, b',');
-            print(statements as u64, b',');
-            print(pos.line as u64, b',');
-            print(pos.column as u64, b',');
-            print(next as u64, b'\n');
+            print(out, 0, b',')?;
+            print(out, variables as u64, b',')?;
+            print(out, statements as u64, b',')?;
+            print(out, pos.line as u64, b',')?;
+            print(out, pos.column as u64, b',')?;
+            print(out, next as u64, b'\n')
         }
     }
 }
 
 // Every text of the input, made in `text`.
-fn answer_all(input: &[u8], text: &mut [u8]) {
+fn answer_all<W: Write>(out: &mut W, input: &[u8], text: &mut [u8]) -> io::Result<()> {
     let mut at = 0;
     let mut used = 0;
     while at < input.len() {
@@ -134,18 +139,19 @@ fn answer_all(input: &[u8], text: &mut [u8]) {
         let from = c.from;
         let to = c.to;
         if c.times == 0 {
-            answer(&text[..used]);
+            answer(out, &text[..used])?;
             used = 0;
         } else {
             used = put_all(text, used, &input[from..to], c.times);
         }
         at = to;
     }
+    Ok(())
 }
 
-fn main() {
-    let mut input = io::large_buffer();
-    let n = io::read_full(0, &mut input);
+fn main(rt: HostRuntime) -> io::Result<()> {
+    let mut input = [0u8; INPUT_ROOM];
+    let n = replay::read_full(&mut rt.stdin(), &mut input)?;
     let mut text = [0u8; 70000];
-    answer_all(&input[..n], &mut text);
+    answer_all(&mut rt.stdout(), &input[..n], &mut text)
 }

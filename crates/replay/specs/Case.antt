@@ -1,5 +1,7 @@
 -- Stored answers as bytes: where the parts of a case lie, and what a case counts for.
-use Rattle.std.specs.Prelude.{ℕ, ◌+◌, ◌≤◌, ◌<◌, min, zero, suc, ◌≡◌, Bool, true, false, ◌&&◌, List, [], ◌∷◌, eqb, ltb, length, drop}
+use Rattle.std.specs.Prelude.{ℕ, ◌+◌, ◌≤◌, ◌<◌, min, zero, suc, ◌≡◌, Option, Bool, true, false, ◌&&◌, List, [], ◌∷◌, ◌++◌, eqb, ltb, length, drop}
+use Rattle.std.specs.Fmt.{decimal}
+use Rattle.std.specs.Io.KnownBytes.{Consumes, IsAtEnd}
 use Rattle.replay.specs.declared.Case.{Case}
 
 -- whether a text begins with these bytes
@@ -48,16 +50,27 @@ cases_from (suc n) text at = elim (ltb at (length text)) [ true ↦ suc (cases_f
 unfoldable pub case_count : List ℕ → ℕ
 case_count text = cases_from (length text) text 0
 
--- so many cases has some text that fits the room: which one standard input gave is outside any contract
-pub record Replayed (cases : ℕ) : Type 0 where
+-- so many cases has the text that a reader gave, which fits the room, and is all that it had where the room is not full. What is known of a reader's bytes is so
+-- before and after; of standard input's nothing is known, so which text it gave is open
+pub record Replayed (before after : Option (List ℕ)) (cases : ℕ) : Type 0 where
   pub text : List ℕ
   pub within : length text ≤ input_room
+  pub given : Consumes before after text
+  pub all : length text < input_room → IsAtEnd after
   pub count : cases ≡ case_count text
 
 -- what a case counts for among those that differ
 unfoldable pub missing : Bool → ℕ
 missing true = 0
 missing false = 1
+
+-- what is printed of a case, and at the end
+unfoldable pub missed_line : Bool → ℕ → List ℕ
+missed_line true number = []
+missed_line false number = decimal number ++ lf ∷ []
+
+abbrev pub total_line : ℕ → ℕ → List ℕ
+total_line cases differ = decimal cases ++ 44 ∷ decimal differ ++ lf ∷ []
 
 -- the parts lie in n bytes, from a place on, and the next case lies ahead
 pub record Parts (n at : ℕ) (c : Case) : Type 0 where

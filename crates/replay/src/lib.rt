@@ -2,8 +2,14 @@
 // number of each that differs.
 #![tactic(auto)]
 
-ghost use Rattle.std.specs.Prelude.{◌≡◌, ◌≤◌, ◌<◌, length, drop};
-ghost use Rattle.replay.specs.Case.{begins, separator, part_end, behind, case_at, missing};
+ghost use Rattle.std.specs.Prelude.{◌≡◌, ◌≤◌, ◌<◌, [], ◌∷◌, ◌++◌, false, length, take, drop, IfOk, OnOk, OnErr};
+ghost use Rattle.std.specs.Fmt.{decimal};
+ghost use Rattle.std.specs.Io.{ReadsAtMost};
+ghost use Rattle.std.specs.Io.KnownBytes.{Appends, Consumes, IsAtEnd};
+ghost use Rattle.replay.specs.Case.{begins, separator, part_end, behind, case_at, missing, missed_line, total_line};
+
+use std::io;
+use std::io::{Read, Write};
 
 // More than the stored answers of one program take: a case that was cut off would differ.
 pub const INPUT_ROOM: usize = 700000;
@@ -84,27 +90,51 @@ pub fn case_at(input: &[u8], at: usize) -> Case
     }
 }
 
-fn print(n: u64, last: u8) {
-    io::print_decimal(1, n);
-    io::write_all(1, &[last]);
+// Reads until `buf` is full or the input ends, and answers how many bytes it put at the start of `buf`. An error is the reader's.
+pub fn read_full<R: Read>(input: &mut R, buf: &mut [u8]) -> io::Result<usize>
+    ensures within { ReadsAtMost result buf.new }
+    ensures bytes { IfOk result (λ n. Consumes (R.remaining input.old) (R.remaining input.new) (take n buf.new)) }
+    ensures end { IfOk result (λ n. n < length buf.new → IsAtEnd (R.remaining input.new)) }
+{
+    let mut done = 0;
+    while done < buf.len() {
+        let n = input.read(&mut buf[done..])?;
+        if n == 0 {
+            return Ok(done);
+        }
+        done += n;
+    }
+    Ok(done)
 }
 
-// 1 for a case that differs, whose number is printed.
-pub fn missed(number: u64, same: bool) -> u64
-    ensures { result ≡ missing same }
+// A number, and the byte behind it.
+fn print<W: Write>(out: &mut W, n: u64, last: u8) -> io::Result<()>
+    ensures printed { OnOk result (Appends (W.contents out.old) (W.contents out.new) (decimal n ++ last ∷ [])) }
+{
+    write!(out, "{n}")?;
+    out.write_all(&[last])
+}
+
+// 1 for a case that differs, whose number is printed. An error is the writer's, and comes only there.
+#[tactic(auto, unfolding(crate::specs::Case::missing, crate::specs::Case::missed_line))]
+pub fn missed<W: Write>(out: &mut W, number: u64, same: bool) -> io::Result<u64>
+    ensures ok { IfOk result (λ n. n ≡ missing same) }
+    ensures printed { OnOk result (Appends (W.contents out.old) (W.contents out.new) (missed_line same number)) }
+    ensures err { OnErr result (same ≡ false) }
 {
     if same {
-        return 0;
+        return Ok(0);
     }
-    print(number, b'\n');
-    1
+    print(out, number, b'\n')?;
+    Ok(1)
 }
 
-// How many cases there were, which is answered too, and how many differ.
-pub fn total(cases: u64, differ: u64) -> u64
-    ensures { result ≡ cases }
+// How many cases there were, which is answered too, and how many differ. An error is the writer's.
+pub fn total<W: Write>(out: &mut W, cases: u64, differ: u64) -> io::Result<u64>
+    ensures ok { IfOk result (λ n. n ≡ cases) }
+    ensures printed { OnOk result (Appends (W.contents out.old) (W.contents out.new) (total_line cases differ)) }
 {
-    print(cases, b',');
-    print(differ, b'\n');
-    cases
+    print(out, cases, b',')?;
+    print(out, differ, b'\n')?;
+    Ok(cases)
 }

@@ -1,4 +1,4 @@
-// Standard input, read to its end by the reader of the listing's and the passes program's input.
+// An input, as standard input, read to its end by the reader of the listing's and the passes program's input.
 #![tactic(auto)]
 
 ghost use Rattle.std.specs.Prelude.{◌-◌, ◌^◌};
@@ -6,6 +6,10 @@ ghost use Rattle.input_reader.specs.View.{phase_view, state_view, begun};
 ghost use Rattle.standard_input.specs.Turns.{Turned};
 
 use input_reader::{Phase, Reader};
+use std::io::Read;
+
+// Bytes that a read is asked for.
+const READ_SIZE: usize = 65536;
 
 // What was read, and whether there may be more; or that a read failed.
 #[derive(Clone, Copy)]
@@ -16,7 +20,8 @@ pub struct Turn {
 }
 
 // One read.
-fn read_some(
+fn read_some<R: Read>(
+    input: &mut R,
     follows: Phase,
     reader: Reader,
     sheet: &mut [u8],
@@ -25,31 +30,39 @@ fn read_some(
     offsets: &mut [u16],
     entries: &mut [u16],
 ) -> Turn
-    ensures { Turned (phase_view follows) (state_view reader sheet.old rules.old code.old offsets.old entries.old) (state_view result.reader sheet.new rules.new code.new offsets.new entries.new) 1 result.more result.failed }
+    ensures { Turned (R.remaining input.old) (R.remaining input.new) (phase_view follows) (state_view reader sheet.old rules.old code.old offsets.old entries.old) (state_view result.reader sheet.new rules.new code.new offsets.new entries.new) 1 result.more result.failed }
 {
-    let mut bytes = io::large_buffer();
-    let got = libc::read(0, &mut bytes);
-    let n = io::count(got, &bytes);
-    let on = input_reader::feed(
-        follows,
-        reader,
-        &bytes[..n],
-        sheet,
-        rules,
-        code,
-        offsets,
-        entries,
-    );
-    Turn {
-        reader: on,
-        more: n > 0,
-        failed: got < 0,
+    let mut bytes = [0u8; READ_SIZE];
+    match input.read(&mut bytes) {
+        Ok(n) => {
+            let on = input_reader::feed(
+                follows,
+                reader,
+                &bytes[..n],
+                sheet,
+                rules,
+                code,
+                offsets,
+                entries,
+            );
+            Turn {
+                reader: on,
+                more: n > 0,
+                failed: false,
+            }
+        }
+        Err(_) => Turn {
+            reader: reader,
+            more: false,
+            failed: true,
+        },
     }
 }
 
 // All of the input: a proved loop has to end, and nothing says that the input does, so the turns are counted down from a number that no run
 // uses up. `more` is true only where it was used up, so of an input that has no more bytes than that it is false.
-pub fn read_all(
+pub fn read_all<R: Read>(
+    input: &mut R,
     follows: Phase,
     sheet: &mut [u8],
     rules: &mut [u8],
@@ -57,7 +70,7 @@ pub fn read_all(
     offsets: &mut [u16],
     entries: &mut [u16],
 ) -> Turn
-    ensures { Turned (phase_view follows) (begun sheet.old rules.old code.old offsets.old entries.old) (state_view result.reader sheet.new rules.new code.new offsets.new entries.new) (2 ^ 64 - 1) result.more result.failed }
+    ensures { Turned (R.remaining input.old) (R.remaining input.new) (phase_view follows) (begun sheet.old rules.old code.old offsets.old entries.old) (state_view result.reader sheet.new rules.new code.new offsets.new entries.new) (2 ^ 64 - 1) result.more result.failed }
 {
     let start = input_reader::start();
     let mut turn = Turn {
@@ -70,7 +83,16 @@ pub fn read_all(
         if !turn.more {
             return turn;
         }
-        turn = read_some(follows, turn.reader, sheet, rules, code, offsets, entries);
+        turn = read_some(
+            input,
+            follows,
+            turn.reader,
+            sheet,
+            rules,
+            code,
+            offsets,
+            entries,
+        );
         turns -= 1;
     }
     turn

@@ -5,4 +5,4 @@ use lib.Seq.{length-take-le}
 use Rattle.forms_test.proofs.print_emitted.Goals as goal
 
 pub slice_bounds-print_bytes-end : goal.slice_bounds-print_bytes-end
-slice_bounds-print_bytes-end c = sym (length-take-le _ _ (omega (arith, c.requires.fine.size, c.requires.code_len)))
+slice_bounds-print_bytes-end g c = sym (length-take-le _ _ (omega (arith, c.requires.fine.size, c.requires.code_len)))
