@@ -1,5 +1,5 @@
 /* Mezhukan for C: a dial program turned into branch code, rewriting called alone, the check of an image, and the slowest call. The library is
- * target/staticlib/libmezhukan.a (`rt staticlib mezhukan`, x86-64); what is proved of the four functions stands in crates/mezhukan/src/lib.rt.
+ * target/staticlib/libmezhukan.a (`tools/build mezhukan`, x86-64); what is proved of the four functions stands in crates/mezhukan/src/lib.rt.
  *
  * A list is a pointer and a count of elements. Nothing is required of the contents of any list, nor of its length. What C must see to itself:
  * a pointer is not null and is aligned for its elements, even where the count is 0; so many elements stand there; no output overlaps

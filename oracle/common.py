@@ -55,10 +55,10 @@ def made(script, *words):
     return Path(run.stdout.strip())
 
 
-def proved(*words):
-    """Runs rt on our crates, as `rt check passes`."""
+def proved(*names):
+    """Proves crates and builds what they are (tools/build)."""
     needs("rt")
-    run = subprocess.run(["rt", *words], cwd=ROOT, stdout=subprocess.PIPE, stderr=subprocess.STDOUT, text=True)
+    run = subprocess.run([ROOT / "tools/build", *names], stdout=subprocess.PIPE, stderr=subprocess.STDOUT, text=True)
     if run.returncode:
         print("\n".join(run.stdout.splitlines()[-12:]), file=sys.stderr)
-        stop(f"`rt {' '.join(words)}` failed (above)")
+        stop(f"`tools/build {' '.join(names)}` failed (above)")

@@ -20,7 +20,7 @@ fn link() -> Result<(), String> {
         return Err(format!("the library is made for x86_64, and this is for {arch}"));
     }
     let folder = env::var(VARIABLE).map_err(|_| {
-        format!("set {VARIABLE} to the folder of {LIBRARY}: `rt staticlib mezhukan` writes it to target/staticlib of the repository")
+        format!("set {VARIABLE} to the folder of {LIBRARY}: `tools/build mezhukan` writes it to target/staticlib of the repository")
     })?;
     if !Path::new(&folder).is_absolute() {
         return Err(format!("{VARIABLE} must be an absolute path, and is {folder}"));

@@ -1,6 +1,6 @@
 /* A dial string compiled through the library, and its listing. From the repository's root:
  *
- *     rt staticlib mezhukan
+ *     tools/build mezhukan
  *     cc -std=c11 -I include -o target/dial examples/c/dial.c target/staticlib/libmezhukan.a
  *     target/dial < examples/dial.txt
  *

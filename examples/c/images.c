@@ -1,6 +1,6 @@
 /* A file of images checked through the library. From the repository's root:
  *
- *     rt staticlib mezhukan
+ *     tools/build mezhukan
  *     cc -std=c11 -I include -o target/images examples/c/images.c target/staticlib/libmezhukan.a
  *     target/images < examples/images.txt
  *

@@ -1,6 +1,6 @@
 /* The slowest calls of a file of images, through the library. From the repository's root:
  *
- *     rt staticlib mezhukan
+ *     tools/build mezhukan
  *     cc -std=c11 -I include -o target/slowest examples/c/slowest.c target/staticlib/libmezhukan.a
  *     target/slowest < examples/slowest.txt
  *

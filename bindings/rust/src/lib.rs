@@ -18,7 +18,7 @@
 //!
 //! # Linking
 //!
-//! The library is a static one for x86-64, which `rt staticlib mezhukan` writes to `target/staticlib/libmezhukan.a`. The environment
+//! The library is a static one for x86-64, which `tools/build mezhukan` writes to `target/staticlib/libmezhukan.a`. The environment
 //! variable `MEZHUKAN_LIB` names its folder, as an absolute path, when this crate is built.
 //!
 //! # Stack, heap and threads

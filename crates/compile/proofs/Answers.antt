@@ -25,7 +25,6 @@ use Rattle.runs.proofs.Finished.{each-so, program-bound, program-inside}
 use Rattle.compile.specs.declared.FinalizedFunction as ours
 use Rattle.compile.specs.declared.Finalized.{Finalized}
 use Rattle.compile.specs.declared.Finalized.TheVariants.{Done, Far}
-use Rattle.compile.specs.declared.call.Answer.{Answer}
 use Rattle.compile.specs.declared.call.Outcome.{Outcome}
 use Rattle.compile.specs.declared.call.Outcome.TheVariants.{Refused, Finished}
 use Rattle.compile.specs.View.{Patchable, Finalizes}

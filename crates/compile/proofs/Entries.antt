@@ -1,14 +1,12 @@
 -- The entry: 14, 7, 9, 1 and the lines before emission, and what it lends.
-use Rattle.std.proofs.Common.{◌≡◌, ℕ, ◌+◌, ◌-◌, ◌≤◌, true, false, List, ◌++◌, length, take, drop, sym, refl, ap, ◌∙◌, arith, length-append, length-drop, length-take-le}
+use Rattle.std.proofs.Common.{◌≡◌, ℕ, ◌≤◌, true, false, List, ◌++◌, length, take, drop, sym, refl, ap, ◌∙◌, arith, length-append, length-drop, length-take-le}
 use lib.Seq.{take-append-le}
 use Rattle.definition.specs.Limits.{max_code, max_constants, max_nesting, bad_sheet, output_short}
 use Rattle.definition.specs.Res.{Res, ok, refuse, ◌>>=◌, ◌>>◌, demand, given}
 use Rattle.definition.specs.Opcode.{Sheet}
 use Rattle.definition.specs.Sheet.{read_sheet}
 use Rattle.definition.specs.Rules.{Rule, read_rules}
-use Rattle.definition.specs.Tree.{Program}
-use Rattle.definition.specs.Program.{Header, top_stmts, read_program}
-use Rattle.definition.specs.Emit as def
+use Rattle.definition.specs.Program.{Header, top_stmts}
 use Rattle.definition.specs.Stmt.{emit_stmts}
 use Rattle.definition.specs.Compile as compile
 use Rattle.definition.specs.Compile.{FinalizedFunction, finalize_function, emit_program, compile_program, compile_files, compile_into, Room, roomy, answer, Free, Compiles}
@@ -38,9 +36,9 @@ use Rattle.optimize.proofs.Entry.{place-by, rules-read, rules-bad}
 use Rattle.runs.proofs.Safe.{compiled-safe}
 use Rattle.meaning.proofs.Faithful.{compiled-faithful}
 use Rattle.compile.specs.declared.call.Outcome.{Outcome}
-use Rattle.compile.specs.declared.call.Outcome.TheVariants.{Refused, Finished}
+use Rattle.compile.specs.declared.call.Outcome.TheVariants.{Refused}
 use Rattle.compile.specs.View.{Patchable}
-use Rattle.compile.specs.Call.{room_of, room, Roomy, finishing, Held, Ends}
+use Rattle.compile.specs.Call.{room, Roomy, finishing, Ends}
 use Rattle.compile.specs.Entry.{FromFile, behind_rules, behind_sheet}
 use Rattle.compile.proofs.Answers.{patchable, emitted}
 

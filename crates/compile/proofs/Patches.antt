@@ -1,5 +1,5 @@
 -- Pending patches of the book, one by one: where their labels are bound, and their bytes written.
-use Rattle.std.proofs.Common.{◌≡◌, ℕ, zero, suc, ◌+◌, ◌-◌, ◌/◌, ◌%◌, ◌^◌, ◌<◌, ◌≤◌, Bool, true, false, eqb, leb, List, [], ◌∷◌, ◌++◌, map, length, get_or, take, drop, set, sym, refl, ap, ◌∙◌, subst, append_assoc, add-one, arith, length-set, take_all, take-suc-set, eqb-true, le-leb, leb-false, leb-true}
+use Rattle.std.proofs.Common.{◌≡◌, ℕ, zero, suc, ◌+◌, ◌-◌, ◌/◌, ◌%◌, ◌^◌, ◌<◌, ◌≤◌, Bool, true, false, eqb, leb, List, [], ◌∷◌, ◌++◌, length, get_or, take, drop, set, sym, refl, ap, ◌∙◌, subst, append_assoc, add-one, arith, length-set, take_all, take-suc-set, eqb-true, le-leb, leb-false, leb-true}
 use mathlib.Core.Option.{Option}
 use mathlib.Core.List.{map-append}
 use borrow.Author.Tests.{eqb-false, lt-leb}

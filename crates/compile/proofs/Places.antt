@@ -1,5 +1,5 @@
 -- Patching by place: each branch's two bytes, and no other byte. So its order does not matter.
-use Rattle.std.proofs.Common.{◌≡◌, ℕ, ◌+◌, ◌-◌, ◌<◌, ◌≤◌, List, [], ◌∷◌, ◌++◌, length, get_or, take, drop, sym, refl, ap, ◌∙◌, arith, length-append, length-drop, length-take-le, get_or-drop, get_or-take, get_or-append-add}
+use Rattle.std.proofs.Common.{◌≡◌, ℕ, ◌+◌, ◌-◌, ◌<◌, ◌≤◌, List, [], ◌∷◌, ◌++◌, length, get_or, take, drop, refl, ap, ◌∙◌, arith, length-append, length-drop, length-take-le, get_or-drop, get_or-take, get_or-append-add}
 use mathlib.Core.Option.{Option}
 use lib.ListN.{get_or-append}
 use Rattle.definition.specs.Emit.{PendingPatch, le16}

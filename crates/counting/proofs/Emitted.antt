@@ -1,5 +1,5 @@
 -- What calls do to rows and labels; and that rows before an instruction other than a store never change again.
-use Prim.Native.Nat.{ℕ, ◌+◌, ◌-◌, ◌<◌}
+use Prim.Native.Nat.{ℕ, ◌-◌, ◌<◌}
 use mathlib.Core.Path.{◌≡◌, refl, sym, ◌∙◌, ap, subst}
 use mathlib.Core.List.{List, [], ◌∷◌, ◌++◌, append_assoc, append-nil}
 use mathlib.Core.Bool.{Bool, true, false}
@@ -10,7 +10,7 @@ use lib.ListN.{length, get_or, take, drop, length-append, get_or-append}
 use lib.Seq.{get_or-set_other}
 use borrow.Author.Tests.{ltb-true, eq-eqb}
 use Rattle.definition.specs.Limits.{max_code}
-use Rattle.definition.specs.Res.{ok, ◌>>=◌, ◌>>◌}
+use Rattle.definition.specs.Res.{ok, ◌>>=◌}
 use Rattle.definition.specs.Opcode.{Sheet, opcode, comparison_byte, dup, load_var, store_var, load_const, jmp, jmp_if_not, cmp_br, size, traits, traits_of}
 use Rattle.definition.specs.Emit.{le16, Emitter, Last, other, loaded, stored, PendingPatch, add, folded, fold_store, load_after, with_constant, pooled_if, pooled, labelled, settled, index_of, act, acts, Call, create_label, bind_label, load_variable, store_variable, load_constant, add_constant, emit_opcode, emit_jmp, emit_jmp_if_not, emit_cmp_br, reset_stack_depth, set_position, refused}
 use Rattle.definition.specs.Walk.{next, after}

@@ -1,5 +1,5 @@
 -- Lines, fields and decimal numbers (document 01, 'The three files').
-use Rattle.std.specs.Prelude.{ℕ, ◌+◌, ◌-◌, ◌*◌, ◌^◌, suc, zero, List, [], ◌∷◌, Bool, true, false, ◌&&◌, eqb, leb, ltb, length}
+use Rattle.std.specs.Prelude.{ℕ, ◌+◌, ◌-◌, ◌*◌, ◌^◌, suc, zero, List, [], ◌∷◌, Bool, true, false, ◌&&◌, eqb, leb, ltb}
 use Rattle.std.proofs.Math.Option.{Option, some, none}
 
 -- the bytes that part lines and fields, and those of a number

@@ -4,7 +4,7 @@ use Rattle.std.specs.Prelude.{ℕ, ◌+◌, ◌/◌, ◌%◌, suc, zero, ◌≡�
 use Prim.Native.Char.{code}
 use Rattle.std.proofs.Math.Option.{Option, some, none}
 use Rattle.definition.specs.Limits.{max_rules, width, bad_sheet, bad_rule}
-use Rattle.definition.specs.Res.{Res, ok, refuse, ◌>>=◌, ◌>>◌, given}
+use Rattle.definition.specs.Res.{Res, ok, refuse, ◌>>=◌, given}
 use Rattle.definition.specs.Field.{lf, comma, minus, digit0, Read, malformed, outside, is, up_to, field}
 use Rattle.definition.specs.Opcode.{Sheet}
 use Rattle.definition.specs.Iec.{signed_of}

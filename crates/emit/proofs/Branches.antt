@@ -1,22 +1,21 @@
 -- Patches and branches.
 use mathlib.Core.Path.{◌≡◌, refl, ◌∙◌}
 use mathlib.Core.List.{List, [], ◌∷◌, ◌++◌}
-use Prim.Native.Nat.{ℕ, suc, ◌+◌, ◌*◌, ◌≤◌, ◌<◌}
+use Prim.Native.Nat.{ℕ, suc, ◌+◌, ◌*◌, ◌<◌}
 use native.Mathlib.Omega.{arith}
 use lib.Dec.{leb}
-use lib.ListN.{length, take}
+use lib.ListN.{length}
 use lib.Seq.{sets, length-sets}
-use Rattle.definition.specs.Limits.{max_code, max_labels, max_branches, max_lines, code_full, entry_size}
+use Rattle.definition.specs.Limits.{max_code, max_branches, code_full, entry_size}
 use Rattle.definition.specs.Res.{Res, ok, refuse, ◌>>=◌, ◌>>◌, demand}
 use Rattle.definition.specs.Opcode.{Role, Sheet, CompareOp, comparison_byte, jmp, jmp_if_not, cmp_br}
 use Rattle.definition.specs.Emit as def
 use Rattle.definition.specs.Emit.{jmp_operand_delta, cmp_br_operand_delta, LineEntry, emit_jmp, emit_jmp_if_not, act, add, added, recorded, patched, branch, le16}
 use Rattle.definition.specs.Lent.{entry_in}
 use Rattle.emit.specs.declared.Emitter.{Emitter}
-use Rattle.emit.specs.declared.patch.PendingPatch.{PendingPatch}
 use Rattle.emit.specs.declared.Last.TheVariants.{Other}
 use Rattle.emit.specs.Book.{label_size, patch_size, label_base, patch_base, line_base, book_size, label_in, patch_in, patch_numbers}
-use Rattle.emit.specs.View.{world, state, patch_view}
+use Rattle.emit.specs.View.{world}
 use Rattle.emit.specs.Steps.{◌>->◌, Did, met_at, once, Fine, Coded}
 use Rattle.emit.specs.Parts.{counted, lined, prepared, putting, Noted, Branched, Added, cmp_operand, patching}
 use Rattle.emit.proofs.Tables.{rows_more, rows_behind, rows_before, patch-back, patch-long}

@@ -1,14 +1,12 @@
 -- Calls one after another: what a `do` of the definition's walks does, one call at a time.
 use mathlib.Core.Path.{◌≡◌, refl, ap, sym, ◌∙◌}
 use mathlib.Core.Bool.{Bool, true, false}
-use mathlib.Core.Option.{Option, some, none}
 use mathlib.Core.List.{List, [], ◌∷◌, ◌++◌}
-use Prim.Native.Nat.{ℕ, zero, suc, ◌+◌}
+use Prim.Native.Nat.{ℕ, zero, suc}
 use native.Mathlib.Omega.{arith}
-use native.Mathlib.Numerals.{add-one}
 use lib.ListN.{length, length-set, length-append}
-use lib.Dec.{eqb, ltb, leb}
-use Rattle.definition.specs.Limits.{max_code, max_labels, max_constants, max_lines, code_full, labels_full, lines_full, constants_full}
+use lib.Dec.{eqb, ltb}
+use Rattle.definition.specs.Limits.{code_full, labels_full, constants_full}
 use Rattle.definition.specs.Res.{Res, ok, refuse, ◌>>=◌, ◌>>◌, demand}
 use Rattle.definition.specs.Tree.{Pos}
 use Rattle.definition.specs.Opcode.{Sheet, Role, dup, load_var, load_const, cmp_br, comparison_byte}

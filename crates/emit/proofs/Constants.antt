@@ -7,7 +7,7 @@ use native.Mathlib.Numerals.{add-one}
 use native.Mathlib.Omega.{arith}
 use borrow.Author.Tests.{le-ltb, lt-ltb, ltb-true, ltb-false, eq-eqb, ne_eqb, eqb-true, eqb-false}
 use lib.Dec.{eqb, ltb, leb}
-use lib.ListN.{length, take, set, get_or, length-set}
+use lib.ListN.{length, take, get_or}
 use lib.Seq.{length-take-le, get_or-take, take-take, take-suc-set, drop_at}
 use Rattle.definition.specs.Limits.{max_code, max_constants, code_full, constants_full}
 use Rattle.definition.specs.Res.{Res, ok, refuse, ◌>>=◌, ◌>>◌, demand}

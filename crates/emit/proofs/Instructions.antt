@@ -1,17 +1,15 @@
 -- An instruction more: room, its line entry, its bytes.
-use mathlib.Core.Path.{◌≡◌, refl, ap, sym, subst, ◌∙◌}
+use mathlib.Core.Path.{◌≡◌, refl, ap, subst, ◌∙◌}
 use mathlib.Core.Bool.{Bool, true, false}
-use mathlib.Core.Option.{Option, some, none}
 use mathlib.Core.List.{List, [], ◌∷◌, ◌++◌}
-use Prim.Native.Nat.{ℕ, zero, suc, ◌+◌, ◌-◌, ◌*◌, ◌/◌, ◌%◌, ◌≤◌, ◌<◌, max}
+use Prim.Native.Nat.{ℕ, suc, ◌+◌, ◌-◌, ◌*◌, ◌/◌, ◌%◌, ◌≤◌, ◌<◌, max}
 use native.Mathlib.Omega.{arith}
 use borrow.Author.Tests.{le-ltb, lt-ltb, le-leb, lt-leb}
 use lib.Dec.{leb}
 use lib.ListN.{length, take, drop}
 use lib.Seq.{sets, length-sets}
-use Rattle.definition.specs.Limits.{max_code, max_labels, max_branches, max_lines, code_full, lines_full, entry_size}
+use Rattle.definition.specs.Limits.{max_code, max_lines, code_full, lines_full, entry_size}
 use Rattle.definition.specs.Res.{Res, ok, refuse, ◌>>=◌, ◌>>◌, demand}
-use Rattle.definition.specs.Tree as tree
 use Rattle.definition.specs.Opcode.{Role, Sheet, CompareOp, Effect, cmp_br, comparison_byte, shift, effect, opcode}
 use Rattle.definition.specs.Emit as def
 use Rattle.definition.specs.Emit.{refused, add, added, recorded, last_entry, same_pos, stands_at, le16, LineEntry}
@@ -25,10 +23,10 @@ use Rattle.line_map.proofs.Entries.{length-one}
 use Rattle.emit.specs.declared.Emitter.{Emitter}
 use Rattle.emit.specs.declared.Last.{Last}
 use Rattle.emit.specs.declared.Last.TheVariants.{Other, Loaded, Stored}
-use Rattle.emit.specs.Book.{label_size, patch_size, label_base, patch_base, line_base, book_size, label_in, patch_in, row, rows, lines_in}
+use Rattle.emit.specs.Book.{label_size, patch_size, label_base, patch_base, line_base, book_size, label_in, patch_in, row, lines_in}
 use Rattle.emit.specs.View.{world, last_view, state}
 use Rattle.emit.specs.Steps.{◌>->◌, met_at, once, LastAt, Fine, Bare, Coded}
-use Rattle.emit.specs.Parts.{altered, counted, readied, lined, prepared, putting, Noted, Prepared, Branched, Put, Added, cmp_operand}
+use Rattle.emit.specs.Parts.{altered, counted, readied, lined, prepared, putting, Prepared, Put, Added, cmp_operand}
 use Rattle.emit.proofs.Tables.{pushed-sets, length-rows, rows_more, rows_behind, last_none, last_row, entry-back}
 use Rattle.emit.proofs.Kept.{pool-self, tails-self, kept_self, kept_then, sets-tail, line-tails}
 use Rattle.emit.proofs.Steps.{stays, goes, by-step, stops, then, once-then, is-refused, size_of}

@@ -9,7 +9,7 @@ use lib.Seq.{sets, sets-eq, drop-drop, drop_at, length-take-le, take-set-le}
 use lib.ListN.{length-append, length-drop, length-set}
 use Rattle.definition.specs.Limits.{max_labels, max_branches, max_lines, max_constants, entry_size}
 use Rattle.emit.specs.declared.Emitter.{Emitter}
-use Rattle.emit.specs.Book.{label_size, patch_size, label_base, patch_base, line_base, row}
+use Rattle.emit.specs.Book.{label_size, patch_size, label_base, patch_base, line_base}
 use Rattle.emit.specs.Pool.{head_base, link_base, count_at, stale_at, pool_size, bucket_of, covers, chained, entered, entered_all}
 use Rattle.emit.specs.View.{World, world}
 use Rattle.emit.specs.Steps.{Grown, Tails, Kept}

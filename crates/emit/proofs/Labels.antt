@@ -1,20 +1,20 @@
 -- Labels created and bound.
-use mathlib.Core.Path.{◌≡◌, refl, ap, sym, ◌∙◌}
-use mathlib.Core.Option.{Option, some, none}
-use mathlib.Core.List.{List, [], ◌∷◌, ◌++◌}
+use mathlib.Core.Path.{◌≡◌, refl, ◌∙◌}
+use mathlib.Core.Option.{some, none}
+use mathlib.Core.List.{List, [], ◌∷◌}
 use Prim.Native.Nat.{ℕ, ◌+◌, ◌*◌, ◌≤◌, ◌<◌}
 use native.Mathlib.Omega.{arith}
 use borrow.Author.Tests.{le-ltb, lt-ltb}
-use lib.ListN.{length, take, set}
+use lib.ListN.{length, take}
 use lib.Seq.{sets, length-sets, set_out}
-use Rattle.definition.specs.Limits.{max_labels, max_branches, max_lines, labels_full, entry_size}
-use Rattle.definition.specs.Res.{Res, ok, refuse, ◌>>◌, demand}
-use Rattle.definition.specs.Emit.{Call, create_label, bind_label, refused, act, labelled}
+use Rattle.definition.specs.Limits.{max_labels, labels_full, entry_size}
+use Rattle.definition.specs.Res.{◌>>◌, demand}
+use Rattle.definition.specs.Emit.{create_label, bind_label, refused, act, labelled}
 use Rattle.definition.specs.Lent.{entry_in}
 use Rattle.emit.specs.declared.Emitter.{Emitter}
 use Rattle.emit.specs.declared.Last.TheVariants.{Other}
-use Rattle.emit.specs.Book.{label_size, patch_size, label_base, patch_base, line_base, book_size, label_in, patch_in, rows, labels_in, patches_in, lines_in}
-use Rattle.emit.specs.View.{world, state}
+use Rattle.emit.specs.Book.{label_size, patch_size, label_base, patch_base, line_base, book_size, label_in, patch_in, labels_in, patches_in, lines_in}
+use Rattle.emit.specs.View.{world}
 use Rattle.emit.specs.Steps.{call, Fine, Bare, Booked, Created}
 use Rattle.emit.specs.Parts.{altered, counted}
 use Rattle.emit.proofs.Tables.{length-rows, rows_more, rows-set, rows_before}

@@ -1,5 +1,5 @@
 -- Loads with their two foldings, and stores.
-use mathlib.Core.Path.{◌≡◌, refl, ap, sym, ◌∙◌}
+use mathlib.Core.Path.{◌≡◌, refl, ap, ◌∙◌}
 use mathlib.Core.Bool.{Bool, true, false}
 use mathlib.Core.List.{List, [], ◌∷◌, ◌++◌}
 use Prim.Native.Nat.{ℕ, zero, suc, ◌+◌, ◌-◌, ◌≤◌, ◌<◌, max}
@@ -24,7 +24,7 @@ use Rattle.emit.specs.Book.{book_size}
 use Rattle.emit.specs.View.{World, world, last_view, state, standing, view, stage_of}
 use Rattle.emit.specs.Steps.{Step, ◌>->◌, Did, met_at, once, call, LastAt, Fine, Bare, Coded}
 use Rattle.emit.specs.Load.{load_form, load_by, Reading, no_reading, read_by, read_or, reading, reading_of, Loads}
-use Rattle.emit.specs.Parts.{altered, Written, Added}
+use Rattle.emit.specs.Parts.{altered, Written}
 use Rattle.emit.proofs.Tables.{sets-front}
 use Rattle.emit.proofs.Kept.{pool-self, tails-self, kept_self, sets-tail}
 use Rattle.emit.proofs.Steps.{stays, goes, stops, size_of}

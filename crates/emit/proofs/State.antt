@@ -1,10 +1,8 @@
 -- An emitter to begin with; refusal, position and depth.
 use mathlib.Core.Path.{◌≡◌, refl, sym, subst}
-use mathlib.Core.List.{List}
-use Prim.Native.Nat.{ℕ, zero, suc, ◌+◌, ◌*◌, ◌≤◌, ◌<◌, max}
+use Prim.Native.Nat.{ℕ, zero, suc, ◌+◌, ◌≤◌, ◌<◌}
 use native.Mathlib.Omega.{arith}
 use Rattle.definition.specs.Limits.{max_code}
-use Rattle.definition.specs.Res.{ok, refuse}
 use Rattle.definition.specs.Opcode.{Effect, up, down, same, shift}
 use Rattle.definition.specs.Emit as def
 use Rattle.definition.specs.Emit.{Call, reset_stack_depth, set_position, refused, act, settled, emitter_at}
@@ -14,9 +12,9 @@ use Rattle.emit.specs.declared.Emitter.{Emitter}
 use Rattle.emit.specs.declared.Last.{Last}
 use Rattle.emit.specs.declared.Last.TheVariants.{Other}
 use Rattle.emit.specs.Book.{rows}
-use Rattle.emit.specs.View.{World, world, state, standing, view, halted, stage_of}
+use Rattle.emit.specs.View.{world, state, standing, halted, stage_of}
 use Rattle.emit.specs.Steps.{◌>->◌, met_at, once, call, LastAt, max_height, Fine, Bare, Begun}
-use Rattle.emit.specs.Parts.{altered, stopped, placed, counted}
+use Rattle.emit.specs.Parts.{altered, stopped, placed}
 use Rattle.emit.proofs.Kept.{grown-self, kept_self, kept-bare}
 use Rattle.emit.proofs.Steps.{stays, goes}
 

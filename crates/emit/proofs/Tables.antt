@@ -1,7 +1,7 @@
 -- The book's tables: a row read, written and left alone. The laws are for a table of any base and size of row.
 use mathlib.Core.Path.{◌≡◌, refl, ap, sym, ◌∙◌}
 use mathlib.Core.Bool.{Bool, true, false}
-use mathlib.Core.Option.{Option, some, none}
+use mathlib.Core.Option.{some, none}
 use mathlib.Core.List.{List, [], ◌∷◌, ◌++◌, append-nil, append_assoc}
 use Prim.Native.Nat.{ℕ, zero, suc, ◌+◌, ◌-◌, ◌*◌, ◌≤◌, ◌<◌}
 use native.Mathlib.Nat.{mul-suc, mul-le-mul_left}
@@ -11,16 +11,14 @@ use borrow.Author.Tests.{eq-eqb, ne_eqb, eqb-true, eqb-false}
 use lib.Dec.{eqb}
 use lib.ListN.{length, take, drop, set, get_or, length-set, length-append, length-drop, get_or-append, get_or-eq_default}
 use lib.Seq.{sets, sets-eq, length-take-le, drop-set-add, drop-set-lt, take-set-le, drop_at, take_at, get_or-take, get_or-drop, set-append_seam, set-append_left, get_or-append_seam}
-use Rattle.definition.specs.Limits.{max_labels, max_branches, max_lines, entry_size}
+use Rattle.definition.specs.Limits.{max_lines, entry_size}
 use Rattle.definition.specs.Emit.{LineEntry, PendingPatch, last_entry}
 use Rattle.definition.specs.Lent.{one_entry, entry_in}
 use Rattle.definition.specs.Compile.{bound_or0, bound_label}
-use Rattle.store.specs.Store.{Store, at, push, push_all}
+use Rattle.store.specs.Store.{Store, at, push_all}
 use Rattle.store.proofs.Stores.{push-room}
 use Rattle.line_map.proofs.Entries.{length-one, one-back, in-front}
-use Rattle.line_map.specs.declared.LineEntry as code
-use Rattle.line_map.specs.View.{entry_view}
-use Rattle.emit.specs.Book.{label_size, patch_size, label_base, patch_base, line_base, book_size, label_in, patch_numbers, patch_in, row, rows, labels_in, patches_in, lines_in}
+use Rattle.emit.specs.Book.{label_size, patch_size, label_base, patch_base, line_base, book_size, label_in, patch_numbers, patch_in, row, rows, labels_in}
 
 -- ---- numbers put into a list, and its parts
 

@@ -1,5 +1,5 @@
 -- Code as a graph of nodes: one for each start, and one for the end.
-use Rattle.std.specs.Prelude.{ℕ, ◌+◌, List, [], ◌∷◌, Bool, true, false, length, get_or, eqb}
+use Rattle.std.specs.Prelude.{ℕ, ◌+◌, List, [], Bool, true, false, length, get_or, eqb}
 use Rattle.std.proofs.Math.Option.{Option, some, none}
 use Rattle.definition.specs.Field.{has}
 use Rattle.definition.specs.Opcode.{Role, Sheet, role_of, size, needs, same, effect, Flow, onward, away, either, stop, flow}

@@ -11,7 +11,7 @@ use lib.ListN.{length}
 use Rattle.field.proofs.Parts.{split-is, split-sep, split-other}
 use Rattle.definition.specs.Limits.{max_field, bad_sheet}
 use Rattle.definition.specs.Res.{Res, refuse, ◌>>=◌, given}
-use Rattle.definition.specs.Field.{lf, comma, onto, split, up_to, field, malformed, numbers}
+use Rattle.definition.specs.Field.{lf, comma, onto, split, up_to, field, numbers}
 use Rattle.definition.specs.Opcode.{Sheet}
 use Rattle.definition.specs.Sheet.{repeated, read_sheet}
 use Rattle.definition.specs.Rules.{read_rules}

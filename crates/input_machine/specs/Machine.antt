@@ -3,7 +3,7 @@
 -- definition says is shown in proofs/.
 use Rattle.std.specs.Prelude.{ℕ, ◌+◌, ◌-◌, ◌*◌, suc, List, [], ◌∷◌, Bool, true, false, ◌&&◌, ◌||◌, eqb, leb, ltb}
 use Rattle.definition.specs.Limits.{max_code, max_protected, max_lines, entry_size, max_program, max_rules, max_field, bad_sheet, bad_rule}
-use Rattle.definition.specs.Res.{Res, ok, refuse, ◌>>=◌, ◌>>◌, given}
+use Rattle.definition.specs.Res.{Res, ok, refuse, ◌>>=◌, given}
 use Rattle.definition.specs.Field.{lf, comma, digit0, digit9}
 use Rattle.definition.specs.Opcode.{Sheet, role_count, comparison_count}
 use Rattle.definition.specs.Sheet.{read_sheet}

@@ -2,7 +2,7 @@
 use Prim.Native.Nat.{ℕ, suc, zero}
 use mathlib.Core.Path.{◌≡◌, refl, sym, ◌∙◌, ap, subst}
 use mathlib.Core.List.{[], ◌∷◌}
-use mathlib.Core.Bool.{Bool, true, false, not, ◌&&◌, ◌||◌}
+use mathlib.Core.Bool.{Bool, true, false, not, ◌&&◌}
 use mathlib.Core.Option.{Option, some, none}
 use lib.Dec.{eqb}
 use borrow.Author.Tests.{eqb-true}
@@ -13,7 +13,6 @@ use Rattle.definition.specs.Stmt as emission
 use Rattle.definition.specs.Iec.{truth, stored, Values, compared}
 use Rattle.definition.specs.Meaning.{value_of, Answer, ends, exits, continues, returns, stops, spent, and_then, on_value, fits_one, Turn, again, leaves, on_turn, then_turn, turns, caught, turn_of, until, within, loop_turn, for_turn, run_stmt, run_block, run_arms}
 use Rattle.field.proofs.Tests.{or-false}
-use Rattle.field.proofs.Results.{never}
 use Rattle.meaning.proofs.Loops.{Never}
 
 -- a CONTINUE of loop i inside loop j is not asked about where the two are one

@@ -9,7 +9,7 @@ use Rattle.definition.specs.Walk.{next, after, Walk, Calls, ◌>>=◌, ◌>>◌,
 use Rattle.definition.specs.Iec.{Values}
 use Rattle.definition.specs.Claims.{Either, left, right}
 use Rattle.counting.proofs.Once.{after-append}
-use Rattle.meaning.proofs.Calls.{State, goes, finishes, stops, here, at, behind, called, step_at, step, is_branch, branch_at, Reach, still, onward, Jump, Halt, Finish, Lasts, reach-then, jump-reach, reach-lasts, jump-lasts}
+use Rattle.meaning.proofs.Calls.{State, finishes, stops, here, at, behind, called, step_at, step, is_branch, branch_at, Reach, still, onward, Jump, Halt, Finish, Lasts, reach-then, jump-reach, reach-lasts, jump-lasts}
 
 -- where a run of some calls comes to
 pub data End : Type 0 where

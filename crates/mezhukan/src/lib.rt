@@ -1,5 +1,5 @@
-// The library for the phone, the rig and the log reader (`rt staticlib mezhukan`, for a program in C or Rust to link): the call, rewriting called alone, the check
-// of an image, and the slowest call of its code.
+// The library for the phone, the rig and the log reader: the call, rewriting called alone, the check of an image, and the slowest call of its code, each with all of
+// its answer in a lent array. Crate `mezhukan_c` exports them for a program in C or Rust to link.
 #![tactic(auto)]
 
 ghost use Rattle.std.specs.Prelude.{◌≡◌, length, get_or};
@@ -16,17 +16,16 @@ ghost use Rattle.mezhukan.specs.Exported.{compiled, rewritten, measured};
 use emit::Constant;
 
 // Numbers of an answer of the call: number, place, bytes, depth, constants, line entries.
-const COMPILED: usize = 6;
+pub const COMPILED: usize = 6;
 // Numbers of an answer of rewriting called alone: number, place, bytes, protected offsets, line entries.
-const REWRITTEN: usize = 5;
+pub const REWRITTEN: usize = 5;
 // Numbers of an answer of the check of an image: number, place.
-const CHECKED: usize = 2;
+pub const CHECKED: usize = 2;
 // Numbers of an answer of the slowest call: number, place, is it 'loops', instructions, outcomes.
-const MEASURED: usize = 5;
+pub const MEASURED: usize = 5;
 
 // The call. A refusal's number is answered, or 0.
-#[unsafe(no_mangle)]
-pub extern "C" fn mezhukan_compile(
+pub fn mezhukan_compile(
     sheet: &[u8],
     rules: &[u8],
     program: &[u8],
@@ -53,8 +52,7 @@ pub extern "C" fn mezhukan_compile(
 }
 
 // Rewriting and line mapping called alone. A refusal's number is answered, or 0.
-#[unsafe(no_mangle)]
-pub extern "C" fn mezhukan_rewrite_alone(
+pub fn mezhukan_rewrite_alone(
     sheet: &[u8],
     rules: &[u8],
     code: &[u8],
@@ -82,8 +80,7 @@ pub extern "C" fn mezhukan_rewrite_alone(
 }
 
 // Code of an image from the old configurator, checked against a sheet and its declared depth. A refusal's number is answered, or 0 if it passes.
-#[unsafe(no_mangle)]
-pub extern "C" fn mezhukan_check_image(
+pub fn mezhukan_check_image(
     sheet: &[u8],
     code: &[u8],
     depth: u64,
@@ -107,8 +104,7 @@ fn bit(b: bool) -> u64
 }
 
 // The slowest call of code, checked as an image is. A refusal's number is answered, or 0.
-#[unsafe(no_mangle)]
-pub extern "C" fn mezhukan_slowest(
+pub fn mezhukan_slowest(
     sheet: &[u8],
     code: &[u8],
     depth: u64,

@@ -9,7 +9,7 @@ use lib.ListN.{length, get_or, drop, drop_of_length-le, get_or-eq_default}
 use lib.Dec.{leb}
 use borrow.Author.Tests.{leb-true, leb-false}
 use lib.Seq.{drop-cons}
-use Rattle.definition.specs.Limits.{max_code, entry_size, bad_code}
+use Rattle.definition.specs.Limits.{entry_size, bad_code}
 use Rattle.definition.specs.Res.{ok, refuse, ◌>>◌, demand}
 use Rattle.definition.specs.Field.{has}
 use Rattle.definition.specs.Lent.{entry_in}

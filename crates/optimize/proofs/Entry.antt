@@ -26,7 +26,7 @@ use Rattle.rules.specs.View as rules
 use Rattle.rules.specs.View.{rules_in, IsRules, table_of, table_for, Answered}
 use Rattle.rules.proofs.Table.{rules-back}
 use Rattle.rules.proofs.Pairs.{read_table}
-use Rattle.optimize.specs.View.{room_of, Roomy, after_limits, after_rules, after_sheet}
+use Rattle.optimize.specs.View.{Roomy, after_limits, after_rules, after_sheet}
 
 -- ---- 9
 

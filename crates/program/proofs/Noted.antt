@@ -1,18 +1,17 @@
 -- The bodies that a walk notes are so.
-use mathlib.Core.Path.{◌≡◌, refl, ap, sym, ◌∙◌}
+use mathlib.Core.Path.{◌≡◌, refl, ap, ◌∙◌}
 use mathlib.Core.Bool.{Bool, true, false}
 use mathlib.Core.List.{List}
-use Prim.Native.Nat.{ℕ, zero, suc, ◌+◌, ◌*◌, ◌≤◌, ◌<◌}
+use Prim.Native.Nat.{ℕ, ◌+◌, ◌*◌, ◌≤◌, ◌<◌}
 use native.Mathlib.Decide.{ℕ_discrete}
 use native.Mathlib.Omega.{arith}
 use lib.ListN.{length, get_or, set, replicate, length-set, length-replicate, get_or-replicate}
 use lib.Seq.{get_or-set_same, get_or-set_other}
 use Rattle.definition.specs.Claims.{Either, left, right}
 use Rattle.definition.specs.Limits.{max_nesting, max_program}
-use Rattle.definition.specs.Program as def
 use Rattle.definition.specs.Program.{block_of, stmt_at}
 use Rattle.program.specs.declared.Walk.{Walk}
-use Rattle.program.specs.Walk.{Near, Skipped, Walked, many, over_stmt}
+use Rattle.program.specs.Walk.{Skipped, Walked, many, over_stmt}
 use Rattle.program.specs.Ends.{end_size, bodies, ends_size, Body, body_at, Noted, Sound, NoneNew, body_of, body_put, Holds, HeldIf, Worth, Noting}
 use Rattle.program.proofs.Laws.{skipped-block}
 

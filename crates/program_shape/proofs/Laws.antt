@@ -2,7 +2,7 @@
 use mathlib.Core.Path.{◌≡◌, refl, ap, sym, ◌∙◌}
 use mathlib.Core.Bool.{Bool, true, false, ◌&&◌}
 use mathlib.Core.Option.{Option, some, none}
-use mathlib.Core.List.{List, []}
+use mathlib.Core.List.{List}
 use Prim.Native.Nat.{ℕ, zero, suc, ◌+◌, ◌-◌, ◌*◌, ◌<◌}
 use native.Mathlib.Omega.{arith}
 use lib.Dec.{eqb, eqb-suc-zero, eqb-suc-suc}
@@ -14,7 +14,6 @@ use Rattle.definition.specs.Opcode.{CompareOp}
 use Rattle.definition.specs.Tree.{Pos, Source, Expr, Stmt, if, Arms, is_done, is_exit_stmt, is_exit, only_if, exit_when, exit_unless, repeat_or, while_or, shape}
 use Rattle.definition.specs.Program as def
 use Rattle.definition.specs.Program.{Line, is, not, Reader, A, I, S, F, L, X, N, R, K, B, D, O, U, C, H, StmtLine, ExprLine, next_line, line_at, stmt_forms, expr_forms, expr_of, expr_at, stmt_of, stmt_at, block_of}
-use Rattle.definition.specs.Tree as shapes
 use Rattle.definition.specs.CompileExpr.{read_of, constant_of, zip, or_classified, classify}
 use Rattle.field.proofs.Results.{never}
 use Rattle.field.proofs.Tests.{and_left, and_right}
@@ -22,8 +21,8 @@ use Rattle.program_line.specs.Scan.{Found}
 use Rattle.program_line.proofs.Laws.{good-end}
 use Rattle.program.specs.declared.Cursor.{Cursor}
 use Rattle.program.specs.declared.Walk.{Walk}
-use Rattle.program.specs.Walk.{cursor_of, Near, Skipped, Walked, outcome, many, over_expr, over_stmt}
-use Rattle.program.specs.Ends.{end_size, bodies, body_at, Noted, Sound, NoneNew}
+use Rattle.program.specs.Walk.{cursor_of, Skipped, Walked, outcome, many, over_expr, over_stmt}
+use Rattle.program.specs.Ends.{end_size, bodies, body_at, Sound, NoneNew}
 use Rattle.program.proofs.Noted.{body_same}
 use Rattle.program.proofs.Laws.{skipped, skipped-block, line-there, expr-bad, expr-is, stmt-bad, stmt-is}
 use Rattle.program_shape.specs.declared.Operand.{Operand}

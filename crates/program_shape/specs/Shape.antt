@@ -1,5 +1,5 @@
 -- What is seen of a part of the text before it is emitted: where it ends, and which shape it has. The total reading decides.
-use Rattle.std.specs.Prelude.{ℕ, ◌-◌, ◌<◌, ◌≡◌, List, Bool, true, false, ◌&&◌, eqb, length}
+use Rattle.std.specs.Prelude.{ℕ, ◌-◌, ◌<◌, ◌≡◌, List, Bool, true, false, ◌&&◌, eqb}
 use Rattle.std.proofs.Math.Option.{Option, some, none}
 use Rattle.definition.specs.Limits.{max_nesting}
 use Rattle.definition.specs.Tree.{Expr, Stmt, Block, exit_when, exit_unless}
@@ -12,7 +12,7 @@ use Rattle.opcode.specs.View.{compare_view}
 use Rattle.program.specs.declared.Cursor.{Cursor}
 use Rattle.program.specs.declared.Walk.{Walk}
 use Rattle.program.specs.Walk.{cursor_of, place_of, Skipped}
-use Rattle.program.specs.Ends.{Body, body_at, Noted}
+use Rattle.program.specs.Ends.{body_at, Noted}
 use Rattle.program_shape.specs.declared.Operand.{Operand}
 use Rattle.program_shape.specs.declared.Operand.TheVariants as operand
 use Rattle.program_shape.specs.declared.Compared.{Compared}

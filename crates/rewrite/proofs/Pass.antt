@@ -10,7 +10,6 @@ use borrow.Author.Tests.{eq-eqb, ne_eqb, eqb-true, eqb-false}
 use lib.ListN.{length, take, drop, set, get_or, length-set, length-drop, length-append}
 use lib.Dec.{eqb}
 use lib.Seq.{drop-drop, length-take-le, take_at, drop_at, get_or-set_same, get_or-set_other}
-use Rattle.definition.specs.Limits.{max_code}
 use Rattle.definition.specs.Field.{has}
 use Rattle.definition.specs.Opcode.{Sheet}
 use Rattle.definition.specs.Rules.{Action, keep, remove, rewrite_operand}

@@ -1,6 +1,6 @@
 -- From bytes to rows and back: decoding gives the rows' own bytes, a pass's actions fit them, and its bytes and its map are those of the
 -- rows that it leaves; then three passes.
-use Prim.Native.Nat.{ℕ, ◌+◌, ◌-◌, suc, zero, ◌≤◌}
+use Prim.Native.Nat.{ℕ, ◌+◌, suc, zero, ◌≤◌}
 use mathlib.Core.Path.{◌≡◌, refl, sym, ◌∙◌, ap, subst}
 use mathlib.Core.List.{List, [], ◌∷◌, ◌++◌, map}
 use mathlib.Core.Bool.{Bool, true, false, ◌||◌}

@@ -6,7 +6,7 @@ use mathlib.Core.Bool.{Bool, true, false}
 use Rattle.definition.specs.Opcode.{Sheet}
 use Rattle.definition.specs.Rewrite.{Bytes, decode, starts_from}
 use Rattle.definition.specs.Runs.{Stand, start, run, run_over}
-use Rattle.definition.specs.Claims.{FineOver, Fine, OneHeight, Each, empty, ◌also◌}
+use Rattle.definition.specs.Claims.{FineOver, Fine, OneHeight, Each, ◌also◌}
 use Rattle.definition.specs.Check.{listed, up_to_unlisted, starts, stands, Passes}
 
 pub all_listed : (s : Sheet) (is : List Bytes) → Each (λ i. listed s i ≡ true) is → up_to_unlisted s is ≡ is

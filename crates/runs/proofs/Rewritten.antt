@@ -1,5 +1,5 @@
 -- What pair rewriting leaves of linked rows: they are linked again, and a row that is no second of a matched pair keeps its height.
-use Prim.Native.Nat.{ℕ, ◌+◌, suc, zero, ◌≤◌, zero-le, suc-le-suc}
+use Prim.Native.Nat.{ℕ, suc, zero, ◌≤◌, zero-le, suc-le-suc}
 use mathlib.Core.Path.{◌≡◌, refl, sym, ◌∙◌, ap}
 use mathlib.Core.List.{List, [], ◌∷◌, ◌++◌}
 use mathlib.Core.Bool.{true}
@@ -9,7 +9,7 @@ use native.Mathlib.Omega.{arith}
 use Rattle.definition.specs.Opcode.{Sheet, cmp_br, shift, onward, effect, flow}
 use Rattle.definition.specs.Rules.{Action, keep, remove, rewrite_operand, allowed, is_variable}
 use Rattle.definition.specs.Emit.{le16}
-use Rattle.definition.specs.Claims.{branches, Each, empty, ◌also◌}
+use Rattle.definition.specs.Claims.{branches, Each, ◌also◌}
 use Rattle.rules.proofs.Pairs.{Pair, Keeps, neither, former, latter, both, keeps, rewritten, variable-size}
 use Rattle.field.proofs.Results.{never, some_is}
 use Rattle.runs.proofs.Heights.{falls}

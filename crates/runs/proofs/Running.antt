@@ -7,7 +7,7 @@ use mathlib.Core.Option.{Option, some}
 use lib.ListN.{length, get_or, length-append}
 use lib.Seq.{get_or-append-add}
 use lib.Dec.{eqb, ltb}
-use borrow.Author.Tests.{eq-eqb, ne_eqb, eqb-true, le-ltb}
+use borrow.Author.Tests.{ne_eqb, eqb-true, le-ltb}
 use native.Mathlib.Decide.{dec_lt}
 use native.Mathlib.Omega.{arith}
 use native.Mathlib.Nat.{le_of_suc-le-suc, not-suc-le-zero}
@@ -15,7 +15,7 @@ use Rattle.definition.specs.Field.{has}
 use Rattle.definition.specs.Opcode.{Role, Sheet, opcode, role_of, size, needs, effect, shift, Flow, onward, away, either, stop, flow}
 use Rattle.definition.specs.Emit.{PendingPatch}
 use Rattle.definition.specs.Rewrite.{opcode_of, decode, starts_from}
-use Rattle.definition.specs.Runs.{State, Break, off_code, empty_stack, Step, goes, finishes, waits, breaks, target, jump, branch, follow, out_of_outcomes, execute, execute_if, step, Stand, stand, run_over, run}
+use Rattle.definition.specs.Runs.{State, Break, empty_stack, Step, goes, finishes, waits, breaks, target, jump, branch, follow, out_of_outcomes, execute, step, Stand, stand, run_over, run}
 use Rattle.field.proofs.Results.{never}
 use Rattle.runs.proofs.Heights.{falls, Stops}
 use Rattle.runs.proofs.Steps.{over-end, over-start}

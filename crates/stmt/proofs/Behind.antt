@@ -1,10 +1,10 @@
 -- The lent list: what is done to one part of it, and what that leaves of the whole.
 use mathlib.Core.Path.{◌≡◌, refl, ap, sym, ◌∙◌, subst}
-use mathlib.Core.Bool.{Bool, false, not}
+use mathlib.Core.Bool.{false, not}
 use mathlib.Core.List.{List, [], ◌∷◌, ◌++◌, append-nil}
 use Prim.Native.Nat.{ℕ, zero, suc, ◌+◌, ◌-◌, ◌*◌, ◌≤◌, ◌<◌}
 use native.Mathlib.Omega.{arith}
-use lib.ListN.{length, get_or, take, drop, replicate, length-append, length-drop, length-replicate, drop_of_length-le, get_or-append}
+use lib.ListN.{length, take, drop, replicate, length-append, length-drop, length-replicate, drop_of_length-le, get_or-append}
 use lib.Seq.{length-take-le, length_front, take_all, drop_at, get_or-take}
 use lib.Dec.{eqb}
 use Rattle.definition.specs.Limits.{max_nesting, max_program}

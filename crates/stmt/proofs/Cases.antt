@@ -1,38 +1,36 @@
 -- CASE.
 use mathlib.Core.Path.{◌≡◌, refl, ap, sym, ◌∙◌}
-use mathlib.Core.Bool.{Bool, true, false, ◌||◌}
+use mathlib.Core.Bool.{false, ◌||◌}
 use mathlib.Core.List.{List, [], ◌∷◌}
-use Prim.Native.Nat.{ℕ, zero, suc, ◌+◌, ◌-◌, ◌≤◌, ◌<◌}
+use Prim.Native.Nat.{ℕ, zero, suc, ◌-◌, ◌≤◌, ◌<◌}
 use native.Mathlib.Numerals.{sub-one}
 use native.Mathlib.Omega.{arith}
 use Rattle.definition.specs.Limits.{max_nesting}
-use Rattle.definition.specs.Opcode.{Sheet, CompareOp, Eq, Ge, Le, dup, pop}
-use Rattle.definition.specs.Opcode as role
-use Rattle.definition.specs.Tree.{CaseLabel, value, range, bad_label, Block, Arms, no_arms, arm, bad_arm, Pos}
+use Rattle.definition.specs.Opcode.{Sheet, pop}
+use Rattle.definition.specs.Tree.{CaseLabel, Block, Arms, arm, bad_arm, Pos}
 use Rattle.definition.specs.Program as def
 use Rattle.definition.specs.Program.{Line, is, not, S, M, line_at, next_line, fault_at, arm_forms, label_forms, label_by, labels_at, stmt_of, arm_by, arms_at}
-use Rattle.definition.specs.Emit.{bind_label, load_constant, emit_opcode, emit_jmp, emit_jmp_if_not, reset_stack_depth, refused}
+use Rattle.definition.specs.Emit.{bind_label, emit_opcode, refused}
 use Rattle.definition.specs.Walk.{Calls, say, new_label}
 use Rattle.definition.specs.Walk as walk
-use Rattle.definition.specs.Stmt.{continues, continues_stmt, continues_arms, test_against, test_label, test_labels, arm_body, emit_arm, emit_stmt, emit_block, emit_arms}
+use Rattle.definition.specs.Stmt.{continues, continues_stmt, continues_arms, arm_body, emit_arm, emit_stmt, emit_arms}
 use Rattle.program.specs.declared.Cursor.{Cursor}
 use Rattle.program.specs.Walk.{cursor_of, Near, Skipped}
 use Rattle.program.proofs.Laws.{stmt-is, line-some}
 use Rattle.emit.specs.declared.Emitter.{Emitter}
 use Rattle.emit.specs.View.{World, world}
 use Rattle.emit.specs.Steps.{run, call, Ready, Bare, Booked, Created, Coded, Filled}
-use Rattle.emit.proofs.Kept.{kept_then}
-use Rattle.emit.proofs.Calls.{seq, said, seq-filled, said-filled, fresh-filled, none_filled}
-use Rattle.expr.specs.Went.{Went, WentExpr}
-use Rattle.expr.proofs.Laws.{went, place, filled}
+use Rattle.emit.proofs.Calls.{seq-filled, said-filled, fresh-filled, none_filled}
+use Rattle.expr.specs.Went.{WentExpr}
+use Rattle.expr.proofs.Laws.{filled}
 use Rattle.stmt_parts.specs.declared.Context.{Context}
 use Rattle.stmt_parts.specs.declared.labels.ArmParts.{ArmParts}
 use Rattle.stmt_parts.specs.Context.{expr_in, block_in, inner_of}
 use Rattle.stmt_parts.specs.Loops.{opens_in, loops_of, marked}
-use Rattle.stmt_parts.specs.Parts.{Leads, arm_parts, label_here, test_jump, test_all, arm_tests, arm_end}
+use Rattle.stmt_parts.specs.Parts.{Leads, arm_parts, arm_tests, arm_end}
 use Rattle.stmt.specs.Blocks.{arm_continues, arms_here, emit_case}
 use Rattle.stmt.specs.Lent.{Lent, Looked}
-use Rattle.stmt.specs.Ran.{Ran, RanStmt, RanBlock, RanArm, RanArms, RanCase}
+use Rattle.stmt.specs.Ran.{RanStmt, RanBlock, RanArm, RanArms, RanCase}
 use Rattle.stmt_parts.proofs.Marks.{marked-same, marked-off, marked-then, loops-marked}
 use Rattle.stmt_parts.proofs.Walks.{bare-on, booked-on, created-on, coded-on}
 use Rattle.stmt.proofs.Walks.{at-loops, re}

@@ -1,21 +1,18 @@
 -- Sequences of statements, IF and FOR.
 use mathlib.Core.Path.{◌≡◌, refl, ap, sym, ◌∙◌}
-use mathlib.Core.Bool.{Bool, true, false, ◌||◌}
-use mathlib.Core.Option.{Option, some, none}
-use mathlib.Core.List.{List, [], ◌∷◌}
-use Prim.Native.Nat.{ℕ, zero, suc, ◌+◌, ◌-◌, ◌≤◌, ◌<◌}
+use mathlib.Core.Bool.{Bool, false}
+use mathlib.Core.List.{List}
+use Prim.Native.Nat.{ℕ, zero, suc, ◌-◌, ◌≤◌, ◌<◌}
 use native.Mathlib.Numerals.{sub-one}
 use native.Mathlib.Omega.{arith}
 use Rattle.definition.specs.Limits.{width}
-use Rattle.definition.specs.Opcode.{Sheet, CompareOp, Add}
-use Rattle.definition.specs.Opcode as role
-use Rattle.definition.specs.Tree.{Expr, Block, done, ◌then◌, Pos, is_done, counts_down, bound}
+use Rattle.definition.specs.Opcode.{Sheet}
+use Rattle.definition.specs.Tree.{done, ◌then◌, Pos, is_done, counts_down, bound}
 use Rattle.definition.specs.Program as def
 use Rattle.definition.specs.Program.{Line, is, I, F, L, StmtLine, line_at, next_line, stmt_forms, stmt_of, block_of}
-use Rattle.definition.specs.CompileExpr.{ClassifiedCmp, constant_of, classify, emit_classified_cmp_br}
-use Rattle.definition.specs.Emit.{bind_label, load_variable, load_constant, store_variable, emit_opcode, emit_jmp, emit_jmp_if_not}
-use Rattle.definition.specs.Expr.{emit_expr}
-use Rattle.definition.specs.Stmt.{continues, continues_stmt, branch_unless, branch_unless_by, else_part, end_test_by, emit_for, emit_stmt, emit_block}
+use Rattle.definition.specs.CompileExpr.{constant_of}
+use Rattle.definition.specs.Emit.{bind_label, store_variable, emit_jmp}
+use Rattle.definition.specs.Stmt.{continues, continues_stmt, branch_unless, else_part, end_test_by, emit_for, emit_stmt}
 use Rattle.program.specs.declared.Cursor.{Cursor}
 use Rattle.program.specs.Walk.{cursor_of, Near, Skipped}
 use Rattle.program.proofs.Laws.{stmt-is}
@@ -24,14 +21,14 @@ use Rattle.emit.specs.View.{World, world}
 use Rattle.emit.specs.Steps.{run, call, Ready, Booked, Created, Coded, Filled}
 use Rattle.emit.proofs.Calls.{seq-filled, said-filled, fresh-filled, none_filled}
 use Rattle.expr.specs.Went.{Went, WentExpr}
-use Rattle.expr.proofs.Laws.{went, place, filled}
+use Rattle.expr.proofs.Laws.{filled}
 use Rattle.stmt_parts.specs.declared.Context.{Context}
 use Rattle.stmt_parts.specs.Context.{expr_in, stmt_in, block_in, inner_of}
 use Rattle.stmt_parts.specs.Loops.{opens_in, loops_of, marked}
 use Rattle.stmt.specs.Blocks.{Placed, emit_sequence, emit_if, loop_calls}
 use Rattle.stmt_parts.specs.Parts.{for_end}
 use Rattle.stmt.specs.Lent.{Lent}
-use Rattle.stmt.specs.Ran.{Ran, RanSequence, RanBlock, RanStmt, RanIf, RanElse, RanFor, RanLoop, RanBody}
+use Rattle.stmt.specs.Ran.{RanSequence, RanBlock, RanStmt, RanIf, RanElse, RanFor, RanLoop, RanBody}
 use Rattle.stmt_parts.proofs.Marks.{marked-off, marked-then, loops-marked}
 use Rattle.stmt_parts.proofs.Walks.{booked-on, created-on, coded-on}
 use Rattle.stmt.proofs.Walks.{at-loops, re}

@@ -3,8 +3,8 @@ use mathlib.Core.Path.{◌≡◌, refl, ap, sym, ◌∙◌}
 use mathlib.Core.Bool.{Bool, true, false, ◌&&◌, ◌||◌}
 use mathlib.Core.Bool as bool
 use mathlib.Core.Option.{Option, some, none}
-use mathlib.Core.List.{List, [], ◌∷◌}
-use Prim.Native.Nat.{ℕ, zero, suc, ◌+◌, ◌-◌, ◌≤◌, ◌<◌}
+use mathlib.Core.List.{List, ◌∷◌}
+use Prim.Native.Nat.{ℕ, zero, suc, ◌+◌, ◌-◌}
 use native.Mathlib.Numerals.{add-one}
 use native.Mathlib.Omega.{arith}
 use lib.Dec.{eqb}
@@ -12,11 +12,10 @@ use Rattle.definition.specs.Opcode.{Sheet}
 use Rattle.definition.specs.Tree.{Expr, Stmt, Block, done, ◌then◌, shape, while, repeat, plain}
 use Rattle.definition.specs.Program as def
 use Rattle.definition.specs.Program.{next_line, stmt_at, block_of}
-use Rattle.definition.specs.CompileExpr.{ClassifiedCmp, classify, emit_classified_cmp_br}
-use Rattle.definition.specs.Emit.{bind_label, add_constant, emit_jmp, emit_jmp_if_not}
+use Rattle.definition.specs.CompileExpr.{ClassifiedCmp, classify}
+use Rattle.definition.specs.Emit.{bind_label, emit_jmp}
 use Rattle.definition.specs.Walk.{Calls, say}
 use Rattle.definition.specs.Walk as walk
-use Rattle.definition.specs.Expr.{emit_expr}
 use Rattle.definition.specs.Stmt.{Loops, continues, branch_unless, branch_unless_by, loop_body, while_by, emit_while, repeat_by, emit_repeat, emit_plain, emit_loop, emit_block, emit_rest}
 use Rattle.field.proofs.Tests.{or-none}
 use Rattle.program.specs.declared.Cursor.{Cursor}
@@ -26,7 +25,7 @@ use Rattle.program_shape.specs.declared.Shape.{Shape}
 use Rattle.program_shape.specs.declared.Shape.TheVariants as loop-shape
 use Rattle.emit.specs.declared.Emitter.{Emitter}
 use Rattle.emit.specs.View.{World, world}
-use Rattle.emit.specs.Steps.{run, call, Ready, Fine, Booked, Created, Coded, Pooled, Filled}
+use Rattle.emit.specs.Steps.{run, call, Ready, Booked, Created, Coded, Filled}
 use Rattle.emit.proofs.Calls.{seq-filled, said-filled, fresh-filled}
 use Rattle.expr.specs.Went.{Went}
 use Rattle.expr.proofs.Laws.{filled}
@@ -39,7 +38,7 @@ use Rattle.stmt.specs.Lent.{Opens}
 use Rattle.stmt.specs.Ran.{Ran, RanBlock, RanBody, RanPlain, RanWhile, RanRepeat, RanLoop}
 use Rattle.stmt_parts.proofs.Marks.{marked-same, marked-then, loops-marked}
 use Rattle.stmt.proofs.Shapes.{while-shape, while-exits, unless-quiet, repeat-quiet}
-use Rattle.stmt_parts.proofs.Walks.{booked-on, created-on, pooled-on, coded-on}
+use Rattle.stmt_parts.proofs.Walks.{booked-on, created-on, coded-on}
 use Rattle.stmt.proofs.Walks.{at-loops, re}
 
 -- ---- a loop's body

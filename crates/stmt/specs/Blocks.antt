@@ -1,5 +1,5 @@
 -- Blocks and statements of the definition's walk, as code has them in functions of their own.
-use Rattle.std.specs.Prelude.{◌≡◌, Bool, true, false, List, [], ◌∷◌, ℕ}
+use Rattle.std.specs.Prelude.{Bool, true, false, List, [], ◌∷◌, ℕ}
 use Rattle.std.proofs.Math.Option.{Option, some, none}
 use Rattle.definition.specs.Opcode.{Sheet}
 use Rattle.definition.specs.Opcode as role

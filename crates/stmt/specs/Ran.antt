@@ -1,8 +1,8 @@
 -- What the contracts of statement emission say: the calls of the definition's walk, run on the emitter, the place behind the part, and the open loops that its
 -- CONTINUEs led to.
-use Rattle.std.specs.Prelude.{◌≡◌, Bool, not, ◌&&◌, ◌||◌, List, ℕ, ◌-◌, eqb}
+use Rattle.std.specs.Prelude.{◌≡◌, Bool, not, ◌&&◌, ◌||◌, List, ℕ, eqb}
 use Rattle.definition.specs.Opcode.{Sheet}
-use Rattle.definition.specs.Tree.{Expr, Block, Arms, CaseLabel, is_done}
+use Rattle.definition.specs.Tree.{Expr, Block, Arms, is_done}
 use Rattle.definition.specs.Program as def
 use Rattle.definition.specs.Program.{labels_at}
 use Rattle.definition.specs.Walk.{Calls}

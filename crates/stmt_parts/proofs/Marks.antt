@@ -1,16 +1,13 @@
 -- Which open loops a CONTINUE has led to: the flags after a part are those before, marked by what the definition's `continues` says of the part.
 use mathlib.Core.Path.{◌≡◌, refl, ap, sym, ◌∙◌}
 use mathlib.Core.Bool.{Bool, true, false, not, ◌&&◌, ◌||◌}
-use mathlib.Core.Option.{Option, some, none}
 use mathlib.Core.List.{List, [], ◌∷◌}
-use Prim.Native.Nat.{ℕ, zero, suc, ◌+◌, ◌*◌, ◌≤◌, ◌<◌}
+use Prim.Native.Nat.{ℕ, zero, suc, ◌*◌, ◌≤◌, ◌<◌}
 use native.Mathlib.Omega.{arith}
 use borrow.Author.Tests.{eq-eqb, ne_eqb, eqb-true, eqb-false}
-use lib.ListN.{length, get_or, set, length-set}
-use lib.Seq.{get_or-set_same, get_or-set_other}
+use lib.ListN.{get_or}
 use lib.Dec.{eqb}
-use Rattle.definition.specs.Stmt.{Loops, LoopLabels, labels, continues, continues_stmt}
-use Rattle.definition.specs.Tree.{Stmt, Block}
+use Rattle.definition.specs.Stmt.{labels}
 use Rattle.field.proofs.Tests.{or-none, or-any}
 use Rattle.stmt_parts.specs.Loops.{loop_size, Open, open_at, opens_in, loops_of, marked, found_at, Finds}
 

@@ -4,7 +4,6 @@ use mathlib.Core.Bool.{true, false}
 use mathlib.Core.Option.{Option, some, none}
 use mathlib.Core.List.{List}
 use Prim.Native.Nat.{ℕ}
-use lib.ListN.{length}
 use Rattle.definition.specs.Opcode.{Sheet, CompareOp, Add}
 use Rattle.definition.specs.Opcode as role
 use Rattle.definition.specs.Tree.{Expr}

@@ -1,6 +1,6 @@
 //! A dial string compiled through the library, and its listing. From the repository's root:
 //!
-//!     rt staticlib mezhukan
+//!     tools/build mezhukan
 //!     MEZHUKAN_LIB=$PWD/target/staticlib cargo run --manifest-path examples/rust/Cargo.toml < examples/dial.txt
 //!
 //! It reads what `listing` reads (sheet line, rule count line, rules, program) and prints what that prints, a refusal too; what a refusal

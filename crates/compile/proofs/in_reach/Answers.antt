@@ -1,4 +1,4 @@
-use Rattle.std.proofs.Common.{◌-◌, arith}
+use Rattle.std.proofs.Common.{arith}
 use Rattle.compile.proofs.Patches.{each-patch, reach-begins, reach-goes-on, reach-ends}
 use Rattle.compile.proofs.in_reach.Goals as goal
 

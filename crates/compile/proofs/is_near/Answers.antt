@@ -1,4 +1,4 @@
-use Rattle.std.proofs.Common.{◌-◌, arith}
+use Rattle.std.proofs.Common.{arith}
 use Rattle.compile.proofs.Patches.{near-back, near-forward}
 use Rattle.compile.proofs.is_near.Goals as goal
 

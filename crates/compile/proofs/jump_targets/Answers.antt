@@ -1,4 +1,4 @@
-use Rattle.std.proofs.Common.{◌-◌, sym, ◌∙◌, arith}
+use Rattle.std.proofs.Common.{sym, ◌∙◌, arith}
 use Rattle.compile.proofs.Patches.{each-patch, bound-small, target-begins, target-goes-on, targets-end}
 use Rattle.compile.proofs.jump_targets.Goals as goal
 

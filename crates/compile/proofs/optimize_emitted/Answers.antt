@@ -1,7 +1,6 @@
 use Rattle.opcode.specs.Table.{sheet_in}
 use Rattle.rules.specs.View.{rules_in}
 use Rattle.compile.proofs.Whole.{runnable, moved}
-use Rattle.std.proofs.Common.{rules}
 use Rattle.compile.proofs.optimize_emitted.Goals as goal
 
 pub jump_targets-requires : goal.jump_targets-requires

@@ -1,4 +1,4 @@
-use Rattle.std.proofs.Common.{◌-◌, arith}
+use Rattle.std.proofs.Common.{arith}
 use Rattle.compile.proofs.Patches.{each-patch, patch-begins, patch-goes-on, patch-ends}
 use Rattle.compile.proofs.patch_jumps.Goals as goal
 

@@ -5,6 +5,7 @@ use Rattle.program_line.specs.declared.ExprLine.TheVariants.{ShortCircuit}
 use Rattle.emit.proofs.Steps.{coded-filled}
 use Rattle.expr.proofs.Lines.{passed-fewer, read-most}
 use Rattle.expr.proofs.Laws.{line-is, line-passed, bad-some, went-bad, went-const, went-bool, went-read, went-binary, went-compare, went-unary, went-short, two-done, and-done, or-done}
+use borrow.Author.Rules.{rules}
 use Rattle.expr.proofs.+exprs.Goals as goal
 
 pub emit_and_then-next_line-first-requires : goal.emit_and_then-next_line-first-requires
@@ -185,7 +186,7 @@ pub emit_expr-shape_of-pool-in-AndThen : goal.emit_expr-shape_of-pool-in-AndThen
 emit_expr-shape_of-pool-in-AndThen t c = c.emit_and_then.ensures.ready.held.size ∙ sym c.requires.ready.held.size
 
 pub emit_expr-returns-in-AndThen : goal.emit_expr-returns-in-AndThen
-emit_expr-returns-in-AndThen t c = went-short _ _ _ _ _ _ _ (line-is _ _ _ _ c.next_expr-r.ensures.is (c.in-ShortCircuit.is ∙ ap ShortCircuit c.in-AndThen.is)) c.emit_and_then.ensures
+emit_expr-returns-in-AndThen t c = went-short _ _ _ _ _ _ _ (line-is _ _ _ _ c.next_expr-r.ensures.is (c.in-ShortCircuit.is ∙ ap ShortCircuit c.in-AndThen.is)) (search rules)
 
 pub emit_expr-shape_of-code-in-OrElse : goal.emit_expr-shape_of-code-in-OrElse
 emit_expr-shape_of-code-in-OrElse t c = c.emit_or_else.ensures.ready.room ∙ sym c.requires.ready.room
@@ -197,7 +198,7 @@ pub emit_expr-shape_of-pool-in-OrElse : goal.emit_expr-shape_of-pool-in-OrElse
 emit_expr-shape_of-pool-in-OrElse t c = c.emit_or_else.ensures.ready.held.size ∙ sym c.requires.ready.held.size
 
 pub emit_expr-returns-in-OrElse : goal.emit_expr-returns-in-OrElse
-emit_expr-returns-in-OrElse t c = went-short _ _ _ _ _ _ _ (line-is _ _ _ _ c.next_expr-r.ensures.is (c.in-ShortCircuit.is ∙ ap ShortCircuit c.in-OrElse.is)) c.emit_or_else.ensures
+emit_expr-returns-in-OrElse t c = went-short _ _ _ _ _ _ _ (line-is _ _ _ _ c.next_expr-r.ensures.is (c.in-ShortCircuit.is ∙ ap ShortCircuit c.in-OrElse.is)) (search rules)
 
 pub emit_or_else-next_line-first-requires : goal.emit_or_else-next_line-first-requires
 emit_or_else-next_line-first-requires t c = record { near = c.requires.near; at_in_bounds = c.requires.at_in_bounds; end_value = c.requires.end_value }

@@ -1,7 +1,6 @@
-use Prim.Native.Nat.{◌-◌}
 use mathlib.Core.Path.{refl, ◌∙◌, sym, ap}
 use Rattle.field.specs.View.{number_of}
-use Rattle.field.proofs.Numbers.{after, after_next, after-end, natural-after}
+use Rattle.field.proofs.Numbers.{after_next, after-end, natural-after}
 use borrow.Author.Rules.{rules}
 use Rattle.field.proofs.natural.Goals as goal
 

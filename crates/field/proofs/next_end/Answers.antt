@@ -1,4 +1,3 @@
-use Prim.Native.Nat.{◌-◌}
 use mathlib.Core.Path.{refl, sym, ◌∙◌}
 use lib.ListN.{get_or-eq_default}
 use Rattle.field.proofs.Parts.{finds-start, finds-next, finds-here, finds-end}

@@ -1,6 +1,4 @@
-use Prim.Native.Nat.{◌-◌}
 use borrow.Author.Tests.{eq-eqb, ne_eqb}
-use lib.Dec.{eqb}
 use Rattle.field.proofs.Parts.{finds-start, finds-next, finds-here, finds-end}
 use borrow.Author.Rules.{rules}
 use Rattle.field.proofs.part_end.Goals as goal

@@ -1,5 +1,4 @@
 use Rattle.input_reader.proofs.Heads.{counted-few, counted-many}
-use borrow.Author.Rules.{rules}
 use Rattle.input_reader.proofs.counted.Goals as goal
 
 pub returns-then-h-le-RULES : goal.returns-then-h-le-RULES

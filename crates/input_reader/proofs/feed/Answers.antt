@@ -1,4 +1,3 @@
-use Prim.Native.Nat.{◌-◌}
 use Rattle.input_reader.proofs.Feeds.{feed-begins, feed-goes-on, feed-ends}
 use Rattle.input_reader.proofs.feed.Goals as goal
 

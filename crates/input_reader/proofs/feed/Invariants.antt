@@ -2,7 +2,6 @@ use Prim.Native.Nat.{◌-◌}
 use lib.ListN.{length}
 use Rattle.input_reader.specs.View.{phase_view, state_view}
 use Rattle.input_reader.proofs.Feeds.{Feeding}
-use borrow.Author.Rules.{rules}
 use Rattle.input_reader.proofs.feed.Given as goal
 
 abbrev pub invariant-loop-i : goal.invariant-loop-i

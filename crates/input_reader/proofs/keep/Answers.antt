@@ -1,7 +1,6 @@
 use mathlib.Core.Path.{ap}
 use Rattle.input_reader.specs.View.{put_view}
 use Rattle.input_reader.proofs.Feeds.{kept-nothing, kept-sheet, kept-rules, kept-code, kept-offsets, kept-entries}
-use borrow.Author.Rules.{rules}
 use Rattle.input_reader.proofs.keep.Goals as goal
 
 pub returns-in-Nothing : goal.returns-in-Nothing

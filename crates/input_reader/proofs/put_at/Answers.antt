@@ -2,7 +2,6 @@ use mathlib.Core.Path.{ap, ◌∙◌}
 use Rattle.input_machine.specs.Machine.{sheet_line, count_line, rule_line, code_line, offset_line, entry_line, program_text, malformed, uncounted, put_in}
 use Rattle.input_reader.specs.View.{phase_view}
 use Rattle.input_reader.proofs.Heads.{put-in}
-use borrow.Author.Rules.{rules}
 use Rattle.input_reader.proofs.put_at.Goals as goal
 
 pub returns-in-SheetLine : goal.returns-in-SheetLine

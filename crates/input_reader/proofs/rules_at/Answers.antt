@@ -1,5 +1,4 @@
 use Rattle.input_reader.proofs.Heads.{rules-none, rules-some}
-use borrow.Author.Rules.{rules}
 use Rattle.input_reader.proofs.rules_at.Goals as goal
 
 pub returns-then-left-eq0 : goal.returns-then-left-eq0

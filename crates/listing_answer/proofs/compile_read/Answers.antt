@@ -2,7 +2,6 @@ use mathlib.Core.List.{[]}
 use Rattle.input_reader.specs.View.{stores_view}
 use Rattle.input_reader.proofs.Handing.{handed-long}
 use Rattle.listing_answer.proofs.Handing.{read_by}
-use borrow.Author.Rules.{rules}
 use Rattle.listing_answer.proofs.compile_read.Goals as goal
 
 pub slice_bounds-compile-end : goal.slice_bounds-compile-end

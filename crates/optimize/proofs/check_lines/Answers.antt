@@ -1,4 +1,3 @@
-use Prim.Native.Nat.{◌-◌}
 use mathlib.Core.Path.{sym, ◌∙◌}
 use Rattle.optimize.proofs.Checks.{lines-begin, lines-go-on, lines-bad, lines_end}
 use Rattle.optimize.proofs.check_lines.Goals as goal

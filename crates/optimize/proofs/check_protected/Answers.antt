@@ -1,4 +1,3 @@
-use Prim.Native.Nat.{◌-◌}
 use mathlib.Core.Path.{sym, ◌∙◌}
 use Rattle.optimize.proofs.Checks.{check-begins, check-goes-on, check-bad, check-ends}
 use Rattle.optimize.proofs.check_protected.Goals as goal

@@ -1,6 +1,5 @@
 use native.Mathlib.Omega.{arith}
-use Prim.Native.Nat.{◌-◌}
-use lib.ListN.{length, length-set}
+use lib.ListN.{length-set}
 use Rattle.optimize.proofs.Bounds.{list-begins, list-goes-on, list-within, list-ends}
 use Rattle.optimize.proofs.list_boundaries.Goals as goal
 

@@ -1,4 +1,3 @@
-use Prim.Native.Nat.{◌-◌}
 use native.Mathlib.Omega.{arith}
 use Rattle.optimize.proofs.Tables.{mark-begins, mark-goes-on, mark-ends}
 use Rattle.optimize.proofs.mark.Goals as goal

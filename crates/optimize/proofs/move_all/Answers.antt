@@ -1,5 +1,3 @@
-use Prim.Native.Nat.{◌-◌}
-use Rattle.definition.specs.Rewrite.{moved_to}
 use Rattle.optimize.proofs.Tables.{move-begins, move-goes-on, move-ends}
 use Rattle.optimize.proofs.move_all.Goals as goal
 

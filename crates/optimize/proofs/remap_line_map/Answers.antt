@@ -1,4 +1,3 @@
-use Prim.Native.Nat.{◌-◌}
 use Rattle.optimize.proofs.Lines.{remap-begins, remap-goes-on, remap-ends, remap-last}
 use Rattle.optimize.proofs.remap_line_map.Goals as goal
 

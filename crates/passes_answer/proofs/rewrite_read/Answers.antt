@@ -1,7 +1,6 @@
 use Rattle.input_reader.specs.View.{stores_view}
 use Rattle.input_reader.proofs.Handing.{handed-long}
 use Rattle.passes_answer.proofs.Handing.{read_by}
-use borrow.Author.Rules.{rules}
 use Rattle.passes_answer.proofs.rewrite_read.Goals as goal
 
 pub slice_bounds-rewrite_alone-end : goal.slice_bounds-rewrite_alone-end

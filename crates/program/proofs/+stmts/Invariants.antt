@@ -1,7 +1,7 @@
 use Prim.Native.Nat.{◌+◌, ◌*◌}
 use Rattle.program.specs.Walk.{over_arm, over_stmt}
 use Rattle.program.specs.Ends.{Sound}
-use Rattle.program.proofs.Laws.{Going, ends}
+use Rattle.program.proofs.Laws.{Going}
 use Rattle.program.proofs.+stmts.Given as goal
 
 -- walk_stmt at `left` calls the others at one level less; there walk_arms calls walk_arm, which calls walk_stmts, which calls walk_stmt

@@ -1,7 +1,6 @@
 use native.Mathlib.Omega.{arith}
-use Prim.Native.Nat.{◌-◌}
 use mathlib.Core.Path.{◌∙◌}
-use lib.ListN.{length, length-set}
+use lib.ListN.{length-set}
 use Rattle.rewrite.proofs.Pass.{begins}
 use Rattle.rewrite.proofs.Plans.{turns, turn-within, finishes, still-ready}
 use Rattle.rewrite.proofs.apply_peephole.Goals as goal

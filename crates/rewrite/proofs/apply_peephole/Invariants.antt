@@ -3,7 +3,6 @@ use lib.ListN.{length}
 use Rattle.opcode.specs.Table.{sheet_in}
 use Rattle.rewrite.specs.View.{marked, matcher, next_view}
 use Rattle.rewrite.proofs.Pass.{Going}
-use borrow.Author.Rules.{rules}
 use Rattle.rewrite.proofs.apply_peephole.Given as goal
 
 abbrev pub invariant-loop-index : goal.invariant-loop-index

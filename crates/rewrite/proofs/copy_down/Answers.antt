@@ -1,4 +1,3 @@
-use Prim.Native.Nat.{◌-◌}
 use Rattle.rewrite.proofs.Copy.{copy-begins, copy-goes-on, copy-ends}
 use Rattle.rewrite.proofs.copy_down.Goals as goal
 

@@ -3,7 +3,6 @@ use native.Mathlib.Omega.{arith}
 use Rattle.opcode.specs.Table.{sheet_in}
 use Rattle.rewrite.proofs.Looking.{looked-first, unmatched}
 use Rattle.rewrite.proofs.Plans.{decided-none, decided-known, decided-unstarted, decided-within, decided-last, decided-first, decided-second, decided-unmatched, decided-matched}
-use borrow.Author.Rules.{rules}
 use Rattle.rewrite.proofs.decide.Goals as goal
 
 pub decode-a-requires : goal.decode-a-requires

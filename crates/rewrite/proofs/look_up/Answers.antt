@@ -1,5 +1,4 @@
 use Rattle.rewrite.proofs.Looking.{looked}
-use borrow.Author.Rules.{rules}
 use Rattle.rewrite.proofs.look_up.Goals as goal
 
 pub find-requires : goal.find-requires

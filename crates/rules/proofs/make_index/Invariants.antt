@@ -1,4 +1,3 @@
-use Prim.Native.Nat.{◌-◌}
 use Rattle.rules.proofs.Chain.{Linking}
 use Rattle.rules.proofs.make_index.Given as goal
 

@@ -1,4 +1,3 @@
-use Prim.Native.Nat.{◌-◌}
 use Rattle.rules.proofs.Table.{stores-start, stores-next, stored}
 use borrow.Author.Rules.{rules}
 use Rattle.rules.proofs.put.Goals as goal

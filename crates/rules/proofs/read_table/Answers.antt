@@ -1,4 +1,3 @@
-use Prim.Native.Nat.{◌-◌}
 use borrow.Author.Tests.{not-true, not-false}
 use Rattle.store.proofs.Fills.{zero-all}
 use Rattle.rules.proofs.File.{file-starts, file-full, file-bad, file-next, file-less, file-done, file-refused}

@@ -1,5 +1,4 @@
 use native.Mathlib.Omega.{arith}
-use Prim.Native.Nat.{◌-◌}
 use Rattle.store.proofs.Fills.{fill_begins, fill-goes-on, fill-ends}
 use Rattle.store.proofs.fill_words.Goals as goal
 

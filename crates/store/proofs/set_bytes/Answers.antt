@@ -1,4 +1,3 @@
-use Prim.Native.Nat.{◌-◌}
 use Rattle.store.proofs.Fills.{set-begins, set-goes-on, set-ends}
 use Rattle.store.proofs.set_bytes.Goals as goal
 

@@ -1,4 +1,3 @@
-use Prim.Native.Nat.{◌-◌}
 use Rattle.store.proofs.Fills.{set-begins, set-goes-on, set-ends, zero_is}
 use Rattle.store.proofs.zero_numbers.Goals as goal
 

@@ -1,7 +1,7 @@
 //! A file of images checked through the library, as `examples/c/images.c` does it: what it reads and prints stands there. From the repository's
 //! root:
 //!
-//!     rt staticlib mezhukan
+//!     tools/build mezhukan
 //!     MEZHUKAN_LIB=$PWD/target/staticlib cargo run --manifest-path examples/rust/Cargo.toml --bin images < examples/images.txt
 
 #![forbid(unsafe_code)]

@@ -1,7 +1,7 @@
 //! The slowest calls of a file of images, through the library, as `examples/c/slowest.c` does it: what it reads and prints stands there. From the
 //! repository's root:
 //!
-//!     rt staticlib mezhukan
+//!     tools/build mezhukan
 //!     MEZHUKAN_LIB=$PWD/target/staticlib cargo run --manifest-path examples/rust/Cargo.toml --bin slowest < examples/slowest.txt
 
 #![forbid(unsafe_code)]

@@ -1,4 +1,4 @@
-use Rattle.std.proofs.Common.{ℕ, sym, ◌∙◌, rules}
+use Rattle.std.proofs.Common.{ℕ, sym, ◌∙◌}
 use lib.ListN.{length-replicate}
 use Rattle.opcode.specs.Table.{table_size, sheet_in}
 use Rattle.opcode.proofs.Readings.{read_whole}

@@ -1,4 +1,4 @@
-use Rattle.std.proofs.Common.{ℕ, sym, refl, ◌∙◌, arith, length-take-le, rules}
+use Rattle.std.proofs.Common.{ℕ, sym, refl, ◌∙◌, arith, length-take-le}
 use lib.ListN.{length-replicate}
 use Rattle.opcode.specs.Table.{sheet_in}
 use Rattle.rules.specs.View.{rules_in}

@@ -1,4 +1,4 @@
-use Rattle.std.proofs.Common.{ℕ, rules}
+use Rattle.std.proofs.Common.{ℕ}
 use lib.ListN.{length-replicate}
 use Rattle.opcode.specs.Table.{sheet_in}
 use Rattle.rules.specs.View.{table_size}

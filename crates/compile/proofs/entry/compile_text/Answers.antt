@@ -1,4 +1,4 @@
-use Rattle.std.proofs.Common.{sym, ap, ◌∙◌, rules}
+use Rattle.std.proofs.Common.{sym, ap, ◌∙◌}
 use Rattle.opcode.specs.Table.{sheet_in}
 use Rattle.rules.specs.View.{rules_in}
 use Rattle.program.specs.Check.{checked_view}

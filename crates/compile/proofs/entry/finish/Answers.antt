@@ -1,7 +1,6 @@
 use Rattle.opcode.specs.Table.{sheet_in}
 use Rattle.rules.specs.View.{rules_in}
 use Rattle.compile.proofs.Answers.{any-pool, ends-refused, ends-far, ends-finished}
-use Rattle.std.proofs.Common.{rules}
 use Rattle.compile.proofs.entry.finish.Goals as goal
 
 pub returns-then-e-ne0 : goal.returns-then-e-ne0

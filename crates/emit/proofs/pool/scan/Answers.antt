@@ -1,4 +1,3 @@
-use Prim.Native.Nat.{◌-◌}
 use Rattle.emit.proofs.Constants.{index-begins, index_on, index-found, index-none}
 use Rattle.emit.proofs.pool.scan.Goals as goal
 

@@ -1,6 +1,4 @@
 use mathlib.Core.Path.{sym, ◌∙◌, refl}
-use Prim.Native.Nat.{◌-◌}
-use Rattle.definition.specs.Field.{has}
 use Rattle.opcode.proofs.Readings.{has_here, has-next, has_end}
 use borrow.Author.Rules.{rules}
 use Rattle.opcode.proofs.sheet.contains.Goals as goal

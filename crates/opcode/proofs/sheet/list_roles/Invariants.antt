@@ -1,4 +1,3 @@
-use Prim.Native.Nat.{◌-◌}
 use Rattle.opcode.proofs.Tables.{Listing}
 use Rattle.opcode.proofs.sheet.list_roles.Given as goal
 

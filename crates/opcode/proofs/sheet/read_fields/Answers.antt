@@ -1,4 +1,3 @@
-use Prim.Native.Nat.{◌-◌}
 use mathlib.Core.Path.{refl, sym, ◌∙◌}
 use native.Mathlib.Omega.{arith}
 use Rattle.field.proofs.Fields.{walked-starts, walked_next, walked-off, walked-inside, walk_inside, walk_here}

@@ -5,7 +5,6 @@ use Rattle.optimize.specs.View.{given, room}
 use Rattle.optimize.proofs.Entry.{roomy-is, short, refused-7, after-sheet, sheet-ready}
 use Rattle.opcode.specs.Table.{table_size}
 use Rattle.opcode.proofs.Readings.{read_whole}
-use borrow.Author.Rules.{rules}
 use Rattle.optimize.proofs.alone.rewrite_alone.Goals as goal
 
 pub returns-then-not-roomy : goal.returns-then-not-roomy

@@ -2,7 +2,6 @@ use Rattle.opcode.specs.Table.{sheet_in}
 use Rattle.rules.specs.View.{rules_in}
 use Rattle.optimize.specs.View.{given}
 use Rattle.optimize.proofs.Whole.{refused-8, finished}
-use borrow.Author.Rules.{rules}
 use Rattle.optimize.proofs.alone.rewrite_checked.Goals as goal
 
 pub check-requires : goal.check-requires

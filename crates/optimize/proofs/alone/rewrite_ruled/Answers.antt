@@ -5,7 +5,6 @@ use Rattle.rules.proofs.File.{file-fit}
 use Rattle.optimize.specs.View.{given, room}
 use Rattle.optimize.proofs.Entry.{refused-9, after-rules, rules-read}
 use Rattle.rules.specs.View.{table_size}
-use borrow.Author.Rules.{rules}
 use Rattle.optimize.proofs.alone.rewrite_ruled.Goals as goal
 
 pub rewrite_limited-requires : goal.rewrite_limited-requires
