@@ -1,6 +1,5 @@
 // The listing: reads a sheet, rules and a program from standard input, and prints the finished code with its constants and lines, or a refusal. Where
-// the input cannot be read, or the output not written, it says so on standard error; bin/listing makes an exit status of that, since a Rattle program has
-// none of its own.
+// the input cannot be read, or the output not written, it says so on standard error; bin/listing makes an exit status of that.
 #![tactic(auto)]
 
 use input_reader::{PROGRAM_ROOM, Phase, RULE_ROOM, Reader, SHEET_ROOM};

@@ -1,6 +1,6 @@
 // Rewriting called alone, as the rig uses it: reads a sheet, rules, code, protected offsets and line entries from standard input, and prints
 // the rewritten code, the moved offsets and the mapped lines, or a refusal. Where the input cannot be read, or the output not written, it says so on
-// standard error; bin/passes makes an exit status of that, since a Rattle program has none of its own.
+// standard error; bin/passes makes an exit status of that.
 #![tactic(auto)]
 
 use input_reader::{CODE_ROOM, ENTRY_ROOM, OFFSET_ROOM, Phase, RULE_ROOM, Reader, SHEET_ROOM};

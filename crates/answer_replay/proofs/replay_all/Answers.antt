@@ -1,6 +1,5 @@
 use native.Mathlib.Omega.{arith}
 use mathlib.Core.Path.{◌∙◌}
-use Prim.Native.Nat.{◌-◌}
 use Rattle.std.proofs.lemmas.Result.{IfOk-weaker}
 use Rattle.replay.proofs.Parts.{parts, at_most_one, count-begins, count-on, count-ends}
 use borrow.Author.Rules.{rules}

@@ -1,4 +1,4 @@
-use Rattle.std.proofs.Common.{ℕ, sym, arith, length-take-le}
+use Rattle.std.proofs.Common.{ℕ, sym}
 use lib.ListN.{length-replicate}
 use Rattle.text.specs.Text.{text_room}
 use Rattle.compile_test.proofs.is_answered.Goals as goal

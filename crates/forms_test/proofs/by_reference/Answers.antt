@@ -1,4 +1,3 @@
-use mathlib.Core.Path.{sym}
 use Rattle.emit.proofs.Chains.{held-empty}
 use borrow.Author.Rules.{rules}
 use Rattle.forms_test.proofs.by_reference.Goals as goal

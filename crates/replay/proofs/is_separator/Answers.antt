@@ -1,7 +1,7 @@
 use native.Mathlib.Omega.{arith}
 use lib.ListN.{length-drop}
 use Rattle.replay.specs.Case.{separator}
-use Rattle.replay.proofs.Parts.{begins-short, match-begins, match-on, match-not, match-all}
+use Rattle.replay.proofs.Parts.{begins-short, match-on, match-not, match-all}
 use borrow.Author.Rules.{rules}
 use Rattle.replay.proofs.is_separator.Goals as goal
 
