@@ -2,7 +2,8 @@
 // many differ.
 #![tactic(auto)]
 
-ghost use Rattle.std.specs.Prelude.{◌≡◌, ◌≤◌, length, IfOk};
+ghost use Rattle.std.specs.Prelude.{◌≡◌, ℕ, ◌≤◌, List, length, IfOk, OnErr};
+ghost use Rattle.std.specs.Io.KnownBytes.{Consumes};
 ghost use Rattle.replay.specs.Case.{case_count, Replayed};
 
 use definition::{MAX_CODE, MAX_OUTCOMES};
@@ -174,9 +175,11 @@ pub fn replay_all<W: Write>(out: &mut W, asked: Asked, input: &[u8]) -> io::Resu
     replay::total(out, cases, differ)
 }
 
-// The stored answers that a reader gives, as far as there is room for them: how many cases there were. An error is the reader's or the writer's.
+// The stored answers that a reader gives, as far as there is room for them: how many cases there were. An error is the reader's or the writer's; what was read before it
+// is the first of what the reader had.
 pub fn replay_input<R: Read, W: Write>(from: &mut R, out: &mut W, asked: Asked) -> io::Result<u64>
-    ensures { IfOk result (λ n. Replayed (R.remaining from.old) (R.remaining from.new) n) }
+    ensures ok { IfOk result (λ n. Replayed (R.remaining from.old) (R.remaining from.new) n) }
+    ensures err { OnErr result ((bs : List ℕ) × Consumes (R.remaining from.old) (R.remaining from.new) bs) }
 {
     let mut input = [0u8; INPUT_ROOM];
     let n = replay::read_full(from, &mut input)?;
