@@ -30,3 +30,4 @@ pub mod Listing
 pub mod Passes
 pub mod Cases
 pub mod Refusals
+pub mod View

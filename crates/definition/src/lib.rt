@@ -3,6 +3,7 @@
 
 ghost use Rattle.std.specs.Prelude.{◌≡◌, ◌*◌};
 ghost use Rattle.definition.specs.Limits.{max_code, max_back, max_forward, max_branches, max_labels, max_protected, max_lines, max_constants, max_outcomes, entry_size, max_program, max_nesting, max_variables, max_field, max_rules, pass_count, width, bad_text, bad_form, bad_range, no_loop, too_deep, wrong_lines, bad_sheet, bad_code, bad_rule, code_full, labels_full, lines_full, constants_full, output_short, far_branch, astray, bad_height};
+ghost use Rattle.definition.specs.View.{refusal_number};
 ghost use Rattle.definition.specs.Opcode.{role_count, comparison_count};
 ghost use Rattle.definition.specs.Rules.{nameable, last_test, last_action};
 
@@ -85,6 +86,62 @@ pub const FAR_BRANCH: u8 = 15;
 pub const ASTRAY: u8 = 20;
 // Refusal: an image with a height fault.
 pub const BAD_HEIGHT: u8 = 21;
+
+// Why something is refused. The constants above say what each number means.
+#[derive(Clone, Copy, PartialEq, Eq)]
+pub enum Refusal {
+    BadText,
+    BadForm,
+    BadRange,
+    NoLoop,
+    TooDeep,
+    WrongLines,
+    BadSheet,
+    BadCode,
+    BadRule,
+    CodeFull,
+    LabelsFull,
+    LinesFull,
+    ConstantsFull,
+    OutputShort,
+    FarBranch,
+    Astray,
+    BadHeight,
+}
+
+// A refusal and its place: a line, a field, an offset, or 0.
+#[derive(Clone, Copy, PartialEq, Eq)]
+pub struct Refused {
+    pub refusal: Refusal,
+    pub place: usize,
+}
+
+impl Refusal {
+    // The number that is answered.
+    pub fn number(self) -> u8
+        ensures { result ≡ refusal_number self }
+    {
+        match self {
+            Refusal::BadText => BAD_TEXT,
+            Refusal::BadForm => BAD_FORM,
+            Refusal::BadRange => BAD_RANGE,
+            Refusal::NoLoop => NO_LOOP,
+            Refusal::TooDeep => TOO_DEEP,
+            Refusal::WrongLines => WRONG_LINES,
+            Refusal::BadSheet => BAD_SHEET,
+            Refusal::BadCode => BAD_CODE,
+            Refusal::BadRule => BAD_RULE,
+            Refusal::CodeFull => CODE_FULL,
+            Refusal::LabelsFull => LABELS_FULL,
+            Refusal::LinesFull => LINES_FULL,
+            Refusal::ConstantsFull => CONSTANTS_FULL,
+            Refusal::OutputShort => OUTPUT_SHORT,
+            Refusal::FarBranch => FAR_BRANCH,
+            Refusal::Astray => ASTRAY,
+            Refusal::BadHeight => BAD_HEIGHT,
+        }
+    }
+}
 
 pub fn max_code() -> usize
     ensures { result ≡ max_code }
