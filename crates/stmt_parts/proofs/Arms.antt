@@ -99,14 +99,14 @@ pub tests : (s : Sheet) (left : ℕ) (text : List ℕ) (body fail n : ℕ) (c : 
 tests s left text body fail n c w near ready h = record { did = λ u d. d; end = refl; left_over = h; near = near; ready = ready }
 
 module _ {s : Sheet} {left : ℕ} {text : List ℕ} {body fail n : ℕ} {c : def.Cursor} {w₀ w : World} {more : ℕ} {here : Cursor} (t : Testing s left text body fail n c w₀ w more here) where
-  pub tests-on : {u : World} {here' : Cursor} → Leads s (test_jump (label_here left text (cursor_of here)).0 body) text (label_here left text (cursor_of here)).1 w u here' → 1 < more → Testing s left text body fail n c w₀ u (more - 1) here'
-  tests-on r h = record {
+  pub tests-on : {u : World} {here' : Cursor} → Leads s (test_jump (label_here left text (cursor_of here)).0 body) text (label_here left text (cursor_of here)).1 w u here' → 1 < more → {rest : ℕ} → rest ≡ more - 1 → Testing s left text body fail n c w₀ u rest here'
+  tests-on r h is-rest = rw is-rest (record {
     did = λ u d. t.did u (rw (tests-more left text (cursor_of here) more body fail h) (r.did _ u (rw r.place.is at d)));
     end = rw r.place.is (sym (labels-end left text (cursor_of here) more h) ∙ t.end);
     left_over = omega arith;
     near = r.place.near;
     ready = r.ready;
-  }
+  })
 
   pub tests-end : {u : World} {here' : Cursor} → more ≤ 1 → Went s (test_label (label_here left text (cursor_of here)).0 fail) text (label_here left text (cursor_of here)).1 w u here' → Went s (test_all (labels_at left text n c).0 body fail) text (labels_at left text n c).1 w₀ u here'
   tests-end z r =

@@ -21,8 +21,9 @@ use Rattle.emit.specs.Pool.{Held}
 use Rattle.emit.specs.View.{World, world}
 use Rattle.emit.specs.Steps.{run, Ready, Fine, Coded, Filled}
 use Rattle.expr.specs.declared.Walked.{Walked}
+use Rattle.stmt_parts.specs.declared.loops.OpenLoop.{OpenLoop}
 use Rattle.stmt_parts.specs.declared.labels.ArmParts.{ArmParts}
-use Rattle.stmt_parts.specs.Loops.{loops_size, opens_in, loops_of, marked, led_to}
+use Rattle.stmt_parts.specs.Loops.{opens_in, loops_of, marked, led_to}
 
 -- m was emitted, and whatever is emitted next stands where m has it
 pub record Leads (s : Sheet) (m : Calls → Calls) (text : List ℕ) (d : def.Cursor) (w v : World) (c : Cursor) : Type 0 where
@@ -48,10 +49,9 @@ pub record Stepped (s : Sheet) (m : Calls) (text : List ℕ) (d : def.Cursor) (e
   pub coded : Coded (run s m) e code book r.emitter code' book'
 
 -- a CONTINUE of loop i was emitted, its line at c
-pub record Continued (s : Sheet) (inside i : ℕ) (text : List ℕ) (c : def.Cursor) (e : Emitter) (code book ls : List ℕ) (r : Walked) (code' book' ls' : List ℕ) : Type 0 where
+pub record Continued (s : Sheet) (inside i : ℕ) (text : List ℕ) (c : def.Cursor) (e : Emitter) (code book : List ℕ) (ls : List OpenLoop) (r : Walked) (code' book' : List ℕ) (ls' : List OpenLoop) : Type 0 where
   pub stepped : Stepped s (jump_row c.row (next_of (labels i (loops_of (opens_in ls inside))))) text (next_line text c) e code book r code' book'
   pub is : ls' ≡ led_to i ls inside
-  pub slots : length ls' ≡ loops_size
   pub marks : opens_in ls' inside ≡ marked (λ j. eqb j i) (opens_in ls inside)
 
 -- ---- FOR

@@ -15,7 +15,7 @@ ghost use Rattle.emit.specs.Steps.{run, Ready, Fine, Coded, Filled};
 ghost use Rattle.expr.specs.Went.{Went};
 ghost use Rattle.stmt_parts.specs.Parts.{Leads, arm_parts, label_here, test_jump, test_all, arm_tests, arm_end};
 
-use emit::{Constant, Emitter, Label};
+use emit::{Constant, Emitter, Label, NewLabel};
 use expr::Walked;
 use opcode::{CompareOp, Role};
 use program::Cursor;
@@ -60,10 +60,10 @@ fn test_against(
     requires { Ready (world e code.old book.old pool.old) }
     ensures { Filled (run (sheet_in sheet.now) (test_against (compare_view op) k fail.0)) (world e code.old book.old pool.old) (world result code.new book.new pool.new) }
 {
-    let a = e.emit_opcode(sheet, code, book, Role::Dup);
-    let b = a.load_constant(sheet, code, book, pool, k);
-    let d = compile_expr::emit_typed(b, sheet, code, book, Role::Compare(op));
-    d.emit_jmp_if_not(sheet, code, book, fail)
+    let e = e.emit_opcode(sheet, code, book, Role::Dup);
+    let e = e.load_constant(sheet, code, book, pool, k);
+    let e = compile_expr::emit_typed(e, sheet, code, book, Role::Compare(op));
+    e.emit_jmp_if_not(sheet, code, book, fail)
 }
 
 // The test of a value.
@@ -96,8 +96,8 @@ pub fn test_range(
     requires { Ready (world e code.old book.old pool.old) }
     ensures { Filled (run (sheet_in sheet.now) (test_label (range low high) fail.0)) (world e code.old book.old pool.old) (world result code.new book.new pool.new) }
 {
-    let a = test_against(e, sheet, code, book, pool, CompareOp::Ge, low, fail);
-    test_against(a, sheet, code, book, pool, CompareOp::Le, high, fail)
+    let e = test_against(e, sheet, code, book, pool, CompareOp::Ge, low, fail);
+    test_against(e, sheet, code, book, pool, CompareOp::Le, high, fail)
 }
 
 // The test of the label at a place.
@@ -116,26 +116,22 @@ fn test_label(
     requires ready { Ready (world e code.old book.old pool.old) }
     ensures { Went (sheet_in sheet.now) (test_label (label_here left text.now (cursor_of c)).0 fail.0) text.now (label_here left text.now (cursor_of c)).1 (world e code.old book.old pool.old) (world result.emitter code.new book.new pool.new) result.cursor }
 {
-    let at = c.at;
-    let row = c.row;
-    let r = program_line::next_label(text, left, at);
-    let end = r.end;
-    let line = r.line;
-    match line {
+    let next = program_line::next_label(text, left, c.at);
+    match next.line {
         LabelLine::Value(k) => {
-            let cursor = program::next_line(text, c, end);
+            let cursor = program::next_line(text, c, next.end);
             let emitter = test_value(e, sheet, code, book, pool, k, fail);
             Walked { cursor, emitter }
         }
         LabelLine::Range(low, high) => {
-            let cursor = program::next_line(text, c, end);
+            let cursor = program::next_line(text, c, next.end);
             let emitter = test_range(e, sheet, code, book, pool, low, high, fail);
             Walked { cursor, emitter }
         }
-        LabelLine::Bad(n) => {
-            let emitter = e.refuse(n, row);
-            Walked { cursor: c, emitter }
-        }
+        LabelLine::Bad(n) => Walked {
+            cursor: c,
+            emitter: e.refuse(n, c.row),
+        },
     }
 }
 
@@ -155,14 +151,10 @@ fn test_jump(
     requires ready { Ready (world e code.old book.old pool.old) }
     ensures { Leads (sheet_in sheet.now) (test_jump (label_here left text.now (cursor_of c)).0 body.0) text.now (label_here left text.now (cursor_of c)).1 (world e code.old book.old pool.old) (world result.emitter code.new book.new pool.new) result.cursor }
 {
-    let next = e.create_label(book);
-    let label = next.label;
-    let on = next.emitter;
-    let t = test_label(text, sheet, code, book, pool, left, on, c, label);
-    let cursor = t.cursor;
-    let e1 = t.emitter;
-    let j = e1.emit_jmp(sheet, code, book, body);
-    let emitter = j.bind_label(book, label);
+    let NewLabel { emitter, label } = e.create_label(book);
+    let Walked { cursor, emitter } = test_label(text, sheet, code, book, pool, left, emitter, c, label);
+    let e = emitter.emit_jmp(sheet, code, book, body);
+    let emitter = e.bind_label(book, label);
     Walked { cursor, emitter }
 }
 
@@ -185,14 +177,12 @@ fn test_labels(
     requires n_nonzero { 0 < n }
     ensures { Went (sheet_in sheet.now) (test_all (labels_at left text.now n (cursor_of c)).0 body.0 fail.0) text.now (labels_at left text.now n (cursor_of c)).1 (world e code.old book.old pool.old) (world result.emitter code.new book.new pool.new) result.cursor }
 {
-    let mut more = n;
     let mut on = e;
     let mut here = c;
-    while more > 1 {
-        let t = test_jump(text, sheet, code, book, pool, left, on, here, body);
-        on = t.emitter;
-        here = t.cursor;
-        more = more - 1;
+    for _ in 1..n {
+        let next = test_jump(text, sheet, code, book, pool, left, on, here, body);
+        on = next.emitter;
+        here = next.cursor;
     }
     test_label(text, sheet, code, book, pool, left, on, here, fail)
 }
@@ -218,13 +208,9 @@ pub fn open_arm(
     if n == 1 {
         return test_label(text, sheet, code, book, pool, left, e, c, next);
     }
-    let start = e.create_label(book);
-    let label = start.label;
-    let on = start.emitter;
-    let t = test_labels(text, sheet, code, book, pool, left, n, on, c, label, next);
-    let cursor = t.cursor;
-    let e1 = t.emitter;
-    let emitter = e1.bind_label(book, label);
+    let NewLabel { emitter, label } = e.create_label(book);
+    let Walked { cursor, emitter } = test_labels(text, sheet, code, book, pool, left, n, emitter, c, label, next);
+    let emitter = emitter.bind_label(book, label);
     Walked { cursor, emitter }
 }
 
@@ -242,7 +228,7 @@ pub fn close_arm(
     requires book_len { length book.old ≡ book_size }
     ensures { Coded (run (sheet_in sheet.now) (arm_end next.0 end.0)) e code.old book.old result code.new book.new }
 {
-    let j = e.emit_jmp(sheet, code, book, end);
-    let b = j.bind_label(book, next);
-    b.reset_stack_depth(1)
+    let e = e.emit_jmp(sheet, code, book, end);
+    let e = e.bind_label(book, next);
+    e.reset_stack_depth(1)
 }
