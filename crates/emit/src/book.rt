@@ -5,7 +5,7 @@ ghost use Rattle.definition.specs.Limits.{max_labels, max_branches, max_lines, e
 ghost use Rattle.definition.specs.Compile.{bound_or0};
 ghost use Rattle.definition.specs.Lent.{one_entry, entry_in, entries_of};
 ghost use Rattle.line_map.specs.View.{entry_view};
-ghost use Rattle.emit.specs.Book.{label_size, patch_size, label_base, patch_base, line_base, book_size, label_in, patch_numbers, patch_in, row, lines_in};
+ghost use Rattle.emit.specs.Book.{label_size, patch_size, label_base, patch_base, line_base, label_in, patch_numbers, patch_in, row, lines_in};
 ghost use Rattle.emit.specs.View.{patch_view};
 
 use crate::patch::PendingPatch;

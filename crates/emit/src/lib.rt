@@ -13,7 +13,7 @@ ghost use Rattle.definition.specs.Compile.{bound_label};
 ghost use Rattle.opcode.specs.View.{role_view, compare_view};
 ghost use Rattle.opcode.specs.Table.{sheet_in};
 ghost use Rattle.line_map.specs.View.{pos_view};
-ghost use Rattle.emit.specs.Book.{book_size, labels_in, lines_in};
+ghost use Rattle.emit.specs.Book.{labels_in, lines_in};
 ghost use Rattle.emit.specs.Pool.{Held};
 ghost use Rattle.emit.specs.View.{world, patch_view};
 ghost use Rattle.emit.specs.Steps.{once, call, LastAt, Fine, Ready, Bare, Booked, Created, Pooled, Coded, Filled, Begun};
