@@ -12,12 +12,11 @@ ghost use Rattle.field.specs.View.{line_end};
 ghost use Rattle.opcode.specs.View.{role_view};
 ghost use Rattle.opcode.specs.Table.{sheet_in};
 ghost use Rattle.program.specs.Walk.{cursor_of, Near};
-ghost use Rattle.emit.specs.Book.{book_size};
 ghost use Rattle.emit.specs.View.{world};
 ghost use Rattle.emit.specs.Steps.{max_height, Fine, Ready};
 ghost use Rattle.expr.specs.Went.{WentExpr, WentTwo, Operated, Behind, emit_two, bool_role};
 
-use emit::{Constant, Emitter};
+use emit::{Book, Emitter, Pool};
 use opcode::{Role, ShortCircuitOp};
 use program::Cursor;
 use program_line::ExprLine;
@@ -36,10 +35,9 @@ fn bool_role(b: bool) -> Role
 }
 
 // An operation behind its operands.
-fn operate(w: Walked, sheet: &[u8], code: &mut [u8], book: &mut [u16], role: Role) -> Walked
+fn operate(w: Walked, sheet: &[u8], code: &mut [u8], book: &mut Book, role: Role) -> Walked
     requires fine { Fine w.emitter }
     requires code_len { length code.old ≡ max_code }
-    requires book_len { length book.old ≡ book_size }
     ensures { Operated (sheet_in sheet.now) (role_view role) w code.old book.old result code.new book.new }
 {
     let cursor = w.cursor;
@@ -64,8 +62,8 @@ pub fn emit_expr(
     text: &[u8],
     sheet: &[u8],
     code: &mut [u8],
-    book: &mut [u16],
-    pool: &mut [Constant],
+    book: &mut Book,
+    pool: &mut Pool,
     variables: u16,
     left: usize,
     h: u16,
@@ -124,8 +122,8 @@ fn emit_two(
     text: &[u8],
     sheet: &[u8],
     code: &mut [u8],
-    book: &mut [u16],
-    pool: &mut [Constant],
+    book: &mut Book,
+    pool: &mut Pool,
     variables: u16,
     left: usize,
     h: u16,
@@ -156,8 +154,8 @@ fn emit_and_then(
     text: &[u8],
     sheet: &[u8],
     code: &mut [u8],
-    book: &mut [u16],
-    pool: &mut [Constant],
+    book: &mut Book,
+    pool: &mut Pool,
     variables: u16,
     left: usize,
     h: u16,
@@ -200,8 +198,8 @@ fn emit_or_else(
     text: &[u8],
     sheet: &[u8],
     code: &mut [u8],
-    book: &mut [u16],
-    pool: &mut [Constant],
+    book: &mut Book,
+    pool: &mut Pool,
     variables: u16,
     left: usize,
     h: u16,

@@ -18,7 +18,7 @@ ghost use Rattle.stmt_parts.specs.Parts.{Enters, PoolsFirst, for_end, while_from
 
 use crate::Context;
 use definition::WIDTH;
-use emit::{Constant, Emitter, Label, NewLabel};
+use emit::{Book, Constant, Emitter, Label, NewLabel, Pool};
 use expr::Walked;
 use opcode::{ArithmeticOp, CompareOp, Role};
 use program::Cursor;
@@ -32,8 +32,8 @@ pub fn branch_unless(
     text: &[u8],
     sheet: &[u8],
     code: &mut [u8],
-    book: &mut [u16],
-    pool: &mut [Constant],
+    book: &mut Book,
+    pool: &mut Pool,
     ctx: Context,
     e: Emitter,
     c: Cursor,
@@ -77,8 +77,8 @@ pub fn end_test(
     text: &[u8],
     sheet: &[u8],
     code: &mut [u8],
-    book: &mut [u16],
-    pool: &mut [Constant],
+    book: &mut Book,
+    pool: &mut Pool,
     ctx: Context,
     v: u16,
     step: Constant,
@@ -118,8 +118,8 @@ fn end_loaded(
     text: &[u8],
     sheet: &[u8],
     code: &mut [u8],
-    book: &mut [u16],
-    pool: &mut [Constant],
+    book: &mut Book,
+    pool: &mut Pool,
     ctx: Context,
     v: u16,
     op: CompareOp,
@@ -145,8 +145,8 @@ pub fn for_end(
     e: Emitter,
     sheet: &[u8],
     code: &mut [u8],
-    book: &mut [u16],
-    pool: &mut [Constant],
+    book: &mut Book,
+    pool: &mut Pool,
     v: u16,
     step: Constant,
     head: Label,
@@ -169,8 +169,8 @@ pub fn while_head(
     text: &[u8],
     sheet: &[u8],
     code: &mut [u8],
-    book: &mut [u16],
-    pool: &mut [Constant],
+    book: &mut Book,
+    pool: &mut Pool,
     ctx: Context,
     e: Emitter,
     c: Cursor,
@@ -207,8 +207,8 @@ pub fn while_end(
     text: &[u8],
     sheet: &[u8],
     code: &mut [u8],
-    book: &mut [u16],
-    pool: &mut [Constant],
+    book: &mut Book,
+    pool: &mut Pool,
     ctx: Context,
     e: Emitter,
     c: Cursor,
@@ -229,7 +229,7 @@ pub fn while_end(
 // A fused REPEAT's constant enters the pool before those of its body.
 pub fn pool_first(
     text: &[u8],
-    pool: &mut [Constant],
+    pool: &mut Pool,
     ctx: Context,
     e: Emitter,
     c: Cursor,

@@ -9,13 +9,12 @@ ghost use Rattle.opcode.specs.Table.{sheet_in};
 ghost use Rattle.opcode.specs.View.{compare_view};
 ghost use Rattle.program_line.specs.View.{arm_line};
 ghost use Rattle.program.specs.Walk.{cursor_of, Near};
-ghost use Rattle.emit.specs.Book.{book_size};
 ghost use Rattle.emit.specs.View.{world};
 ghost use Rattle.emit.specs.Steps.{run, Ready, Fine, Coded, Filled};
 ghost use Rattle.expr.specs.Went.{Went};
 ghost use Rattle.stmt_parts.specs.Parts.{Leads, arm_parts, label_here, test_jump, test_all, arm_tests, arm_end};
 
-use emit::{Constant, Emitter, Label, NewLabel};
+use emit::{Book, Constant, Emitter, Label, NewLabel, Pool};
 use expr::Walked;
 use opcode::{CompareOp, Role};
 use program::Cursor;
@@ -51,8 +50,8 @@ fn test_against(
     e: Emitter,
     sheet: &[u8],
     code: &mut [u8],
-    book: &mut [u16],
-    pool: &mut [Constant],
+    book: &mut Book,
+    pool: &mut Pool,
     op: CompareOp,
     k: Constant,
     fail: Label,
@@ -71,8 +70,8 @@ pub fn test_value(
     e: Emitter,
     sheet: &[u8],
     code: &mut [u8],
-    book: &mut [u16],
-    pool: &mut [Constant],
+    book: &mut Book,
+    pool: &mut Pool,
     k: Constant,
     fail: Label,
 ) -> Emitter
@@ -87,8 +86,8 @@ pub fn test_range(
     e: Emitter,
     sheet: &[u8],
     code: &mut [u8],
-    book: &mut [u16],
-    pool: &mut [Constant],
+    book: &mut Book,
+    pool: &mut Pool,
     low: Constant,
     high: Constant,
     fail: Label,
@@ -105,8 +104,8 @@ fn test_label(
     text: &[u8],
     sheet: &[u8],
     code: &mut [u8],
-    book: &mut [u16],
-    pool: &mut [Constant],
+    book: &mut Book,
+    pool: &mut Pool,
     left: usize,
     e: Emitter,
     c: Cursor,
@@ -140,8 +139,8 @@ fn test_jump(
     text: &[u8],
     sheet: &[u8],
     code: &mut [u8],
-    book: &mut [u16],
-    pool: &mut [Constant],
+    book: &mut Book,
+    pool: &mut Pool,
     left: usize,
     e: Emitter,
     c: Cursor,
@@ -163,8 +162,8 @@ fn test_labels(
     text: &[u8],
     sheet: &[u8],
     code: &mut [u8],
-    book: &mut [u16],
-    pool: &mut [Constant],
+    book: &mut Book,
+    pool: &mut Pool,
     left: usize,
     n: usize,
     e: Emitter,
@@ -192,8 +191,8 @@ pub fn open_arm(
     text: &[u8],
     sheet: &[u8],
     code: &mut [u8],
-    book: &mut [u16],
-    pool: &mut [Constant],
+    book: &mut Book,
+    pool: &mut Pool,
     left: usize,
     n: usize,
     e: Emitter,
@@ -219,13 +218,12 @@ pub fn close_arm(
     e: Emitter,
     sheet: &[u8],
     code: &mut [u8],
-    book: &mut [u16],
+    book: &mut Book,
     next: Label,
     end: Label,
 ) -> Emitter
     requires fine { Fine e }
     requires code_len { length code.old ≡ max_code }
-    requires book_len { length book.old ≡ book_size }
     ensures { Coded (run (sheet_in sheet.now) (arm_end next.0 end.0)) e code.old book.old result code.new book.new }
 {
     let e = e.emit_jmp(sheet, code, book, end);

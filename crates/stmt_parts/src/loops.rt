@@ -5,13 +5,12 @@ ghost use Rattle.definition.specs.Program.{next_line};
 ghost use Rattle.definition.specs.Stmt.{labels, exit_of};
 ghost use Rattle.opcode.specs.Table.{sheet_in};
 ghost use Rattle.program.specs.Walk.{cursor_of, Skipped};
-ghost use Rattle.emit.specs.Book.{book_size};
 ghost use Rattle.emit.specs.Steps.{Fine};
 ghost use Rattle.stmt_parts.specs.Loops.{open_at, opens_in, loops_of, Opened, Finds};
 ghost use Rattle.stmt_parts.specs.Parts.{jump_row, Stepped, Continued, BindsNext};
 
 use definition::{MAX_NESTING, NO_LOOP};
-use emit::{Emitter, Label};
+use emit::{Book, Emitter, Label};
 use expr::Walked;
 use program::Cursor;
 
@@ -62,7 +61,7 @@ pub fn exit(
     text: &[u8],
     sheet: &[u8],
     code: &mut [u8],
-    book: &mut [u16],
+    book: &mut Book,
     loops: &OpenLoops,
     inside: usize,
     i: u16,
@@ -73,7 +72,6 @@ pub fn exit(
     requires skipped { Skipped text.now (next_line text.now (cursor_of c)) on }
     requires fine { Fine e }
     requires code_len { length code.old ≡ max_code }
-    requires book_len { length book.old ≡ book_size }
     requires inside_le_max_nesting { inside ≤ max_nesting }
     ensures { Stepped (sheet_in sheet.now) (jump_row c.row (exit_of (labels i (loops_of (opens_in loops.now inside))))) text.now (next_line text.now (cursor_of c)) e code.old book.old result code.new book.new }
 {
@@ -92,7 +90,7 @@ pub fn continue_(
     text: &[u8],
     sheet: &[u8],
     code: &mut [u8],
-    book: &mut [u16],
+    book: &mut Book,
     loops: &mut OpenLoops,
     inside: usize,
     i: u16,
@@ -103,7 +101,6 @@ pub fn continue_(
     requires skipped { Skipped text.now (next_line text.now (cursor_of c)) on }
     requires fine { Fine e }
     requires code_len { length code.old ≡ max_code }
-    requires book_len { length book.old ≡ book_size }
     requires inside_le_max_nesting { inside ≤ max_nesting }
     ensures { Continued (sheet_in sheet.now) inside i text.now (cursor_of c) e code.old book.old loops.old result code.new book.new loops.new }
 {
@@ -129,9 +126,8 @@ pub fn next_used(loops: &OpenLoops, inside: usize) -> bool
 }
 
 // The label of a loop's CONTINUEs is bound only if one leads there: binding ends the window in which a load folds.
-pub fn bind_next(e: Emitter, book: &mut [u16], next: Label, used: bool) -> Emitter
+pub fn bind_next(e: Emitter, book: &mut Book, next: Label, used: bool) -> Emitter
     requires fine { Fine e }
-    requires book_len { length book.old ≡ book_size }
     ensures { BindsNext used next.0 e book.old result book.new }
 {
     if used { e.bind_label(book, next) } else { e }

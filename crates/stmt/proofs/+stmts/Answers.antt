@@ -23,28 +23,22 @@ pub arm-returns-then-n-eq0 : goal.arm-returns-then-n-eq0
 arm-returns-then-n-eq0 t c = arm-none _ _ _ _ _ _ _ (omega (arith, c.requires.left_bound)) c.if-n-eq0.true c.requires.ready c.skip_block-cursor.ensures.skipped c.skip_block-cursor.ensures.looked
 
 pub arm-create_label-made-requires : goal.arm-create_label-made-requires
-arm-create_label-made-requires t c = record { fine = c.requires.ready.fine; book_len = c.requires.ready.slots }
+arm-create_label-made-requires t c = record { fine = c.requires.ready.fine }
 
 pub arm-open_arm-t-requires : goal.arm-open_arm-t-requires
 arm-open_arm-t-requires t c = record { near = c.requires.near; ready = record { fine = c.create_label-made.ensures.fine; room = c.requires.ready.room; slots = c.create_label-made.ensures.slots; held = c.requires.ready.held }; n_nonzero = omega (arith, c.if-n-eq0.false) }
 
 pub arm-emit_opcode-p-requires : goal.arm-emit_opcode-p-requires
-arm-emit_opcode-p-requires t c = record { fine = c.open_arm-t.ensures.ready.fine; code_len = c.open_arm-t.ensures.ready.room; book_len = c.open_arm-t.ensures.ready.slots }
+arm-emit_opcode-p-requires t c = record { fine = c.open_arm-t.ensures.ready.fine; code_len = c.open_arm-t.ensures.ready.room }
 
 pub arm-sequence-b-requires : goal.arm-sequence-b-requires
 arm-sequence-b-requires t c = (omega (arith, c.decreases), (c.requires.lent, (c.open_arm-t.ensures.place.near, (record { fine = c.emit_opcode-p.ensures.fine; room = c.emit_opcode-p.ensures.room; slots = c.emit_opcode-p.ensures.slots; held = c.open_arm-t.ensures.ready.held }, omega (arith, c.requires.left_bound)))))
 
 pub arm-close_arm-emitter-requires : goal.arm-close_arm-emitter-requires
-arm-close_arm-emitter-requires t c = record { fine = c.sequence-b.ensures.filled.ready.fine; code_len = c.sequence-b.ensures.filled.ready.room; book_len = c.sequence-b.ensures.filled.ready.slots }
+arm-close_arm-emitter-requires t c = record { fine = c.sequence-b.ensures.filled.ready.fine; code_len = c.sequence-b.ensures.filled.ready.room }
 
 pub arm-shape_of-code : goal.arm-shape_of-code
 arm-shape_of-code t c = c.close_arm-emitter.ensures.room ∙ sym c.requires.ready.room
-
-pub arm-shape_of-book : goal.arm-shape_of-book
-arm-shape_of-book t c = c.close_arm-emitter.ensures.slots ∙ sym c.requires.ready.slots
-
-pub arm-shape_of-pool : goal.arm-shape_of-pool
-arm-shape_of-pool t c = c.sequence-b.ensures.filled.ready.held.size ∙ sym c.requires.ready.held.size
 
 pub arm-shape_of-loops : goal.arm-shape_of-loops
 arm-shape_of-loops t c = c.sequence-b.ensures.slots.size ∙ sym c.requires.lent.size
@@ -60,12 +54,6 @@ arms-refuse-emitter-requires t c = record { fine = c.loop-more.invariant.ready.f
 
 pub arms-shape_of-code-then-p-ne0 : goal.arms-shape_of-code-then-p-ne0
 arms-shape_of-code-then-p-ne0 t c = c.loop-more.invariant.ready.room ∙ sym c.requires.ready.room
-
-pub arms-shape_of-book-then-p-ne0 : goal.arms-shape_of-book-then-p-ne0
-arms-shape_of-book-then-p-ne0 t c = c.loop-more.invariant.ready.slots ∙ sym c.requires.ready.slots
-
-pub arms-shape_of-pool-then-p-ne0 : goal.arms-shape_of-pool-then-p-ne0
-arms-shape_of-pool-then-p-ne0 t c = c.loop-more.invariant.ready.held.size ∙ sym c.requires.ready.held.size
 
 pub arms-shape_of-loops-then-p-ne0 : goal.arms-shape_of-loops-then-p-ne0
 arms-shape_of-loops-then-p-ne0 t c = c.loop-more.invariant.slots.size ∙ sym c.requires.lent.size
@@ -91,12 +79,6 @@ arms-loop-more-preserved t c = arms-on c.loop-more.invariant _ _ (parts_is _ _ _
 pub arms-shape_of-code : goal.arms-shape_of-code
 arms-shape_of-code t c = c.loop-more.invariant.ready.room ∙ sym c.requires.ready.room
 
-pub arms-shape_of-book : goal.arms-shape_of-book
-arms-shape_of-book t c = c.loop-more.invariant.ready.slots ∙ sym c.requires.ready.slots
-
-pub arms-shape_of-pool : goal.arms-shape_of-pool
-arms-shape_of-pool t c = c.loop-more.invariant.ready.held.size ∙ sym c.requires.ready.held.size
-
 pub arms-shape_of-loops : goal.arms-shape_of-loops
 arms-shape_of-loops t c = c.loop-more.invariant.slots.size ∙ sym c.requires.lent.size
 
@@ -107,28 +89,22 @@ pub case-emit_expr-a-requires : goal.case-emit_expr-a-requires
 case-emit_expr-a-requires t c = record { near = c.requires.near; ready = c.requires.ready; left_bound = omega (arith, c.requires.left_bound) }
 
 pub case-create_label-made-requires : goal.case-create_label-made-requires
-case-create_label-made-requires t c = record { fine = c.emit_expr-a.ensures.ready.fine; book_len = c.emit_expr-a.ensures.ready.slots }
+case-create_label-made-requires t c = record { fine = c.emit_expr-a.ensures.ready.fine }
 
 pub case-arms-b-requires : goal.case-arms-b-requires
 case-arms-b-requires t c = (omega (arith, c.decreases), (c.requires.lent, (c.emit_expr-a.ensures.near, (record { fine = c.create_label-made.ensures.fine; room = c.emit_expr-a.ensures.ready.room; slots = c.create_label-made.ensures.slots; held = c.emit_expr-a.ensures.ready.held }, c.requires.left_bound))))
 
 pub case-emit_opcode-p-requires : goal.case-emit_opcode-p-requires
-case-emit_opcode-p-requires t c = record { fine = c.arms-b.ensures.filled.ready.fine; code_len = c.arms-b.ensures.filled.ready.room; book_len = c.arms-b.ensures.filled.ready.slots }
+case-emit_opcode-p-requires t c = record { fine = c.arms-b.ensures.filled.ready.fine; code_len = c.arms-b.ensures.filled.ready.room }
 
 pub case-sequence-d-requires : goal.case-sequence-d-requires
 case-sequence-d-requires t c = (omega (arith, c.decreases), (c.arms-b.ensures.slots, (c.arms-b.ensures.place.near, (record { fine = c.emit_opcode-p.ensures.fine; room = c.emit_opcode-p.ensures.room; slots = c.emit_opcode-p.ensures.slots; held = c.arms-b.ensures.filled.ready.held }, omega (arith, c.requires.left_bound)))))
 
 pub case-bind_label-emitter-requires : goal.case-bind_label-emitter-requires
-case-bind_label-emitter-requires t c = record { fine = c.sequence-d.ensures.filled.ready.fine; book_len = c.sequence-d.ensures.filled.ready.slots }
+case-bind_label-emitter-requires t c = record { fine = c.sequence-d.ensures.filled.ready.fine }
 
 pub case-shape_of-code : goal.case-shape_of-code
 case-shape_of-code t c = c.sequence-d.ensures.filled.ready.room ∙ sym c.requires.ready.room
-
-pub case-shape_of-book : goal.case-shape_of-book
-case-shape_of-book t c = c.bind_label-emitter.ensures.slots ∙ sym c.requires.ready.slots
-
-pub case-shape_of-pool : goal.case-shape_of-pool
-case-shape_of-pool t c = c.sequence-d.ensures.filled.ready.held.size ∙ sym c.requires.ready.held.size
 
 pub case-shape_of-loops : goal.case-shape_of-loops
 case-shape_of-loops t c = c.sequence-d.ensures.slots.size ∙ sym c.requires.lent.size
@@ -137,37 +113,28 @@ pub case-returns : goal.case-returns
 case-returns t c = case-done _ _ _ _ _ (stands_here c.requires.near) c.emit_expr-a.ensures c.create_label-made.ensures c.arms-b.ensures c.emit_opcode-p.ensures (nested _ c.sequence-d.ensures) c.bind_label-emitter.ensures
 
 pub else_-bind_label-emitter-requires : goal.else_-bind_label-emitter-requires
-else_-bind_label-emitter-requires t c = record { fine = c.requires.ready.fine; book_len = c.requires.ready.slots }
-
-pub else_-shape_of-book-then-m-eq0 : goal.else_-shape_of-book-then-m-eq0
-else_-shape_of-book-then-m-eq0 t c = c.bind_label-emitter.ensures.slots ∙ sym c.requires.ready.slots
+else_-bind_label-emitter-requires t c = record { fine = c.requires.ready.fine }
 
 pub else_-returns-then-m-eq0 : goal.else_-returns-then-m-eq0
 else_-returns-then-m-eq0 t c = else-none _ _ _ _ _ _ c.requires.lent c.requires.near c.requires.ready c.if-m-eq0.true c.bind_label-emitter.ensures
 
 pub else_-create_label-made-requires : goal.else_-create_label-made-requires
-else_-create_label-made-requires t c = record { fine = c.requires.ready.fine; book_len = c.requires.ready.slots }
+else_-create_label-made-requires t c = record { fine = c.requires.ready.fine }
 
 pub else_-emit_jmp-e2-requires : goal.else_-emit_jmp-e2-requires
-else_-emit_jmp-e2-requires t c = record { fine = c.create_label-made.ensures.fine; code_len = c.requires.ready.room; book_len = c.create_label-made.ensures.slots }
+else_-emit_jmp-e2-requires t c = record { fine = c.create_label-made.ensures.fine; code_len = c.requires.ready.room }
 
 pub else_-bind_label-e3-requires : goal.else_-bind_label-e3-requires
-else_-bind_label-e3-requires t c = record { fine = c.emit_jmp-e2.ensures.fine; book_len = c.emit_jmp-e2.ensures.slots }
+else_-bind_label-e3-requires t c = record { fine = c.emit_jmp-e2.ensures.fine }
 
 pub else_-sequence-b-requires : goal.else_-sequence-b-requires
 else_-sequence-b-requires t c = (omega (arith, c.decreases), (c.requires.lent, (c.requires.near, (record { fine = c.bind_label-e3.ensures.fine; room = c.emit_jmp-e2.ensures.room; slots = c.bind_label-e3.ensures.slots; held = c.requires.ready.held }, omega (arith, c.requires.left_bound)))))
 
 pub else_-bind_label-emitter-requires-2 : goal.else_-bind_label-emitter-requires-2
-else_-bind_label-emitter-requires-2 t c = record { fine = c.sequence-b.ensures.filled.ready.fine; book_len = c.sequence-b.ensures.filled.ready.slots }
+else_-bind_label-emitter-requires-2 t c = record { fine = c.sequence-b.ensures.filled.ready.fine }
 
 pub else_-shape_of-code : goal.else_-shape_of-code
 else_-shape_of-code t c = c.sequence-b.ensures.filled.ready.room ∙ sym c.requires.ready.room
-
-pub else_-shape_of-book : goal.else_-shape_of-book
-else_-shape_of-book t c = c.bind_label-emitter-2.ensures.slots ∙ sym c.requires.ready.slots
-
-pub else_-shape_of-pool : goal.else_-shape_of-pool
-else_-shape_of-pool t c = c.sequence-b.ensures.filled.ready.held.size ∙ sym c.requires.ready.held.size
 
 pub else_-shape_of-loops : goal.else_-shape_of-loops
 else_-shape_of-loops t c = c.sequence-b.ensures.slots.size ∙ sym c.requires.lent.size
@@ -182,16 +149,16 @@ pub for_-emit_expr-a-requires : goal.for_-emit_expr-a-requires
 for_-emit_expr-a-requires t c = record { near = c.requires.near; ready = c.requires.ready; left_bound = omega (arith, c.requires.left_bound) }
 
 pub for_-emit_store_var-e2-requires : goal.for_-emit_store_var-e2-requires
-for_-emit_store_var-e2-requires t c = record { fine = c.emit_expr-a.ensures.ready.fine; code_len = c.emit_expr-a.ensures.ready.room; book_len = c.emit_expr-a.ensures.ready.slots }
+for_-emit_store_var-e2-requires t c = record { fine = c.emit_expr-a.ensures.ready.fine; code_len = c.emit_expr-a.ensures.ready.room }
 
 pub for_-create_label-made-requires : goal.for_-create_label-made-requires
-for_-create_label-made-requires t c = record { fine = c.emit_store_var-e2.ensures.fine; book_len = c.emit_store_var-e2.ensures.slots }
+for_-create_label-made-requires t c = record { fine = c.emit_store_var-e2.ensures.fine }
 
 pub for_-create_label-last-requires : goal.for_-create_label-last-requires
-for_-create_label-last-requires t c = record { fine = c.create_label-made.ensures.fine; book_len = c.create_label-made.ensures.slots }
+for_-create_label-last-requires t c = record { fine = c.create_label-made.ensures.fine }
 
 pub for_-bind_label-e5-requires : goal.for_-bind_label-e5-requires
-for_-bind_label-e5-requires t c = record { fine = c.create_label-last.ensures.fine; book_len = c.create_label-last.ensures.slots }
+for_-bind_label-e5-requires t c = record { fine = c.create_label-last.ensures.fine }
 
 pub for_-end_test-t-requires : goal.for_-end_test-t-requires
 for_-end_test-t-requires t c = record { near = c.skip_expr-to.ensures.near; ready = record { fine = c.bind_label-e5.ensures.fine; room = c.emit_store_var-e2.ensures.room; slots = c.bind_label-e5.ensures.slots; held = c.emit_expr-a.ensures.ready.held }; left_le_max_nesting = omega (arith, c.requires.left_bound); sided = c.operand_at-seen.ensures }
@@ -205,12 +172,6 @@ for_-for_end-emitter-requires t c = c.loop_body-b.ensures.filled.ready
 pub for_-shape_of-code : goal.for_-shape_of-code
 for_-shape_of-code t c = c.for_end-emitter.ensures.ready.room ∙ sym c.requires.ready.room
 
-pub for_-shape_of-book : goal.for_-shape_of-book
-for_-shape_of-book t c = c.for_end-emitter.ensures.ready.slots ∙ sym c.requires.ready.slots
-
-pub for_-shape_of-pool : goal.for_-shape_of-pool
-for_-shape_of-pool t c = c.for_end-emitter.ensures.ready.held.size ∙ sym c.requires.ready.held.size
-
 pub for_-shape_of-loops : goal.for_-shape_of-loops
 for_-shape_of-loops t c = c.loop_body-b.ensures.slots.size ∙ sym c.requires.lent.size
 
@@ -218,7 +179,7 @@ pub for_-returns : goal.for_-returns
 for_-returns t c = for-done _ _ _ _ _ _ _ (stands_here c.requires.near) c.skip_expr-to.ensures c.emit_expr-a.ensures c.emit_store_var-e2.ensures c.create_label-made.ensures c.create_label-last.ensures c.bind_label-e5.ensures c.end_test-t.ensures c.loop_body-b.ensures c.for_end-emitter.ensures
 
 pub if_-create_label-next-requires : goal.if_-create_label-next-requires
-if_-create_label-next-requires t c = record { fine = c.requires.ready.fine; book_len = c.requires.ready.slots }
+if_-create_label-next-requires t c = record { fine = c.requires.ready.fine }
 
 pub if_-branch_unless-a-requires : goal.if_-branch_unless-a-requires
 if_-branch_unless-a-requires t c = record { near = c.requires.near; ready = record { fine = c.create_label-next.ensures.fine; room = c.requires.ready.room; slots = c.create_label-next.ensures.slots; held = c.requires.ready.held }; left_le_max_nesting = omega (arith, c.requires.left_bound) }
@@ -231,12 +192,6 @@ if_-else_-requires t c = (omega (arith, c.decreases), (c.sequence-b.ensures.slot
 
 pub if_-shape_of-code : goal.if_-shape_of-code
 if_-shape_of-code t c = c.else_.ensures.filled.ready.room ∙ sym c.requires.ready.room
-
-pub if_-shape_of-book : goal.if_-shape_of-book
-if_-shape_of-book t c = c.else_.ensures.filled.ready.slots ∙ sym c.requires.ready.slots
-
-pub if_-shape_of-pool : goal.if_-shape_of-pool
-if_-shape_of-pool t c = c.else_.ensures.filled.ready.held.size ∙ sym c.requires.ready.held.size
 
 pub if_-shape_of-loops : goal.if_-shape_of-loops
 if_-shape_of-loops t c = c.else_.ensures.slots.size ∙ sym c.requires.lent.size
@@ -259,12 +214,6 @@ loop_-plain-requires t c = (omega (arith, c.decreases), (c.loop_shape-shape.ensu
 pub loop_-shape_of-code-in-While : goal.loop_-shape_of-code-in-While
 loop_-shape_of-code-in-While t c = c.while_.ensures.filled.ready.room ∙ sym c.requires.ready.room
 
-pub loop_-shape_of-book-in-While : goal.loop_-shape_of-book-in-While
-loop_-shape_of-book-in-While t c = c.while_.ensures.filled.ready.slots ∙ sym c.requires.ready.slots
-
-pub loop_-shape_of-pool-in-While : goal.loop_-shape_of-pool-in-While
-loop_-shape_of-pool-in-While t c = c.while_.ensures.filled.ready.held.size ∙ sym c.requires.ready.held.size
-
 pub loop_-shape_of-loops-in-While : goal.loop_-shape_of-loops-in-While
 loop_-shape_of-loops-in-While t c = c.while_.ensures.slots.size ∙ sym c.requires.lent.size
 
@@ -274,12 +223,6 @@ loop_-returns-in-While t c = is-while _ _ _ _ _ _ (stands_here c.requires.near) 
 pub loop_-shape_of-code-in-Repeat : goal.loop_-shape_of-code-in-Repeat
 loop_-shape_of-code-in-Repeat t c = c.repeat.ensures.filled.ready.room ∙ sym c.requires.ready.room
 
-pub loop_-shape_of-book-in-Repeat : goal.loop_-shape_of-book-in-Repeat
-loop_-shape_of-book-in-Repeat t c = c.repeat.ensures.filled.ready.slots ∙ sym c.requires.ready.slots
-
-pub loop_-shape_of-pool-in-Repeat : goal.loop_-shape_of-pool-in-Repeat
-loop_-shape_of-pool-in-Repeat t c = c.repeat.ensures.filled.ready.held.size ∙ sym c.requires.ready.held.size
-
 pub loop_-shape_of-loops-in-Repeat : goal.loop_-shape_of-loops-in-Repeat
 loop_-shape_of-loops-in-Repeat t c = c.repeat.ensures.slots.size ∙ sym c.requires.lent.size
 
@@ -288,12 +231,6 @@ loop_-returns-in-Repeat t c = is-repeat _ _ _ _ _ _ (stands_here c.requires.near
 
 pub loop_-shape_of-code-in-Plain : goal.loop_-shape_of-code-in-Plain
 loop_-shape_of-code-in-Plain t c = c.plain.ensures.filled.ready.room ∙ sym c.requires.ready.room
-
-pub loop_-shape_of-book-in-Plain : goal.loop_-shape_of-book-in-Plain
-loop_-shape_of-book-in-Plain t c = c.plain.ensures.filled.ready.slots ∙ sym c.requires.ready.slots
-
-pub loop_-shape_of-pool-in-Plain : goal.loop_-shape_of-pool-in-Plain
-loop_-shape_of-pool-in-Plain t c = c.plain.ensures.filled.ready.held.size ∙ sym c.requires.ready.held.size
 
 pub loop_-shape_of-loops-in-Plain : goal.loop_-shape_of-loops-in-Plain
 loop_-shape_of-loops-in-Plain t c = c.plain.ensures.slots.size ∙ sym c.requires.lent.size
@@ -305,7 +242,7 @@ pub loop_body-in_loop-within-requires : goal.loop_body-in_loop-within-requires
 loop_body-in_loop-within-requires t c = omega (arith, c.requires.left_bound)
 
 pub loop_body-create_label-made-requires : goal.loop_body-create_label-made-requires
-loop_body-create_label-made-requires t c = record { fine = c.requires.ready.fine; book_len = c.requires.ready.slots }
+loop_body-create_label-made-requires t c = record { fine = c.requires.ready.fine }
 
 pub loop_body-open_loop-requires : goal.loop_body-open_loop-requires
 loop_body-open_loop-requires t c = record { loops_len = c.requires.lent.size; inside_lt_max_nesting = omega (arith, c.requires.left_bound) }
@@ -317,16 +254,10 @@ pub loop_body-next_used-used-requires : goal.loop_body-next_used-used-requires
 loop_body-next_used-used-requires t c = record { loops_len = c.sequence-b.ensures.slots.size; inside_lt_max_nesting = omega (arith, c.requires.left_bound) }
 
 pub loop_body-bind_next-emitter-requires : goal.loop_body-bind_next-emitter-requires
-loop_body-bind_next-emitter-requires t c = record { fine = c.sequence-b.ensures.filled.ready.fine; book_len = c.sequence-b.ensures.filled.ready.slots }
+loop_body-bind_next-emitter-requires t c = record { fine = c.sequence-b.ensures.filled.ready.fine }
 
 pub loop_body-shape_of-code : goal.loop_body-shape_of-code
 loop_body-shape_of-code t c = c.sequence-b.ensures.filled.ready.room ∙ sym c.requires.ready.room
-
-pub loop_body-shape_of-book : goal.loop_body-shape_of-book
-loop_body-shape_of-book t c = c.bind_next-emitter.ensures.slots ∙ sym c.requires.ready.slots
-
-pub loop_body-shape_of-pool : goal.loop_body-shape_of-pool
-loop_body-shape_of-pool t c = c.sequence-b.ensures.filled.ready.held.size ∙ sym c.requires.ready.held.size
 
 pub loop_body-shape_of-loops : goal.loop_body-shape_of-loops
 loop_body-shape_of-loops t c = c.sequence-b.ensures.slots.size ∙ sym c.requires.lent.size
@@ -335,13 +266,13 @@ pub loop_body-returns : goal.loop_body-returns
 loop_body-returns t c = body-done _ _ _ _ _ _ _ c.in_loop-within.ensures c.requires.ready c.create_label-made.ensures c.open_loop.ensures (nested _ c.sequence-b.ensures) c.next_used-used.ensures c.bind_next-emitter.ensures
 
 pub plain-create_label-made-requires : goal.plain-create_label-made-requires
-plain-create_label-made-requires t c = record { fine = c.requires.ready.fine; book_len = c.requires.ready.slots }
+plain-create_label-made-requires t c = record { fine = c.requires.ready.fine }
 
 pub plain-create_label-last-requires : goal.plain-create_label-last-requires
-plain-create_label-last-requires t c = record { fine = c.create_label-made.ensures.fine; book_len = c.create_label-made.ensures.slots }
+plain-create_label-last-requires t c = record { fine = c.create_label-made.ensures.fine }
 
 pub plain-bind_label-e3-requires : goal.plain-bind_label-e3-requires
-plain-bind_label-e3-requires t c = record { fine = c.create_label-last.ensures.fine; book_len = c.create_label-last.ensures.slots }
+plain-bind_label-e3-requires t c = record { fine = c.create_label-last.ensures.fine }
 
 pub plain-loop_body-b-requires : goal.plain-loop_body-b-requires
 plain-loop_body-b-requires t c = (omega (arith, c.decreases), (c.requires.lent, (c.requires.near, (record { fine = c.bind_label-e3.ensures.fine; room = c.requires.ready.room; slots = c.bind_label-e3.ensures.slots; held = c.requires.ready.held }, c.requires.left_bound))))
@@ -350,19 +281,13 @@ pub plain-sequence-d-requires : goal.plain-sequence-d-requires
 plain-sequence-d-requires t c = (omega (arith, c.decreases), (c.loop_body-b.ensures.slots, (c.loop_body-b.ensures.place.near, (c.loop_body-b.ensures.filled.ready, omega (arith, c.requires.left_bound)))))
 
 pub plain-emit_jmp-j-requires : goal.plain-emit_jmp-j-requires
-plain-emit_jmp-j-requires t c = record { fine = c.sequence-d.ensures.filled.ready.fine; code_len = c.sequence-d.ensures.filled.ready.room; book_len = c.sequence-d.ensures.filled.ready.slots }
+plain-emit_jmp-j-requires t c = record { fine = c.sequence-d.ensures.filled.ready.fine; code_len = c.sequence-d.ensures.filled.ready.room }
 
 pub plain-bind_label-emitter-requires : goal.plain-bind_label-emitter-requires
-plain-bind_label-emitter-requires t c = record { fine = c.emit_jmp-j.ensures.fine; book_len = c.emit_jmp-j.ensures.slots }
+plain-bind_label-emitter-requires t c = record { fine = c.emit_jmp-j.ensures.fine }
 
 pub plain-shape_of-code : goal.plain-shape_of-code
 plain-shape_of-code t c = c.emit_jmp-j.ensures.room ∙ sym c.requires.ready.room
-
-pub plain-shape_of-book : goal.plain-shape_of-book
-plain-shape_of-book t c = c.bind_label-emitter.ensures.slots ∙ sym c.requires.ready.slots
-
-pub plain-shape_of-pool : goal.plain-shape_of-pool
-plain-shape_of-pool t c = c.sequence-d.ensures.filled.ready.held.size ∙ sym c.requires.ready.held.size
 
 pub plain-shape_of-loops : goal.plain-shape_of-loops
 plain-shape_of-loops t c = c.sequence-d.ensures.slots.size ∙ sym c.requires.lent.size
@@ -371,16 +296,16 @@ pub plain-returns : goal.plain-returns
 plain-returns t c = plain_done _ _ _ _ _ _ _ c.requires.ready c.create_label-made.ensures c.create_label-last.ensures c.bind_label-e3.ensures c.loop_body-b.ensures (nested _ c.sequence-d.ensures) c.emit_jmp-j.ensures c.bind_label-emitter.ensures
 
 pub repeat-create_label-made-requires : goal.repeat-create_label-made-requires
-repeat-create_label-made-requires t c = record { fine = c.requires.ready.fine; book_len = c.requires.ready.slots }
+repeat-create_label-made-requires t c = record { fine = c.requires.ready.fine }
 
 pub repeat-create_label-out-requires : goal.repeat-create_label-out-requires
-repeat-create_label-out-requires t c = record { fine = c.create_label-made.ensures.fine; book_len = c.create_label-made.ensures.slots }
+repeat-create_label-out-requires t c = record { fine = c.create_label-made.ensures.fine }
 
 pub repeat-pool_first-p-requires : goal.repeat-pool_first-p-requires
 repeat-pool_first-p-requires t c = record { near = c.requires.near_2; fine = c.create_label-out.ensures.fine; held = c.requires.ready.held }
 
 pub repeat-bind_label-k-requires : goal.repeat-bind_label-k-requires
-repeat-bind_label-k-requires t c = record { fine = c.pool_first-p.ensures.fine; book_len = c.create_label-out.ensures.slots }
+repeat-bind_label-k-requires t c = record { fine = c.pool_first-p.ensures.fine }
 
 pub repeat-loop_body-b-requires : goal.repeat-loop_body-b-requires
 repeat-loop_body-b-requires t c = (omega (arith, c.decreases), (c.requires.lent, (c.requires.near, (record { fine = c.bind_label-k.ensures.fine; room = c.requires.ready.room; slots = c.bind_label-k.ensures.slots; held = c.pool_first-p.ensures.held }, c.requires.left_bound))))
@@ -389,16 +314,10 @@ pub repeat-branch_unless-t-requires : goal.repeat-branch_unless-t-requires
 repeat-branch_unless-t-requires t c = record { near = c.requires.near_2; ready = c.loop_body-b.ensures.filled.ready; left_le_max_nesting = omega (arith, c.requires.left_bound, inner-left _ c.inner-inner.ensures) }
 
 pub repeat-bind_label-emitter-requires : goal.repeat-bind_label-emitter-requires
-repeat-bind_label-emitter-requires t c = record { fine = c.branch_unless-t.ensures.ready.fine; book_len = c.branch_unless-t.ensures.ready.slots }
+repeat-bind_label-emitter-requires t c = record { fine = c.branch_unless-t.ensures.ready.fine }
 
 pub repeat-shape_of-code : goal.repeat-shape_of-code
 repeat-shape_of-code t c = c.branch_unless-t.ensures.ready.room ∙ sym c.requires.ready.room
-
-pub repeat-shape_of-book : goal.repeat-shape_of-book
-repeat-shape_of-book t c = c.bind_label-emitter.ensures.slots ∙ sym c.requires.ready.slots
-
-pub repeat-shape_of-pool : goal.repeat-shape_of-pool
-repeat-shape_of-pool t c = c.branch_unless-t.ensures.ready.held.size ∙ sym c.requires.ready.held.size
 
 pub repeat-shape_of-loops : goal.repeat-shape_of-loops
 repeat-shape_of-loops t c = c.loop_body-b.ensures.slots.size ∙ sym c.requires.lent.size
@@ -424,12 +343,6 @@ sequence-loop-more-preserved t c = goes_on c.loop-more.invariant _ c.next_stmt-n
 pub sequence-shape_of-code : goal.sequence-shape_of-code
 sequence-shape_of-code t c = c.loop-more.invariant.ready.room ∙ sym c.requires.ready.room
 
-pub sequence-shape_of-book : goal.sequence-shape_of-book
-sequence-shape_of-book t c = c.loop-more.invariant.ready.slots ∙ sym c.requires.ready.slots
-
-pub sequence-shape_of-pool : goal.sequence-shape_of-pool
-sequence-shape_of-pool t c = c.loop-more.invariant.ready.held.size ∙ sym c.requires.ready.held.size
-
 pub sequence-shape_of-loops : goal.sequence-shape_of-loops
 sequence-shape_of-loops t c = c.loop-more.invariant.slots.size ∙ sym c.requires.lent.size
 
@@ -452,13 +365,13 @@ pub stmt-loop_-requires : goal.stmt-loop_-requires
 stmt-loop_-requires t c = (omega (arith, c.decreases, (line-there _ _ _ _ _ (sym c.requires.line_value ∙ ap stmt_line c.in-Loop.is)).1, inner-left _ c.inner-ctx.ensures), (inner-lent _ c.inner-ctx.ensures c.requires.lent, ((good-behind _ _ _ _ c.requires.behind (ap stmt_line c.in-Loop.is)).near, (c.requires.ready, omega (arith, c.requires.left_bound, (line-there _ _ _ _ _ (sym c.requires.line_value ∙ ap stmt_line c.in-Loop.is)).1, inner-left _ c.inner-ctx.ensures, inner-inside _ c.inner-ctx.ensures)))))
 
 pub stmt-exit-requires : goal.stmt-exit-requires
-stmt-exit-requires t c = record { skipped = good-behind _ _ _ _ c.requires.behind (ap stmt_line c.in-Exit.is); fine = c.requires.ready.fine; code_len = c.requires.ready.room; book_len = c.requires.ready.slots; loops_len = c.requires.lent.size; inside_le_max_nesting = omega (arith, c.requires.left_bound, inner-inside _ c.inner-ctx.ensures) }
+stmt-exit-requires t c = record { skipped = good-behind _ _ _ _ c.requires.behind (ap stmt_line c.in-Exit.is); fine = c.requires.ready.fine; code_len = c.requires.ready.room; loops_len = c.requires.lent.size; inside_le_max_nesting = omega (arith, c.requires.left_bound, inner-inside _ c.inner-ctx.ensures) }
 
 pub stmt-continue_-requires : goal.stmt-continue_-requires
-stmt-continue_-requires t c = record { skipped = good-behind _ _ _ _ c.requires.behind (ap stmt_line c.in-Continue.is); fine = c.requires.ready.fine; code_len = c.requires.ready.room; book_len = c.requires.ready.slots; loops_len = c.requires.lent.size; inside_le_max_nesting = omega (arith, c.requires.left_bound, inner-inside _ c.inner-ctx.ensures) }
+stmt-continue_-requires t c = record { skipped = good-behind _ _ _ _ c.requires.behind (ap stmt_line c.in-Continue.is); fine = c.requires.ready.fine; code_len = c.requires.ready.room; loops_len = c.requires.lent.size; inside_le_max_nesting = omega (arith, c.requires.left_bound, inner-inside _ c.inner-ctx.ensures) }
 
 pub stmt-return_-requires : goal.stmt-return_-requires
-stmt-return_-requires t c = record { near = (good-behind _ _ _ _ c.requires.behind (ap stmt_line c.in-Return.is)).near; fine = c.requires.ready.fine; code_len = c.requires.ready.room; book_len = c.requires.ready.slots }
+stmt-return_-requires t c = record { near = (good-behind _ _ _ _ c.requires.behind (ap stmt_line c.in-Return.is)).near; fine = c.requires.ready.fine; code_len = c.requires.ready.room }
 
 pub stmt-refuse-requires : goal.stmt-refuse-requires
 stmt-refuse-requires t c = record { fine = c.requires.ready.fine; number_nonzero = bad-line _ _ _ _ _ (sym c.requires.line_value ∙ ap stmt_line c.in-Bad.is) }
@@ -466,23 +379,11 @@ stmt-refuse-requires t c = record { fine = c.requires.ready.fine; number_nonzero
 pub stmt-shape_of-code-in-Assign : goal.stmt-shape_of-code-in-Assign
 stmt-shape_of-code-in-Assign t c = c.assign.ensures.ready.room ∙ sym c.requires.ready.room
 
-pub stmt-shape_of-book-in-Assign : goal.stmt-shape_of-book-in-Assign
-stmt-shape_of-book-in-Assign t c = c.assign.ensures.ready.slots ∙ sym c.requires.ready.slots
-
-pub stmt-shape_of-pool-in-Assign : goal.stmt-shape_of-pool-in-Assign
-stmt-shape_of-pool-in-Assign t c = c.assign.ensures.ready.held.size ∙ sym c.requires.ready.held.size
-
 pub stmt-returns-in-Assign : goal.stmt-returns-in-Assign
 stmt-returns-in-Assign t c = ran-assign _ _ _ _ c.inner-ctx.ensures _ _ c.requires.lent (sym c.requires.line_value ∙ ap stmt_line c.in-Assign.is) (rw (← (good-behind _ _ _ _ c.requires.behind (ap stmt_line c.in-Assign.is)).is) c.assign.ensures)
 
 pub stmt-shape_of-code-in-If : goal.stmt-shape_of-code-in-If
 stmt-shape_of-code-in-If t c = c.if_.ensures.filled.ready.room ∙ sym c.requires.ready.room
-
-pub stmt-shape_of-book-in-If : goal.stmt-shape_of-book-in-If
-stmt-shape_of-book-in-If t c = c.if_.ensures.filled.ready.slots ∙ sym c.requires.ready.slots
-
-pub stmt-shape_of-pool-in-If : goal.stmt-shape_of-pool-in-If
-stmt-shape_of-pool-in-If t c = c.if_.ensures.filled.ready.held.size ∙ sym c.requires.ready.held.size
 
 pub stmt-shape_of-loops-in-If : goal.stmt-shape_of-loops-in-If
 stmt-shape_of-loops-in-If t c = c.if_.ensures.slots.size ∙ sym c.requires.lent.size
@@ -493,12 +394,6 @@ stmt-returns-in-If t c = ran-if _ _ _ _ c.inner-ctx.ensures _ _ _ (sym c.require
 pub stmt-shape_of-code-in-Case : goal.stmt-shape_of-code-in-Case
 stmt-shape_of-code-in-Case t c = c.case.ensures.filled.ready.room ∙ sym c.requires.ready.room
 
-pub stmt-shape_of-book-in-Case : goal.stmt-shape_of-book-in-Case
-stmt-shape_of-book-in-Case t c = c.case.ensures.filled.ready.slots ∙ sym c.requires.ready.slots
-
-pub stmt-shape_of-pool-in-Case : goal.stmt-shape_of-pool-in-Case
-stmt-shape_of-pool-in-Case t c = c.case.ensures.filled.ready.held.size ∙ sym c.requires.ready.held.size
-
 pub stmt-shape_of-loops-in-Case : goal.stmt-shape_of-loops-in-Case
 stmt-shape_of-loops-in-Case t c = c.case.ensures.slots.size ∙ sym c.requires.lent.size
 
@@ -507,12 +402,6 @@ stmt-returns-in-Case t c = ran-case _ _ _ _ c.inner-ctx.ensures _ _ _ (sym c.req
 
 pub stmt-shape_of-code-in-For : goal.stmt-shape_of-code-in-For
 stmt-shape_of-code-in-For t c = c.for_.ensures.filled.ready.room ∙ sym c.requires.ready.room
-
-pub stmt-shape_of-book-in-For : goal.stmt-shape_of-book-in-For
-stmt-shape_of-book-in-For t c = c.for_.ensures.filled.ready.slots ∙ sym c.requires.ready.slots
-
-pub stmt-shape_of-pool-in-For : goal.stmt-shape_of-pool-in-For
-stmt-shape_of-pool-in-For t c = c.for_.ensures.filled.ready.held.size ∙ sym c.requires.ready.held.size
 
 pub stmt-shape_of-loops-in-For : goal.stmt-shape_of-loops-in-For
 stmt-shape_of-loops-in-For t c = c.for_.ensures.slots.size ∙ sym c.requires.lent.size
@@ -523,12 +412,6 @@ stmt-returns-in-For t c = ran-for _ _ _ _ c.inner-ctx.ensures _ _ _ _ _ (sym c.r
 pub stmt-shape_of-code-in-Loop : goal.stmt-shape_of-code-in-Loop
 stmt-shape_of-code-in-Loop t c = c.loop_.ensures.filled.ready.room ∙ sym c.requires.ready.room
 
-pub stmt-shape_of-book-in-Loop : goal.stmt-shape_of-book-in-Loop
-stmt-shape_of-book-in-Loop t c = c.loop_.ensures.filled.ready.slots ∙ sym c.requires.ready.slots
-
-pub stmt-shape_of-pool-in-Loop : goal.stmt-shape_of-pool-in-Loop
-stmt-shape_of-pool-in-Loop t c = c.loop_.ensures.filled.ready.held.size ∙ sym c.requires.ready.held.size
-
 pub stmt-shape_of-loops-in-Loop : goal.stmt-shape_of-loops-in-Loop
 stmt-shape_of-loops-in-Loop t c = c.loop_.ensures.slots.size ∙ sym c.requires.lent.size
 
@@ -538,17 +421,11 @@ stmt-returns-in-Loop t c = ran-loop _ _ _ _ c.inner-ctx.ensures _ _ _ _ (sym c.r
 pub stmt-shape_of-code-in-Exit : goal.stmt-shape_of-code-in-Exit
 stmt-shape_of-code-in-Exit t c = c.exit.ensures.coded.room ∙ sym c.requires.ready.room
 
-pub stmt-shape_of-book-in-Exit : goal.stmt-shape_of-book-in-Exit
-stmt-shape_of-book-in-Exit t c = c.exit.ensures.coded.slots ∙ sym c.requires.ready.slots
-
 pub stmt-returns-in-Exit : goal.stmt-returns-in-Exit
 stmt-returns-in-Exit t c = ran-exit _ _ _ _ c.requires.ready c.inner-ctx.ensures _ _ c.requires.lent (sym c.requires.line_value ∙ ap stmt_line c.in-Exit.is) c.exit.ensures
 
 pub stmt-shape_of-code-in-Continue : goal.stmt-shape_of-code-in-Continue
 stmt-shape_of-code-in-Continue t c = c.continue_.ensures.stepped.coded.room ∙ sym c.requires.ready.room
-
-pub stmt-shape_of-book-in-Continue : goal.stmt-shape_of-book-in-Continue
-stmt-shape_of-book-in-Continue t c = c.continue_.ensures.stepped.coded.slots ∙ sym c.requires.ready.slots
 
 pub stmt-shape_of-loops-in-Continue : goal.stmt-shape_of-loops-in-Continue
 stmt-shape_of-loops-in-Continue t c = c.continue_.ensures.behind.size ∙ sym c.requires.lent.size
@@ -559,9 +436,6 @@ stmt-returns-in-Continue t c = ran-continue _ _ _ _ c.requires.ready c.inner-ctx
 pub stmt-shape_of-code-in-Return : goal.stmt-shape_of-code-in-Return
 stmt-shape_of-code-in-Return t c = c.return_.ensures.coded.room ∙ sym c.requires.ready.room
 
-pub stmt-shape_of-book-in-Return : goal.stmt-shape_of-book-in-Return
-stmt-shape_of-book-in-Return t c = c.return_.ensures.coded.slots ∙ sym c.requires.ready.slots
-
 pub stmt-returns-in-Return : goal.stmt-returns-in-Return
 stmt-returns-in-Return t c = ran-return _ _ _ _ c.requires.ready _ c.requires.lent (sym c.requires.line_value ∙ ap stmt_line c.in-Return.is) (rw (← (good-behind _ _ _ _ c.requires.behind (ap stmt_line c.in-Return.is)).is) c.return_.ensures)
 
@@ -569,7 +443,7 @@ pub stmt-returns-in-Bad : goal.stmt-returns-in-Bad
 stmt-returns-in-Bad t c = ran-bad _ _ _ _ _ c.requires.lent c.requires.near c.requires.ready (sym c.requires.line_value ∙ ap stmt_line c.in-Bad.is) c.refuse.ensures
 
 pub while_-create_label-made-requires : goal.while_-create_label-made-requires
-while_-create_label-made-requires t c = record { fine = c.requires.ready.fine; book_len = c.requires.ready.slots }
+while_-create_label-made-requires t c = record { fine = c.requires.ready.fine }
 
 pub while_-while_head-h-requires : goal.while_-while_head-h-requires
 while_-while_head-h-requires t c = record { near = c.requires.near; ready = record { fine = c.create_label-made.ensures.fine; room = c.requires.ready.room; slots = c.create_label-made.ensures.slots; held = c.requires.ready.held }; left_le_max_nesting = omega (arith, c.requires.left_bound, inner-left _ c.inner-inner.ensures) }
@@ -581,16 +455,10 @@ pub while_-while_end-t-requires : goal.while_-while_end-t-requires
 while_-while_end-t-requires t c = record { near = c.requires.near; ready = c.loop_body-b.ensures.filled.ready }
 
 pub while_-bind_label-emitter-requires : goal.while_-bind_label-emitter-requires
-while_-bind_label-emitter-requires t c = record { fine = c.while_end-t.ensures.ready.fine; book_len = c.while_end-t.ensures.ready.slots }
+while_-bind_label-emitter-requires t c = record { fine = c.while_end-t.ensures.ready.fine }
 
 pub while_-shape_of-code : goal.while_-shape_of-code
 while_-shape_of-code t c = c.while_end-t.ensures.ready.room ∙ sym c.requires.ready.room
-
-pub while_-shape_of-book : goal.while_-shape_of-book
-while_-shape_of-book t c = c.bind_label-emitter.ensures.slots ∙ sym c.requires.ready.slots
-
-pub while_-shape_of-pool : goal.while_-shape_of-pool
-while_-shape_of-pool t c = c.while_end-t.ensures.ready.held.size ∙ sym c.requires.ready.held.size
 
 pub while_-shape_of-loops : goal.while_-shape_of-loops
 while_-shape_of-loops t c = c.loop_body-b.ensures.slots.size ∙ sym c.requires.lent.size
