@@ -3,21 +3,24 @@ use mathlib.Core.Path.{◌≡◌, refl, ap, sym, ◌∙◌}
 use mathlib.Core.Bool.{Bool, true, false}
 use mathlib.Core.Option.{Option, some, none}
 use mathlib.Core.List.{List, [], ◌∷◌, ◌++◌}
-use Prim.Native.Nat.{ℕ, suc, ◌+◌, ◌≤◌, ◌<◌}
+use Prim.Native.Nat.{ℕ, ◌+◌, ◌≤◌, ◌<◌}
 use native.Mathlib.Omega.{arith}
 use borrow.Author.Tests.{lt-ltb, ltb-true, ltb-false, leb-true, eqb-true, eqb-false, ne_eqb}
 use lib.Dec.{leb, ltb, eqb}
 use lib.ListN.{length, get_or, drop}
 use Rattle.std.specs.Prelude.{Result, Ok, Err}
-use Rattle.std.proofs.Common.{inl, inr, ⊎_elim}
-use Rattle.definition.specs.Limits.{max_field, bad_form, bad_range, too_deep, wrong_lines}
+use Rattle.std.proofs.Common.{Bor, inl, inr, ⊎_elim}
+use Rattle.definition.specs.Limits.{max_field, bad_form}
 use Rattle.definition.specs.Field as def
 use Rattle.definition.specs.Field.{comma, first_line, Field, up_to, below, value, Read, malformed, outside, field, natural, natural_within, within, Numbers, wrong, far, are, and_these, numbers}
 use Rattle.definition.specs.Tree.{pos_numbers}
-use Rattle.definition.specs.Program.{Form, Line, is, not, made, by_letter, line_of, line_at, pos_fields}
+use Rattle.definition.specs.Program.{Form, Line, not, made, by_letter, line_of, line_at, pos_fields}
 use Rattle.definition.specs.declared.Refusal.{Refusal}
 use Rattle.definition.specs.declared.Refusal.TheVariants.{BadForm, TooDeep, WrongLines}
-use Rattle.field.specs.View.{separates, first_field, line_fields, line_end, Stops, Reads}
+use Rattle.std.specs.Result.{result_unwrap_or}
+use Rattle.field.specs.declared.Fault.{Fault}
+use Rattle.field.specs.declared.Fault.TheVariants.{Malformed, Outside}
+use Rattle.field.specs.View.{read_of, separates, first_field, line_fields, line_end, Stops, Reads}
 use Rattle.field.proofs.Lists.{first-left}
 use Rattle.field.proofs.Parts.{until-first, Some, some-part, split-some}
 use Rattle.field.proofs.Fields.{read-stops, comma-fields, comma-line, last-field, last_line}
@@ -29,8 +32,7 @@ use Rattle.program_line.specs.declared.Verdict.TheVariants.{Good, Far, Wrong}
 use Rattle.program_line.specs.declared.Place.{Place}
 use Rattle.program_line.specs.declared.Place.TheVariants as place
 use Rattle.program_line.specs.declared.Scan.{Scan}
-use Rattle.program_line.specs.View as view
-use Rattle.program_line.specs.Scan.{rest_from, rest, end_from, ending, behind_if, behind, farther, worse, number_in, held, push, push_all, left, Bounded, Took, TookPos, Fresh, finished_by, finished, EndsAt, Found, Opened, Letterless, Fetched}
+use Rattle.program_line.specs.Scan.{rest_from, rest, end_from, ending, behind_if, behind, farther, worse, number_in, held, push, push_all, left, Bounded, Took, TookPos, Fresh, finished_by, finished, Found, Opened, Letterless, Fetched}
 
 -- ---- one field
 
@@ -51,6 +53,12 @@ module _ {text : List ℕ} {at end stop : ℕ} (e : Stops text at end stop) wher
       go : (b : Bool) → eqb stop comma ≡ b → line_end text at ≡ end_from text (behind_if b end)
       go true h = comma-line e (eqb-true _ _ h)
       go false h = last_line e (eqb-false _ _ h)
+
+pub unwrapped : (r : Result ℕ Fault) → result_unwrap_or r 0 ≡ number_in (read_of r)
+unfolding number_in
+unwrapped (Ok n) = refl
+unwrapped (Err Malformed) = refl
+unwrapped (Err Outside) = refl
 
 -- what one number does to those behind it
 held-these : (v : Verdict) (r : Read) (x : Numbers) → held v (and_these r x) ≡ push (number_in r) (held (worse v r) x)
@@ -184,8 +192,8 @@ unfolding by_letter
 differ [] b h fs = refl
 differ (x ∷ xs) b h fs = rw (by_letter, ne_eqb x.letter b (λ e. h.0 (sym e))) (differ xs b h.1 fs)
 
-pub no-letter : {T L : Type 0} (of : T → L) (forms : List (Form L)) (b : ℕ) → Differ forms b → {fs : List (List ℕ)} {stop : ℕ} → Found of (Err BadForm) (by_letter forms b fs) stop
-no-letter of forms b d = record { is = sym (differ forms b d _); ends = tt }
+pub no-letter : {T L : Type 0} (of : T → L) (forms : List (Form L)) (b : ℕ) → Differ forms b → (fs : List (List ℕ)) (stop : ℕ) → Found of (Err BadForm) (by_letter forms b fs) stop
+no-letter of forms b d fs stop = record { is = sym (differ forms b d fs); ends = tt }
 
 -- ---- the text at a place
 
@@ -233,22 +241,23 @@ line-none forms ([] ∷ fs) h = refl
 line-none forms ((b ∷ []) ∷ fs) h = absurd h
 line-none forms ((b ∷ c ∷ bs) ∷ fs) h = refl
 
-module _ {T L : Type 0} (of : T → L) (forms : List (Form L)) {by : ℕ → Scan → Result (Next T) Refusal → Type 0} {depth at : ℕ} {text : List ℕ} {r : Result (Next T) Refusal} where
-  there-found : at < length text → (depth ≡ 0 → ⊥) → Found of r (line_of forms (line_fields text at)) (line_end text at) → Found of r (line_at forms depth text at) (line_end text at)
+module _ {T L : Type 0} (of : T → L) (forms : List (Form L)) {at : ℕ} {r : Result (Next T) Refusal} where
+  there-found : (depth : ℕ) (text : List ℕ) → at < length text → (depth ≡ 0 → ⊥) → Found of r (line_of forms (line_fields text at)) (line_end text at) → Found of r (line_at forms depth text at) (line_end text at)
   unfolding line_at
-  there-found h d f = record { is = f.is ∙ rw (line_at, lt-ltb _ _ h, ne_eqb _ _ d); ends = f.ends }
+  there-found depth text h d f = record { is = f.is ∙ rw (line_at, lt-ltb _ _ h, ne_eqb _ _ d); ends = f.ends }
 
-  opened-found : {b : ℕ} {s : Scan} → Opened text at b s → Found of r (by_letter forms b (rest s)) (ending s) → Found of r (line_of forms (line_fields text at)) (line_end text at)
+  opened-found : {text : List ℕ} {b : ℕ} {s : Scan} → Opened text at b s → Found of r (by_letter forms b (rest s)) (ending s) → Found of r (line_of forms (line_fields text at)) (line_end text at)
   unfolding line_of
   opened-found o f = rw (o.is, o.line) f
 
+module _ {T L : Type 0} (of : T → L) (forms : List (Form L)) {by : ℕ → Scan → Result (Next T) Refusal → Type 0} {depth at : ℕ} {text : List ℕ} {r : Result (Next T) Refusal} where
   -- a line that `by` reads by its letter is the one at this place
   pub line-fetched : Fetched by depth text at r → ((b : ℕ) (s : Scan) → Fresh s → by b s r → Found of r (by_letter forms b (rest s)) (ending s)) → Found of r (line_at forms depth text at) (line_end text at)
   unfolding line_at
   line-fetched f read = go (ltb at (length text)) (eqb depth 0) refl refl
     where
       some-level : at < length text → (depth ≡ 0 → ⊥) → Found of r (line_at forms depth text at) (line_end text at)
-      some-level h d = there-found h d (⊎_elim (λ n. rw n.1 (record { is = sym (line-none forms _ n.0); ends = tt })) (λ o. opened-found o.2 (read o.0 o.1 o.2.fresh o.3)) (f.there h d))
+      some-level h d = there-found of forms depth text h d (⊎_elim (λ n. rw n.1 (record { is = sym (line-none forms _ n.0); ends = tt })) (λ o. opened-found of forms o.2 (read o.0 o.1 o.2.fresh o.3)) (f.there h d))
 
       go : (x y : Bool) → ltb at (length text) ≡ x → eqb depth 0 ≡ y → Found of r (line_at forms depth text at) (line_end text at)
       go false y h z = let high : length text ≤ at = ltb-false _ _ h in rw (f.missing high) (record { is = rw (line_at, h); ends = tt })

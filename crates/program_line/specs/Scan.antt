@@ -1,10 +1,9 @@
 -- The fields behind a line's letter, as they are read one by one.
 use Rattle.std.specs.Prelude.{ℕ, ◌+◌, ◌≤◌, ◌<◌, ◌≡◌, ◌⊎◌, List, [], ◌∷◌, ◌++◌, Bool, true, false, eqb, length, Result, Ok, Err}
-use Rattle.definition.specs.Limits.{bad_form, bad_range}
 use Rattle.definition.specs.Field as def
 use Rattle.definition.specs.Field.{comma, Field, Read, malformed, outside, Numbers, wrong, far, are, numbers}
 use Rattle.definition.specs.Tree.{pos_numbers}
-use Rattle.definition.specs.Program.{Line, is, not, pos_fields}
+use Rattle.definition.specs.Program.{Line, pos_fields}
 use Rattle.definition.specs.declared.Refusal.{Refusal}
 use Rattle.definition.specs.declared.Refusal.TheVariants.{BadForm, BadRange, TooDeep, WrongLines}
 use Rattle.field.specs.View.{line_fields, line_end}
@@ -139,3 +138,8 @@ pub record Fetched {T : Type 0} (by : ℕ → Scan → Result (Next T) Refusal �
   pub missing : length text ≤ at → r ≡ Err WrongLines
   pub deep : at < length text → depth ≡ 0 → r ≡ Err TooDeep
   pub there : at < length text → (depth ≡ 0 → ⊥) → (Letterless (line_fields text at) × (r ≡ Err BadForm)) ⊎ ((b : ℕ) × (s : Scan) × Opened text at b s × by b s r)
+
+-- `unfolding open_Scan` names the definitions that code mirrors
+unfoldable pub open_Scan : Unit {0}
+unfolding behind_if farther worse finished_by
+open_Scan = tt

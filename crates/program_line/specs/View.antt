@@ -1,5 +1,5 @@
 -- What this crate's types stand for in the definition.
-use Rattle.std.specs.Prelude.{◌≡◌, ℕ, Result, Ok, Err}
+use Rattle.std.specs.Prelude.{Result, Ok, Err}
 use Rattle.definition.specs.Tree as tree
 use Rattle.definition.specs.Program as def
 use Rattle.definition.specs.Program.{Line, is, not}

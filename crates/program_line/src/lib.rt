@@ -1,16 +1,18 @@
 // A program's lines, read in place: the line at a byte of the text, as what its letter's fields say, or its refusal (6, 5, 2, 3).
 #![tactic(auto)]
 
-ghost use Rattle.std.specs.Prelude.{◌≡◌, ◌≤◌, ◌<◌, Result, length, get_or};
+ghost use Rattle.std.specs.Prelude.{◌≡◌, ◌<◌, [], ◌∷◌, get_or};
 ghost use Rattle.definition.specs.Limits.{max_field};
 ghost use Rattle.definition.specs.Field.{up_to, below};
+ghost use Rattle.definition.specs.Opcode.{Add, Arithmetic, binary_ops, Neg, BoolNot, Eq, Ne, Lt, Le, Gt, Ge, AndThen, OrElse};
 ghost use Rattle.definition.specs.Program.{line_at, by_letter, header_forms, stmt_forms, expr_forms, arm_forms, label_forms};
 ghost use Rattle.field.specs.View.{kind_of, read_of, line_end};
+ghost use Rattle.opcode.specs.View.{binary_view, unary_view, compare_view, short_circuit_view};
 ghost use Rattle.program_line.specs.View.{header_line, stmt_line, expr_line, arm_line, label_line};
-ghost use Rattle.program_line.specs.Scan.{rest, ending, behind, worse, number_in, Fresh, Took, TookPos, finished, Found, Fetched};
+ghost use Rattle.program_line.specs.Scan.{rest, ending, behind, worse, Fresh, Took, TookPos, finished, Found, Fetched};
 
 use definition::{MAX_FIELD, MAX_VARIABLES, Refusal};
-use field::{Kind, Read};
+use field::{Fault, Kind};
 use line_map::Pos;
 use opcode::{ArithmeticOp, BinaryOp, BoolOp, CompareOp, ShortCircuitOp, UnaryOp};
 
@@ -128,6 +130,34 @@ const COMPARE_OPS: [CompareOp; 6] = [
 
 const SHORT_CIRCUIT_OPS: [ShortCircuitOp; 2] = [ShortCircuitOp::AndThen, ShortCircuitOp::OrElse];
 
+fn binary_op(n: u16) -> BinaryOp
+    requires { n < 8 }
+    ensures { binary_view result ≡ get_or binary_ops n (Arithmetic Add) }
+{
+    BINARY_OPS[usize::from(n)]
+}
+
+fn unary_op(n: u16) -> UnaryOp
+    requires { n < 2 }
+    ensures { unary_view result ≡ get_or (Neg ∷ BoolNot ∷ []) n Neg }
+{
+    UNARY_OPS[usize::from(n)]
+}
+
+fn compare_op(n: u16) -> CompareOp
+    requires { n < 6 }
+    ensures { compare_view result ≡ get_or (Eq ∷ Ne ∷ Lt ∷ Le ∷ Gt ∷ Ge ∷ []) n Eq }
+{
+    COMPARE_OPS[usize::from(n)]
+}
+
+fn short_circuit_op(n: u16) -> ShortCircuitOp
+    requires { n < 2 }
+    ensures { short_circuit_view result ≡ get_or (AndThen ∷ OrElse ∷ []) n AndThen }
+{
+    SHORT_CIRCUIT_OPS[usize::from(n)]
+}
+
 // ---- the fields behind a line's letter
 
 // How the numbers of a line stand so far: a malformed one (2) wins over one outside its range (3), whatever their order. So a field at fault
@@ -155,6 +185,7 @@ pub struct Scan<'a> {
 }
 
 // The place behind the field that ends at `end`, at this byte.
+#[tactic(auto, using(std::proofs::lemmas::Bool::Decides::nat_tests), unfolding(crate::specs::Scan::open_Scan))]
 fn behind(text: &[u8], end: usize, stop: u8) -> Place
     requires { stop ≡ get_or text.now end 0 }
     ensures { result ≡ behind end stop }
@@ -166,25 +197,17 @@ fn behind(text: &[u8], end: usize, stop: u8) -> Place
     }
 }
 
-fn worse(verdict: Verdict, read: Read) -> Verdict
+#[tactic(auto, unfolding(crate::specs::Scan::open_Scan))]
+fn worse(verdict: Verdict, read: Result<u32, Fault>) -> Verdict
     ensures { result ≡ worse verdict (read_of read) }
 {
     match read {
-        Read::Is(_) => verdict,
-        Read::Malformed => Verdict::Wrong,
-        Read::Outside => match verdict {
+        Ok(_) => verdict,
+        Err(Fault::Malformed) => Verdict::Wrong,
+        Err(Fault::Outside) => match verdict {
             Verdict::Wrong => Verdict::Wrong,
-            _ => Verdict::Far,
+            Verdict::Good | Verdict::Far => Verdict::Far,
         },
-    }
-}
-
-fn number_in(read: Read) -> u32
-    ensures { result ≡ number_in (read_of read) }
-{
-    match read {
-        Read::Is(n) => n,
-        _ => 0,
     }
 }
 
@@ -198,7 +221,7 @@ impl<'a> Scan<'a> {
                 let next = field::next_field(self.text, at, kind);
                 self.place = behind(self.text, next.end, next.stop);
                 self.verdict = worse(self.verdict, next.read);
-                number_in(next.read)
+                next.read.unwrap_or(0)
             }
             Place::End(_) => {
                 self.verdict = Verdict::Wrong;
@@ -237,16 +260,17 @@ impl<'a> Scan<'a> {
     }
 
     // The line that these fields make, if they end here and none of them is at fault.
+    #[tactic(auto, unfolding(crate::specs::Scan::open_Scan))]
     fn finish<L: Copy>(self, line: L) -> Result<Next<L>, Refusal>
         ensures { result ≡ finished self.entry line }
     {
-        let Place::End(end) = self.place else {
-            return Err(Refusal::BadForm);
-        };
-        match self.verdict {
-            Verdict::Good => Ok(Next { line, end }),
-            Verdict::Far => Err(Refusal::BadRange),
-            Verdict::Wrong => Err(Refusal::BadForm),
+        match self.place {
+            Place::Field(_) => Err(Refusal::BadForm),
+            Place::End(end) => match self.verdict {
+                Verdict::Good => Ok(Next { line, end }),
+                Verdict::Far => Err(Refusal::BadRange),
+                Verdict::Wrong => Err(Refusal::BadForm),
+            },
         }
     }
 }
@@ -419,7 +443,7 @@ fn binary_line(mut s: Scan, variables: u16) -> Result<Next<ExprLine>, Refusal>
     ensures { Found expr_line result (by_letter (expr_forms variables) 0x4F (rest s.entry)) (ending s.entry) }
 {
     let k = s.up_to(7);
-    s.finish(ExprLine::Binary(BINARY_OPS[usize::from(k)]))
+    s.finish(ExprLine::Binary(binary_op(k)))
 }
 
 fn unary_line(mut s: Scan, variables: u16) -> Result<Next<ExprLine>, Refusal>
@@ -427,7 +451,7 @@ fn unary_line(mut s: Scan, variables: u16) -> Result<Next<ExprLine>, Refusal>
     ensures { Found expr_line result (by_letter (expr_forms variables) 0x55 (rest s.entry)) (ending s.entry) }
 {
     let k = s.up_to(1);
-    s.finish(ExprLine::Unary(UNARY_OPS[usize::from(k)]))
+    s.finish(ExprLine::Unary(unary_op(k)))
 }
 
 fn compare_line(mut s: Scan, variables: u16) -> Result<Next<ExprLine>, Refusal>
@@ -435,7 +459,7 @@ fn compare_line(mut s: Scan, variables: u16) -> Result<Next<ExprLine>, Refusal>
     ensures { Found expr_line result (by_letter (expr_forms variables) 0x43 (rest s.entry)) (ending s.entry) }
 {
     let k = s.up_to(5);
-    s.finish(ExprLine::Compare(COMPARE_OPS[usize::from(k)]))
+    s.finish(ExprLine::Compare(compare_op(k)))
 }
 
 fn short_circuit_line(mut s: Scan, variables: u16) -> Result<Next<ExprLine>, Refusal>
@@ -443,7 +467,7 @@ fn short_circuit_line(mut s: Scan, variables: u16) -> Result<Next<ExprLine>, Ref
     ensures { Found expr_line result (by_letter (expr_forms variables) 0x48 (rest s.entry)) (ending s.entry) }
 {
     let k = s.up_to(1);
-    s.finish(ExprLine::ShortCircuit(SHORT_CIRCUIT_OPS[usize::from(k)]))
+    s.finish(ExprLine::ShortCircuit(short_circuit_op(k)))
 }
 
 // ---- a line by its letter, whichever it is

@@ -6,4 +6,4 @@ use Rattle.program_line.proofs.arm_of.Goals as goal
 
 pub returns-in_default : goal.returns-in_default
 unfolding open-Program
-returns-in_default c = no-letter arm_line arm_forms _ (search rules, tt)
+returns-in_default c = no-letter arm_line arm_forms c.args.letter (search rules, tt) _ _

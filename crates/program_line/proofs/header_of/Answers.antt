@@ -6,4 +6,4 @@ use Rattle.program_line.proofs.header_of.Goals as goal
 
 pub returns-in_default : goal.returns-in_default
 unfolding open-Program
-returns-in_default c = no-letter header_line header_forms _ (search rules, tt)
+returns-in_default c = no-letter header_line header_forms c.args.letter (search rules, tt) _ _

@@ -6,4 +6,4 @@ use Rattle.program_line.proofs.label_of.Goals as goal
 
 pub returns-in_default : goal.returns-in_default
 unfolding open-Program
-returns-in_default c = no-letter label_line label_forms _ (search rules, (search rules, tt))
+returns-in_default c = no-letter label_line label_forms c.args.letter (search rules, (search rules, tt)) _ _
