@@ -17,6 +17,7 @@ use Rattle.definition.specs.Emit.{le16}
 use Rattle.definition.specs.Rewrite.{Bytes, Matcher, OffsetMap, decode, instruction, actions, applied, output, offsets, moved_to, apply_peephole}
 use Rattle.definition.specs.Lent.{filled}
 use Rattle.store.specs.Fill.{zeroed_from}
+use Rattle.store.proofs.Fills.{zeroed-is}
 use Rattle.rewrite.specs.View.{first_of, actions_after, Fitting, FittingNext, Planned, put, Peephole}
 use Rattle.rewrite.proofs.Decoding.{First, first, first-is, first-none}
 
@@ -254,14 +255,14 @@ module _ (s : Sheet) (matches : Matcher) (protected code₀ : List ℕ) where
   -- nothing is left
   pub ends : {k : ℕ} {code map : List ℕ} {at to : ℕ} {next : Option Action} → Going k code map at to next → decode s (drop at code) ≡ []
       → Peephole (apply_peephole s matches protected code₀) code₀ (zeroed_from to code) (set map at to) to
-  unfolding output offsets actions_after actions moved_to filled zeroed_from
+  unfolding output offsets actions_after actions moved_to filled
   ends {k} {code} {map} {at} {to} {next} g e =
       let none_left : (n : Option Action) → actions_after s matches protected n at [] ≡ [] = λ n. elim n as (λ o. actions_after s matches protected o at [] ≡ []) [ none ↦ refl | some x ↦ refl ] in
       let out = rw (e, none_left next) at g.out in
       let is : (apply_peephole s matches protected code₀).0 ≡ take to code = out ∙ append-nil (take to code) in
       let long : length (take to code) ≡ to = length-take-le to code (omega (arith, g.behind, g.within)) in
       record {
-        is = rw (is, long, ← g.room);
+        is = rw (is, long, ← g.room) (zeroed-is to code);
         end = rw is (sym long);
         moved = λ x.
             let m = rw (e, none_left next) at (g.moved x) in

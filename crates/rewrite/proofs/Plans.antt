@@ -98,13 +98,13 @@ module _ (s : Sheet) (table : List ℕ) (count pass : ℕ) (marks code : List �
 
 -- ---- the loop
 
-module _ {s : Sheet} {matches : Matcher} {protected code₀ code code' moves : List ℕ} {k at to n z : ℕ} {next then : Option def.Action} {x : def.Action}
-    (g : Going s matches protected code₀ k code moves at to next) (same : n ≡ to) where
-  pub turns : {to' : ℕ} → Planned s matches protected code at next z x then → Puts (applied x (take z (drop at code))) code code' to to' → Going s matches protected code₀ k code' (set moves at n) (at + z) to' then
-  turns p q = rw (same, q.is, q.end) (goes_on s matches protected code₀ g p)
+module _ {s : Sheet} {matches : Matcher} {protected code₀ code code' moves : List ℕ} {k at to : ℕ} {next : Option def.Action} (g : Going s matches protected code₀ k code moves at to next) where
+  pub turns : {z to' : ℕ} {then : Option def.Action} {x : def.Action} → Planned s matches protected code at next z x then → Puts (applied x (take z (drop at code))) code code' to to'
+      → Going s matches protected code₀ k code' (set moves at to) (at + z) to' then
+  turns p q = rw (q.is, q.end) (goes_on s matches protected code₀ g p)
 
-  pub finishes : first_of (decode s (drop at code)) ≡ [] → code' ≡ zeroed_from to code → Peephole (apply_peephole s matches protected code₀) code₀ code' (set moves at n) to
-  finishes e q = rw (same, q) (ends s matches protected code₀ g (first-none s code at [] (sym e) refl))
+  pub finishes : first_of (decode s (drop at code)) ≡ [] → code' ≡ zeroed_from to code → Peephole (apply_peephole s matches protected code₀) code₀ code' (set moves at to) to
+  finishes e q = rw q (ends s matches protected code₀ g (first-none s code at [] (sym e) refl))
 
 pub turn-within : {s : Sheet} {matches : Matcher} {protected code : List ℕ} {at z : ℕ} {next then : Option def.Action} {x : def.Action}
     → Planned s matches protected code at next z x then → at + z ≤ length code

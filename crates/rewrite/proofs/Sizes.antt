@@ -8,18 +8,24 @@ use Rattle.std.specs.Slice.{IsGetRangeResult}
 use mathlib.Core.List.{List, [], ◌∷◌}
 use Prim.Native.Nat.{ℕ, zero, suc, ◌+◌, ◌-◌, ◌≤◌, ◌<◌}
 use native.Mathlib.Omega.{arith}
+use Rattle.std.proofs.Common.{⊎_elim}
 use lib.ListN.{length, take, drop, get_or, get_elem?, length-drop}
 use lib.Seq.{length-take-le}
 use Rattle.definition.specs.Opcode.{Role, Sheet, role_of, roles, number, size, ret}
 use Rattle.definition.specs.Rules as def
 use Rattle.definition.specs.Rules.{role_numbered}
 use Rattle.definition.specs.Rewrite.{Bytes, decode, opcode_of, operand_of, instruction}
-use Rattle.opcode.specs.Table.{number_or}
+use Rattle.opcode.specs.Table.{number_or, number_in, IsTable, sheet_in}
+use Rattle.opcode.proofs.Tables.{table-number}
 use Rattle.opcode.proofs.Sheets.{role-number, number-below}
 use Rattle.rewrite.specs.View.{first_of, part_of}
-use Rattle.rewrite.proofs.Decoding.{decode-past, decode-at, decode-unlisted-at, decode-cut-at}
+use Rattle.rewrite.proofs.Decoding.{decode-past, decode-at, decode-unlisted-at, decode-cut-at, size-positive}
 
 -- ---- its bytes
+
+-- the number of the role of the byte at a place
+pub role-there : {sheet : List ℕ} (code : List ℕ) (at : ℕ) {n x : ℕ} → IsTable sheet → n ≡ number_in sheet x → x ≡ get_or code at 0 → x < 256 → n ≡ number_or (role_of (sheet_in sheet) (get_or code at 0))
+role-there code at {x = x} t e f h = rw (← f) (e ∙ table-number t x h)
 
 module _ (s : Sheet) (code : List ℕ) (at : ℕ) where
   pub part-past : length code ≤ at → [] ≡ first_of (decode s (drop at code))
@@ -48,7 +54,16 @@ module _ (s : Sheet) (code : List ℕ) (at : ℕ) where
     pub part-got : (n ≡ 255 → ⊥) → {z : ℕ} → z ≡ size (role_numbered n) → (r : std.Option (Bor Bytes)) → IsGetRangeResult code at (at + z) r
         → (part_of r ≡ first_of (decode s (drop at code))) × IfSome r (λ i. 1 ≤ length i.now)
     unfolding first_of
-    part-got ne {z} e r g = ?
+    part-got ne {z} e None g =
+        let h : length code < at + size (role_numbered n) = ⊎_elim (λ l. absurd (omega arith)) (λ l. omega arith) g.0 in
+        (rw (decode-cut-at s code at (role_numbered n) here (size-listed ne) h), tt)
+    part-got ne {z} e (Some i) g =
+        let h : at + size (role_numbered n) ≤ length code = omega arith in
+        let same : at + z - at ≡ size (role_numbered n) = omega arith in
+        let p = size-positive (role_numbered n) in
+        let is = g.0.2 in
+        let long = g.0.3 in
+        (rw (decode-at s code at (role_numbered n) (size-listed ne) h) (is ∙ ap (λ (k : ℕ). take k (drop at code)) same), omega arith)
 
 -- ---- as a rule sees it
 

@@ -1,42 +1,37 @@
-use Rattle.std.proofs.Common.{rules, ◌≡◌, ◌+◌, ◌≤◌, length, take, drop, IfSome, ℕ, ◌-◌, ◌*◌, ◌<◌, ◌/◌, ◌%◌, Bool, true, false, nat_eq, nat_lt, List, [], ◌∷◌, ◌++◌, slice_index_or, slice_set, bit_and, bit_or, Fits, w8, w32, w64, Bor, MutBor}
-use Rattle.definition.specs.Rewrite.{decode, operand_of, instruction, applied, apply_peephole}
-use Rattle.opcode.specs.Table.{IsTable, sheet_in}
-use Rattle.rules.specs.View.{action_view, instruction_view, IsRules, Indexed}
-use Rattle.rewrite.specs.View.{first_of, part_of, marked, matcher, Looked, Kept, next_view, Fitting, FittingNext, Ready, Decided, Puts, Clear, Peephole}
+use mathlib.Core.Path.{refl, sym, ◌∙◌}
+use native.Mathlib.Omega.{arith}
+use Rattle.opcode.specs.Table.{sheet_in}
+use Rattle.rewrite.proofs.Looking.{looked-first, unmatched}
+use Rattle.rewrite.proofs.Plans.{decided-known, decided-unstarted, decided-within, decided-last, decided-first, decided-second, decided-unmatched, decided-matched}
 use Rattle.rewrite.proofs.decide.Goals as goal
+use Rattle.rewrite.proofs.decide.Goals.{then-marks-at-ne0-via-then-marks-at-ne0, then-marks-at-ne0-via-else-marks-at-ne0+then-marks-then-ne0}
 
--- src/lib.rt:138:9
 pub returns-in-Some : goal.returns-in-Some
-returns-in-Some c = ?
+returns-in-Some c = decided-known _ _ _ _ _ _ _ _ _ c.in_ok-a.ensures.is c.in_ok-a.ensures.full c.in-Some.is c.requires.fitting_next
 
--- src/lib.rt:146:9
 pub returns-then-head-eq-NO_RULE : goal.returns-then-head-eq-NO_RULE
-returns-then-head-eq-NO_RULE c = ?
+returns-then-head-eq-NO_RULE c = decided-unstarted (sheet_in c.args.sheet.now) c.args.rules.now c.args.count c.args.pass c.args.marks.now c.args.code.now c.args.at c.args.next _ c.in_ok-a.ensures.is c.in_ok-a.ensures.full c.in_default.is (unmatched _ _ _ c.requires.ready.held c.requires.indexed c.seen-first.ensures (sym c.head.ensures ∙ c.if-head-eq-NO_RULE.true)) c.keep.ensures
 
--- src/lib.rt:148:16
 pub overflow_add-then : goal.overflow_add-then
-overflow_add-then c = ?
+overflow_add-then c = omega (arith, decided-within (sheet_in c.args.sheet.now) c.args.rules.now c.args.count c.args.pass c.args.marks.now c.args.code.now c.args.at c.args.next _ c.in_ok-a.ensures.is c.in_ok-a.ensures.full, c.requires.ready.small)
 
--- src/lib.rt:150:9
 pub returns-in_default-decode : goal.returns-in_default-decode
-returns-in_default-decode c = ?
+returns-in_default-decode c = decided-last (sheet_in c.args.sheet.now) c.args.rules.now c.args.count c.args.pass c.args.marks.now c.args.code.now c.args.at c.args.next _ c.in_ok-a.ensures.is c.in_ok-a.ensures.full _ c.in_default-decode.ensures.is c.in_default.is refl c.keep-in_default-decode.ensures
 
--- src/lib.rt:152:8
 pub bounds-marks-at : goal.bounds-marks-at
-bounds-marks-at c = ?
+bounds-marks-at c = omega (arith, decided-within (sheet_in c.args.sheet.now) c.args.rules.now c.args.count c.args.pass c.args.marks.now c.args.code.now c.args.at c.args.next _ c.in_ok-a.ensures.is c.in_ok-a.ensures.full, c.requires.ready.slots)
 
--- src/lib.rt:152:26
 pub bounds-marks-then : goal.bounds-marks-then
-bounds-marks-then c = ?
+bounds-marks-then c = omega (arith, decided-within (sheet_in c.args.sheet.now) c.args.rules.now c.args.count c.args.pass c.args.marks.now c.args.code.now c.args.at c.args.next _ c.in_ok-a.ensures.is c.in_ok-a.ensures.full, c.requires.ready.slots)
 
--- src/lib.rt:153:9
 pub returns-then-marks-at-ne0 : goal.returns-then-marks-at-ne0
-returns-then-marks-at-ne0 c = ?
+returns-then-marks-at-ne0 c = elim c.then-marks-at-ne0.branch [
+  | then-marks-at-ne0-via-then-marks-at-ne0 w ↦ decided-first (sheet_in c.args.sheet.now) c.args.rules.now c.args.count c.args.pass c.args.marks.now c.args.code.now c.args.at c.args.next _ c.in_ok-a.ensures.is c.in_ok-a.ensures.full _ c.in-Some-decode.ensures.is c.in_default.is c.in-Some-decode.ensures.full w.if-marks-at-ne0.true c.keep-then-marks-at-ne0.ensures
+  | then-marks-at-ne0-via-else-marks-at-ne0+then-marks-then-ne0 w ↦ decided-second (sheet_in c.args.sheet.now) c.args.rules.now c.args.count c.args.pass c.args.marks.now c.args.code.now c.args.at c.args.next _ c.in_ok-a.ensures.is c.in_ok-a.ensures.full _ c.in-Some-decode.ensures.is c.in_default.is c.in-Some-decode.ensures.full w.if-marks-at-ne0.false w.if-marks-then-ne0.true c.keep-then-marks-at-ne0.ensures
+]
 
--- src/lib.rt:156:9
 pub returns-in_default-look_up : goal.returns-in_default-look_up
-returns-in_default-look_up c = ?
+returns-in_default-look_up c = decided-unmatched (sheet_in c.args.sheet.now) c.args.rules.now c.args.count c.args.pass c.args.marks.now c.args.code.now c.args.at c.args.next _ c.in_ok-a.ensures.is c.in_ok-a.ensures.full _ c.in-Some-decode.ensures.is c.in_default.is c.in-Some-decode.ensures.full c.if-marks-at-ne0.false c.if-marks-then-ne0.false (looked-first _ _ _ _ _ c.seen-first.ensures c.look_up.ensures) c.in_default-look_up.is c.keep-in_default-look_up.ensures
 
--- src/lib.rt:119:1
 pub returns : goal.returns
-returns c = ?
+returns c = decided-matched (sheet_in c.args.sheet.now) c.args.rules.now c.args.count c.args.pass c.args.marks.now c.args.code.now c.args.at c.args.next _ c.in_ok-a.ensures.is c.in_ok-a.ensures.full _ c.in-Some-decode.ensures.is c.in_default.is c.in-Some-decode.ensures.full c.if-marks-at-ne0.false c.if-marks-then-ne0.false (looked-first _ _ _ _ _ c.seen-first.ensures c.look_up.ensures) _ c.actions-pair.result _ c.in-At.is c.requires.ready.held c.actions-pair.ensures
