@@ -158,6 +158,10 @@ module _ (s : Sheet) (code : List ℕ) (at : ℕ) where
         let w = first.within (omega (arith, l)) in
         omega (arith, l, w)
 
+-- an instruction that is decoded lies in the code
+pub part_within : (s : Sheet) (code : List ℕ) (at : ℕ) (a : Bytes) → a ≡ first_of (decode s (drop at code)) → 1 ≤ length a → at + length a ≤ length code
+part_within = first-within
+
 -- what is decoded is an instruction of the sheet
 pub record Listed (s : Sheet) (a : Bytes) : Type 0 where
   pub role : Role

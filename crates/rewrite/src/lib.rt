@@ -116,6 +116,7 @@ fn look_up(
 }
 
 // What is done with the instruction at a place, and with the next one if the two match.
+#[tactic(auto, using(crate::proofs::Decoding::part_within))]
 fn decide(
     sheet: &[u8],
     rules: &[u16],

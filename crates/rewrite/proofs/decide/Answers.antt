@@ -12,17 +12,8 @@ returns-in-Some c = decided-known _ _ _ _ _ _ _ _ _ c.in_ok-a.ensures.is c.in_ok
 pub returns-then-head-eq-NO_RULE : goal.returns-then-head-eq-NO_RULE
 returns-then-head-eq-NO_RULE c = decided-unstarted (sheet_in c.args.sheet.now) c.args.rules.now c.args.count c.args.pass c.args.marks.now c.args.code.now c.args.at c.args.next _ c.in_ok-a.ensures.is c.in_ok-a.ensures.full c.in_default.is (unmatched _ _ _ c.requires.ready.held c.requires.indexed c.seen-first.ensures (sym c.head.ensures ∙ c.if-head-eq-NO_RULE.true)) c.keep.ensures
 
-pub overflow_add-then : goal.overflow_add-then
-overflow_add-then c = omega (arith, decided-within (sheet_in c.args.sheet.now) c.args.rules.now c.args.count c.args.pass c.args.marks.now c.args.code.now c.args.at c.args.next _ c.in_ok-a.ensures.is c.in_ok-a.ensures.full, c.requires.ready.small)
-
 pub returns-in_default-decode : goal.returns-in_default-decode
 returns-in_default-decode c = decided-last (sheet_in c.args.sheet.now) c.args.rules.now c.args.count c.args.pass c.args.marks.now c.args.code.now c.args.at c.args.next _ c.in_ok-a.ensures.is c.in_ok-a.ensures.full _ c.in_default-decode.ensures.is c.in_default.is refl c.keep-in_default-decode.ensures
-
-pub bounds-marks-at : goal.bounds-marks-at
-bounds-marks-at c = omega (arith, decided-within (sheet_in c.args.sheet.now) c.args.rules.now c.args.count c.args.pass c.args.marks.now c.args.code.now c.args.at c.args.next _ c.in_ok-a.ensures.is c.in_ok-a.ensures.full, c.requires.ready.slots)
-
-pub bounds-marks-then : goal.bounds-marks-then
-bounds-marks-then c = omega (arith, decided-within (sheet_in c.args.sheet.now) c.args.rules.now c.args.count c.args.pass c.args.marks.now c.args.code.now c.args.at c.args.next _ c.in_ok-a.ensures.is c.in_ok-a.ensures.full, c.requires.ready.slots)
 
 pub returns-then-marks-at-ne0 : goal.returns-then-marks-at-ne0
 returns-then-marks-at-ne0 c = elim c.then-marks-at-ne0.branch [
