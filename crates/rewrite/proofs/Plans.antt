@@ -1,13 +1,12 @@
 -- What `decide` answers at each return, and what the loop makes of it.
 use mathlib.Core.Path.{◌≡◌, refl, sym, ◌∙◌}
-use mathlib.Core.Bool.{true, false, ◌||◌}
+use mathlib.Core.Bool.{Bool, true, false, ◌||◌}
 use mathlib.Core.Option.{Option, some, none}
 use Rattle.std.specs.Prelude as std
 use Rattle.std.specs.Prelude.{Some, None}
 use mathlib.Core.List.{List, [], map}
 use Prim.Native.Nat.{ℕ, ◌+◌, ◌≤◌}
 use native.Mathlib.Omega.{arith}
-use borrow.Author.Tests.{eq-eqb, ne_eqb}
 use lib.ListN.{length, take, drop, set, get_or}
 use Rattle.definition.specs.Field.{has}
 use Rattle.definition.specs.Opcode.{Sheet}
@@ -22,10 +21,9 @@ use Rattle.rules.specs.View.{action_view, IsRules, rule_at, actions_in, pair_at}
 use Rattle.rules.proofs.Lookup.{actions-there, first-action, second-action}
 use Rattle.rewrite.proofs.Looking.{looked-inside}
 use Rattle.rewrite.specs.declared.Plan.{Plan}
-use Rattle.rewrite.specs.View.{is_mark, first_of, marked, matcher, next_view, Looked, Kept, Ready, FittingNext, Planned, Puts, Peephole}
+use Rattle.rewrite.specs.View.{first_of, marked, matcher, next_view, Looked, Kept, Ready, FittingNext, Planned, Puts, Peephole}
 use Rattle.rewrite.proofs.Decoding.{First, first, first-none, first-within, listed}
 use Rattle.rewrite.proofs.Fits.{found-fits}
-use Rattle.rewrite.proofs.Marked.{has-marked}
 use Rattle.rewrite.proofs.Pass.{plan-known, plan-unstarted, plan-last, plan-protected, plan-unmatched, plan-matched, Going, goes_on, ends}
 
 -- ---- a plan to keep
@@ -34,20 +32,16 @@ kept : {s : Sheet} {matches : Matcher} {protected code : List ℕ} {at z : ℕ} 
     → Planned s matches protected code at next z keep none → Planned s matches protected code at next r.size (action_view r.action) (next_view r.next)
 kept k p = rw (k.size, k.action, k.next) p
 
--- ---- marks
+-- ---- two tests in turn, a and b, of what p and q say
 
-module _ (marks : List ℕ) (at next : ℕ) where
-  either_first : (get_or marks at 0 ≡ 0 → ⊥) → (has (marked marks) at || has (marked marks) next) ≡ true
-  unfolding is_mark
-  either_first h = rw (has-marked marks at, ne_eqb _ _ h)
+pub either_first : {a p : Bool} (q : Bool) → a ≡ p → a ≡ true → (p || q) ≡ true
+either_first q e h = rw (← e, h)
 
-  either_second : get_or marks at 0 ≡ 0 → (get_or marks next 0 ≡ 0 → ⊥) → (has (marked marks) at || has (marked marks) next) ≡ true
-  unfolding is_mark
-  either_second e h = rw (has-marked marks at, has-marked marks next, eq-eqb _ _ e, ne_eqb _ _ h)
+pub either_second : {a b p q : Bool} → a ≡ p → a ≡ false → b ≡ q → b ≡ true → (p || q) ≡ true
+either_second e h f k = rw (← e, h, ← f, k)
 
-  neither : get_or marks at 0 ≡ 0 → get_or marks next 0 ≡ 0 → (has (marked marks) at || has (marked marks) next) ≡ false
-  unfolding is_mark
-  neither e f = rw (has-marked marks at, has-marked marks next, eq-eqb _ _ e, eq-eqb _ _ f)
+pub neither : {a b p q : Bool} → a ≡ p → a ≡ false → b ≡ q → b ≡ false → (p || q) ≡ false
+neither e h f k = rw (← e, h, ← f, k)
 
 -- ---- the returns of `decide`
 
@@ -71,21 +65,17 @@ module _ (s : Sheet) (table : List ℕ) (count pass : ℕ) (marks code : List �
     decided-last z k = rw asked (kept k (plan-last s _ _ code at a here b after full z))
 
     module _ (more : 1 ≤ length b) where
-      pub decided-first : {r : Plan} → (get_or marks at 0 ≡ 0 → ⊥) → Kept (length a) r
+      pub decided-protected : {r : Plan} → (has (marked marks) at || has (marked marks) (at + length a)) ≡ true → Kept (length a) r
           → Planned s (matcher table count pass) (marked marks) code at (next_view next) r.size (action_view r.action) (next_view r.next)
-      decided-first h k = rw asked (kept k (plan-protected s _ _ code at a here b after full more (either_first marks at (at + length a) h)))
+      decided-protected h k = rw asked (kept k (plan-protected s _ _ code at a here b after full more h))
 
-      pub decided-second : {r : Plan} → get_or marks at 0 ≡ 0 → (get_or marks (at + length a) 0 ≡ 0 → ⊥) → Kept (length a) r
-          → Planned s (matcher table count pass) (marked marks) code at (next_view next) r.size (action_view r.action) (next_view r.next)
-      decided-second e h k = rw asked (kept k (plan-protected s _ _ code at a here b after full more (either_second marks at (at + length a) e h)))
-
-      module _ (free : get_or marks at 0 ≡ 0) (free-next : get_or marks (at + length a) 0 ≡ 0) {f : Found} (l : Looked table count (matcher table count pass (instruction s a) (instruction s b)) f) where
+      module _ (free : (has (marked marks) at || has (marked marks) (at + length a)) ≡ false) {f : Found} (l : Looked table count (matcher table count pass (instruction s a) (instruction s b)) f) where
         pub decided-unmatched : {r : Plan} → f ≡ Nothing → Kept (length a) r
             → Planned s (matcher table count pass) (marked marks) code at (next_view next) r.size (action_view r.action) (next_view r.next)
         unfolding pair_at
         decided-unmatched e k =
             let m : matcher table count pass (instruction s a) (instruction s b) ≡ none = sym l.is ∙ rw e in
-            rw asked (kept k (plan-unmatched s _ _ code at a here b after full more (neither marks at (at + length a) free free-next) m))
+            rw asked (kept k (plan-unmatched s _ _ code at a here b after full more free m))
 
         pub decided-matched : (i : ℕ) (pair : List Action) (d : Action) → f ≡ At i → IsRules table count → map action_view pair ≡ actions_in table i
             → Planned s (matcher table count pass) (marked marks) code at (next_view next) (length a) (action_view (get_or pair 0 d)) (some (action_view (get_or pair 1 d)))
@@ -94,7 +84,7 @@ module _ (s : Sheet) (table : List ℕ) (count pass : ℕ) (marks code : List �
             let two = acts ∙ actions-there held (looked-inside l e) in
             let m : matcher table count pass (instruction s a) (instruction s b) ≡ some ((rule_at table i).one, (rule_at table i).two) = sym l.is ∙ rw e in
             let fit = found-fits s table count pass a b _ _ held (listed s code at a here full) (listed s code (at + length a) b after more) m in
-            rw (asked, first-action d pair two, second-action d pair two) (plan-matched s _ _ code at a here b after full more _ _ (neither marks at (at + length a) free free-next) m fit.0 fit.1)
+            rw (asked, first-action d pair two, second-action d pair two) (plan-matched s _ _ code at a here b after full more _ _ free m fit.0 fit.1)
 
 -- ---- the loop
 

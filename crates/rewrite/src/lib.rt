@@ -1,7 +1,8 @@
 // One pass of pair rewriting, in place over lent code (optimize/rewrite.rs). Only our own crates call it: they lend tables that were read.
 #![tactic(auto)]
 
-ghost use Rattle.std.specs.Prelude.{◌≡◌, ◌+◌, ◌≤◌, length, take, drop, IfSome};
+ghost use Rattle.std.specs.Prelude.{◌≡◌, ◌+◌, ◌≤◌, ◌<◌, length, take, drop, IfSome};
+ghost use Rattle.definition.specs.Field.{has};
 ghost use Rattle.definition.specs.Rewrite.{decode, operand_of, instruction, applied, apply_peephole};
 ghost use Rattle.opcode.specs.Table.{IsTable, sheet_in};
 ghost use Rattle.rules.specs.View.{action_view, instruction_view, IsRules, Indexed};
@@ -115,6 +116,14 @@ fn look_up(
     rules::find(rules, count, index, pass, first, second)
 }
 
+// Whether a table of marks marks an offset.
+fn is_marked(marks: &[u8], at: usize) -> bool
+    requires { at < length marks.now }
+    ensures { result ≡ has (marked marks.now) at }
+{
+    marks[at] != 0
+}
+
 // What is done with the instruction at a place, and with the next one if the two match.
 #[tactic(auto, using(crate::proofs::Decoding::part_within))]
 fn decide(
@@ -150,7 +159,7 @@ fn decide(
     let Some(b) = decode(sheet, code, then) else {
         return Some(keep(size));
     };
-    if marks[at] != 0 || marks[then] != 0 {
+    if is_marked(marks, at) || is_marked(marks, then) {
         return Some(keep(size));
     }
     let Found::At(i) = look_up(sheet, rules, count, index, pass, first, b) else {
