@@ -95,8 +95,8 @@ pub record Testing (s : Sheet) (left : ℕ) (text : List ℕ) (body fail n : ℕ
   pub near : Near text here.at here.row
   pub ready : Ready w
 
-pub tests : (s : Sheet) (left : ℕ) (text : List ℕ) (body fail n : ℕ) (c : Cursor) (w : World) → Near text c.at c.row → Ready w → 0 < n → Testing s left text body fail n (cursor_of c) w w n c
-tests s left text body fail n c w near ready h = record { did = λ u d. d; end = refl; left_over = h; near = near; ready = ready }
+pub tests : (s : Sheet) (left : ℕ) (text : List ℕ) (body fail n : ℕ) (c : Cursor) (w : World) → Near text c.at c.row → Ready w → 0 < n → {more : ℕ} → more ≡ n → Testing s left text body fail n (cursor_of c) w w more c
+tests s left text body fail n c w near ready h all = rw all (record { did = λ u d. d; end = refl; left_over = h; near = near; ready = ready })
 
 module _ {s : Sheet} {left : ℕ} {text : List ℕ} {body fail n : ℕ} {c : def.Cursor} {w₀ w : World} {more : ℕ} {here : Cursor} (t : Testing s left text body fail n c w₀ w more here) where
   pub tests-on : {u : World} {here' : Cursor} → Leads s (test_jump (label_here left text (cursor_of here)).0 body) text (label_here left text (cursor_of here)).1 w u here' → 1 < more → {rest : ℕ} → rest ≡ more - 1 → Testing s left text body fail n c w₀ u rest here'

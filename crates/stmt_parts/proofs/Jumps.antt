@@ -43,7 +43,7 @@ coded-run s c d = record { fine = d.fine; room = d.room; slots = d.slots; kept =
 bare-run : (s : Sheet) (c : Call) {e r : Emitter} {code book : List ℕ} → length code ≡ max_code → length book ≡ book_size → Bare c e r → Coded (run s (say c)) e code book r code book
 bare-run s c {code = code} {book = book} room slots d = record { fine = d.fine; room = room; slots = slots; kept = λ pool. d.kept code book pool; did = λ pool. said s c (d.did s code book pool) }
 
-module _ (s : Sheet) (inside i : ℕ) (text : List ℕ) (c : def.Cursor) {n : Cursor} (on : Skipped text (next_line text c) n) {e u : Emitter} {code book : List ℕ} {ls : List OpenLoop} where
+module _ (s : Sheet) (inside i : ℕ) (text : List ℕ) (c : def.Cursor) {n : Cursor} (on : Skipped text (next_line text c) n) {e u : Emitter} {code book : List ℕ} (ls : List OpenLoop) where
   -- no such loop
   module _ (f : Finds ls inside i None) (room : length code ≡ max_code) (slots : length book ≡ book_size) (d : Bare (refused (record { number = no_loop; place = c.row })) e u) where
     pub exit-none : Stepped s (jump_row c.row (exit_of (labels i (loops_of (opens_in ls inside))))) text (next_line text c) e code book (record { cursor = n; emitter = u }) code book

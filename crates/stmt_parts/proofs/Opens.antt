@@ -21,18 +21,23 @@ opens-but ls ls' (suc n) h = rw (h n (omega arith), opens-but ls ls' n (λ k l. 
 module _ (ls : List OpenLoop) (at : ℕ) (o : OpenLoop) where
   pub open-other : (k : ℕ) → (k ≡ at → ⊥) → open_at (set ls at o) k ≡ open_at ls k
   unfolding open_at
-  open-other k h = rw (get_or-set_other ls at k o no_open (λ e. h (sym e)))
+  open-other k h = rw (get_or-set_other ls at k o no_open h)
 
   pub open-here : at < length ls → open_at (set ls at o) at ≡ open_at (o ∷ ls) 0
   unfolding open_at
   open-here h = rw (get_or-set_same ls at o no_open h)
 
-pub loop-opened : (ls : List OpenLoop) (inside i end next : ℕ) → inside < length ls → Opened inside i end next ls (set ls inside (record { number = i; exit = record { 0 = end }; next = record { 0 = next }; used = false }))
+abbrev pub opened_as : ℕ → ℕ → ℕ → OpenLoop
+opened_as i end next = record { number = i; exit = record { 0 = end }; next = record { 0 = next }; used = false }
+
+pub loop-opened : (ls : List OpenLoop) (inside i end next : ℕ) → inside < length ls → Opened inside i end next ls (set ls inside (opened_as i end next))
 unfolding opens_in open_at
-loop-opened ls inside i end next few = record {
-  is = refl;
-  opens = rw (open-here ls inside _ few, opens-but ls (set ls inside _) inside (λ k h. open-other ls inside _ k (λ e. omega arith)));
-}
+loop-opened ls inside i end next few =
+    let o = opened_as i end next in
+    record {
+      is = refl;
+      opens = rw (open-here ls inside o few, opens-but ls (set ls inside o) inside (λ k h. open-other ls inside o k (λ e. omega arith)));
+    }
 
 -- what a CONTINUE marks, by what was found
 led-none : (ls : List OpenLoop) (i n : ℕ) → ((j : ℕ) → j < n → (get_or ls j no_open).number ≡ i → ⊥) → led_to i ls n ≡ ls

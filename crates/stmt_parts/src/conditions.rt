@@ -44,7 +44,11 @@ pub fn branch_unless(
     requires left_le_max_nesting { ctx.left ≤ max_nesting }
     ensures { Went (sheet_in sheet.now) (branch_unless (expr_in ctx text.now (cursor_of c)).0 target.0) text.now (expr_in ctx text.now (cursor_of c)).1 (world e code.old book.old pool.old) (world result.emitter code.new book.new pool.new) result.cursor }
 {
-    let Context { variables, left, .. } = ctx;
+    let Context {
+        variables,
+        left,
+        ..
+    } = ctx;
     match program_shape::classify(text, variables, left, c) {
         Condition::Fused(f) => {
             let cursor = program_shape::skip_expr(text, variables, left, c);
@@ -54,7 +58,9 @@ pub fn branch_unless(
             Walked { cursor, emitter }
         }
         Condition::Other => {
-            let Walked { cursor, emitter } = expr::emit_expr(text, sheet, code, book, pool, variables, left, 0, e, c);
+            let Walked { cursor, emitter } = expr::emit_expr(
+                text, sheet, code, book, pool, variables, left, 0, e, c,
+            );
             let emitter = emitter.emit_jmp_if_not(sheet, code, book, target);
             Walked { cursor, emitter }
         }
@@ -132,9 +138,15 @@ fn end_loaded(
     requires left_le_max_nesting { ctx.left ≤ max_nesting }
     ensures { Went (sheet_in sheet.now) (end_test_by none (compare_view op) v (expr_in ctx text.now (cursor_of c)).0 end.0) text.now (expr_in ctx text.now (cursor_of c)).1 (world e code.old book.old pool.old) (world result.emitter code.new book.new pool.new) result.cursor }
 {
-    let Context { variables, left, .. } = ctx;
+    let Context {
+        variables,
+        left,
+        ..
+    } = ctx;
     let e = compile_expr::emit_load_var(e, sheet, code, book, v);
-    let Walked { cursor, emitter } = expr::emit_expr(text, sheet, code, book, pool, variables, left, 1, e, c);
+    let Walked { cursor, emitter } = expr::emit_expr(
+        text, sheet, code, book, pool, variables, left, 1, e, c,
+    );
     let e = compile_expr::emit_typed(emitter, sheet, code, book, Role::Compare(op));
     let emitter = e.emit_jmp_if_not(sheet, code, book, end);
     Walked { cursor, emitter }
@@ -181,7 +193,11 @@ pub fn while_head(
     requires left_le_max_nesting { ctx.left ≤ max_nesting }
     ensures { Enters (sheet_in sheet.now) (while_from (classify (expr_in ctx text.now (cursor_of c)).0) (expr_in ctx text.now (cursor_of c)).0 end.0) (world e code.old book.old pool.old) (world result.emitter code.new book.new pool.new) result.label.0 }
 {
-    let Context { variables, left, .. } = ctx;
+    let Context {
+        variables,
+        left,
+        ..
+    } = ctx;
     match program_shape::classify(text, variables, left, c) {
         Condition::Fused(f) => {
             let e = e.add_constant(pool, f.constant);
@@ -195,7 +211,9 @@ pub fn while_head(
         Condition::Other => {
             let NewLabel { emitter, label } = e.create_label(book);
             let e = emitter.bind_label(book, label);
-            let e = expr::emit_expr(text, sheet, code, book, pool, variables, left, 0, e, c).emitter;
+            let e = expr::emit_expr(
+                text, sheet, code, book, pool, variables, left, 0, e, c,
+            ).emitter;
             let emitter = e.emit_jmp_if_not(sheet, code, book, end);
             NewLabel { emitter, label }
         }
@@ -227,13 +245,7 @@ pub fn while_end(
 }
 
 // A fused REPEAT's constant enters the pool before those of its body.
-pub fn pool_first(
-    text: &[u8],
-    pool: &mut Pool,
-    ctx: Context,
-    e: Emitter,
-    c: Cursor,
-) -> Emitter
+pub fn pool_first(text: &[u8], pool: &mut Pool, ctx: Context, e: Emitter, c: Cursor) -> Emitter
     requires near { Near text.now c.at c.row }
     requires fine { Fine e }
     requires held { Held pool.old }

@@ -151,7 +151,9 @@ fn test_jump(
     ensures { Leads (sheet_in sheet.now) (test_jump (label_here left text.now (cursor_of c)).0 body.0) text.now (label_here left text.now (cursor_of c)).1 (world e code.old book.old pool.old) (world result.emitter code.new book.new pool.new) result.cursor }
 {
     let NewLabel { emitter, label } = e.create_label(book);
-    let Walked { cursor, emitter } = test_label(text, sheet, code, book, pool, left, emitter, c, label);
+    let Walked { cursor, emitter } = test_label(
+        text, sheet, code, book, pool, left, emitter, c, label,
+    );
     let e = emitter.emit_jmp(sheet, code, book, body);
     let emitter = e.bind_label(book, label);
     Walked { cursor, emitter }
@@ -208,7 +210,9 @@ pub fn open_arm(
         return test_label(text, sheet, code, book, pool, left, e, c, next);
     }
     let NewLabel { emitter, label } = e.create_label(book);
-    let Walked { cursor, emitter } = test_labels(text, sheet, code, book, pool, left, n, emitter, c, label, next);
+    let Walked { cursor, emitter } = test_labels(
+        text, sheet, code, book, pool, left, n, emitter, c, label, next,
+    );
     let emitter = emitter.bind_label(book, label);
     Walked { cursor, emitter }
 }

@@ -75,7 +75,8 @@ pub fn exit(
     requires inside_le_max_nesting { inside ≤ max_nesting }
     ensures { Stepped (sheet_in sheet.now) (jump_row c.row (exit_of (labels i (loops_of (opens_in loops.now inside))))) text.now (next_line text.now (cursor_of c)) e code.old book.old result code.new book.new }
 {
-    let emitter = match labels(loops, inside, i) {
+    let found = labels(loops, inside, i);
+    let emitter = match found {
         Some(k) => e.emit_jmp(sheet, code, book, loops[k].exit),
         None => e.refuse(NO_LOOP, c.row),
     };
@@ -106,8 +107,9 @@ pub fn continue_(
 {
     let emitter = match labels(loops, inside, i) {
         Some(k) => {
-            loops[k].used = true;
-            e.emit_jmp(sheet, code, book, loops[k].next)
+            let open = &mut loops[k];
+            open.used = true;
+            e.emit_jmp(sheet, code, book, open.next)
         }
         None => e.refuse(NO_LOOP, c.row),
     };
