@@ -35,7 +35,7 @@ use stmt_parts::{Context, conditions, labels, loops};
 // What statement emission lends on: the open loops, and where bodies of loops end, as far as that was noted when one was skipped.
 #[derive(Clone, Copy)]
 struct Lent {
-    open: OpenLoops,
+    loops: OpenLoops,
     ends: [u16; ENDS_SIZE],
 }
 
@@ -75,11 +75,11 @@ fn sequence(
     e: Emitter,
     c: Cursor,
 ) -> Walked
-    requires ends { Sound text.now ctx.variables lent.old.ends }
+    requires noted { Sound text.now ctx.variables lent.old.ends }
     requires near { Near text.now c.at c.row }
     requires ready { Ready (world e code.old book.old pool.old) }
     requires left_bound { ctx.inside + ctx.left ≤ max_nesting }
-    ensures { RanSequence (sheet_in sheet.now) ctx text.now recording n (cursor_of c) (world e code.old book.old pool.old) (world result.emitter code.new book.new pool.new) lent.old lent.new result.cursor }
+    ensures { RanSequence (sheet_in sheet.now) ctx text.now recording n (cursor_of c) (world e code.old book.old pool.old) (world result.emitter code.new book.new pool.new) lent.old.loops lent.new result.cursor }
 {
     let mut on = e;
     let mut here = c;
@@ -87,7 +87,9 @@ fn sequence(
         let next = program_line::next_stmt(text, ctx.variables, ctx.left, here.at);
         let to = program::behind(text, here, next.end);
         on = record_position(on, next.line, recording);
-        let done = stmt(text, sheet, code, book, pool, lent, ctx, next.line, on, here, to);
+        let done = stmt(
+            text, sheet, code, book, pool, lent, ctx, next.line, on, here, to,
+        );
         on = done.emitter;
         here = done.cursor;
     }
@@ -112,13 +114,13 @@ fn stmt(
     c: Cursor,
     on: Cursor,
 ) -> Walked
-    requires ends { Sound text.now ctx.variables lent.old.ends }
+    requires noted { Sound text.now ctx.variables lent.old.ends }
     requires near { Near text.now c.at c.row }
     requires ready { Ready (world e code.old book.old pool.old) }
     requires left_bound { ctx.inside + ctx.left ≤ max_nesting }
     requires line_value { stmt_line line ≡ line_at (stmt_forms ctx.variables) ctx.left text.now c.at }
     requires behind { Behind (stmt_line line) text.now c on }
-    ensures { RanStmt (sheet_in sheet.now) ctx text.now (cursor_of c) (world e code.old book.old pool.old) (world result.emitter code.new book.new pool.new) lent.old lent.new result.cursor }
+    ensures { RanStmt (sheet_in sheet.now) ctx text.now (cursor_of c) (world e code.old book.old pool.old) (world result.emitter code.new book.new pool.new) lent.old.loops lent.new result.cursor }
 {
     let ctx = ctx.inner();
     match line {
@@ -149,10 +151,32 @@ fn stmt(
             ..
         } => loop_(text, sheet, code, book, pool, lent, ctx, i, n, m, e, on),
         StmtLine::Exit { loop_number: i, .. } => {
-            loops::exit(text, sheet, code, book, &lent.open, ctx.inside, i, e, c, on)
+            loops::exit(
+                text,
+                sheet,
+                code,
+                book,
+                &lent.loops,
+                ctx.inside,
+                i,
+                e,
+                c,
+                on,
+            )
         }
         StmtLine::Continue { loop_number: i, .. } => {
-            loops::continue_(text, sheet, code, book, &mut lent.open, ctx.inside, i, e, c, on)
+            loops::continue_(
+                text,
+                sheet,
+                code,
+                book,
+                &mut lent.loops,
+                ctx.inside,
+                i,
+                e,
+                c,
+                on,
+            )
         }
         StmtLine::Return { .. } => return_(text, sheet, code, book, e, on),
         StmtLine::Bad(n) => Walked {
@@ -179,8 +203,14 @@ fn assign(
     requires left_le_max_nesting { ctx.left ≤ max_nesting }
     ensures { Went (sheet_in sheet.now) (emit_assign v (expr_in ctx text.now (cursor_of c)).0) text.now (expr_in ctx text.now (cursor_of c)).1 (world e code.old book.old pool.old) (world result.emitter code.new book.new pool.new) result.cursor }
 {
-    let Context { variables, left, .. } = ctx;
-    let Walked { cursor, emitter } = expr::emit_expr(text, sheet, code, book, pool, variables, left, 0, e, c);
+    let Context {
+        variables,
+        left,
+        ..
+    } = ctx;
+    let Walked { cursor, emitter } = expr::emit_expr(
+        text, sheet, code, book, pool, variables, left, 0, e, c,
+    );
     let emitter = compile_expr::emit_store_var(emitter, sheet, code, book, v);
     Walked { cursor, emitter }
 }
@@ -218,17 +248,26 @@ fn if_(
     e: Emitter,
     c: Cursor,
 ) -> Walked
-    requires ends { Sound text.now ctx.variables lent.old.ends }
+    requires noted { Sound text.now ctx.variables lent.old.ends }
     requires near { Near text.now c.at c.row }
     requires ready { Ready (world e code.old book.old pool.old) }
     requires left_bound { ctx.inside + 1 + ctx.left ≤ max_nesting }
-    ensures { RanIf (sheet_in sheet.now) ctx text.now n m (cursor_of c) (world e code.old book.old pool.old) (world result.emitter code.new book.new pool.new) lent.old lent.new result.cursor }
+    ensures { RanIf (sheet_in sheet.now) ctx text.now n m (cursor_of c) (world e code.old book.old pool.old) (world result.emitter code.new book.new pool.new) lent.old.loops lent.new result.cursor }
 {
     let (n, m) = (usize::from(n), usize::from(m));
-    let NewLabel { emitter, label: next } = e.create_label(book);
-    let Walked { emitter, cursor } = conditions::branch_unless(text, sheet, code, book, pool, ctx, emitter, c, next);
-    let Walked { emitter, cursor } = sequence(text, sheet, code, book, pool, lent, ctx, true, n, emitter, cursor);
-    else_(text, sheet, code, book, pool, lent, ctx, m, emitter, cursor, next)
+    let NewLabel {
+        emitter,
+        label: next,
+    } = e.create_label(book);
+    let Walked { emitter, cursor } = conditions::branch_unless(
+        text, sheet, code, book, pool, ctx, emitter, c, next,
+    );
+    let Walked { emitter, cursor } = sequence(
+        text, sheet, code, book, pool, lent, ctx, true, n, emitter, cursor,
+    );
+    else_(
+        text, sheet, code, book, pool, lent, ctx, m, emitter, cursor, next,
+    )
 }
 
 // Its ELSE, which is jumped over only where there is one.
@@ -246,20 +285,25 @@ fn else_(
     c: Cursor,
     next: Label,
 ) -> Walked
-    requires ends { Sound text.now ctx.variables lent.old.ends }
+    requires noted { Sound text.now ctx.variables lent.old.ends }
     requires near { Near text.now c.at c.row }
     requires ready { Ready (world e code.old book.old pool.old) }
     requires left_bound { ctx.inside + 1 + ctx.left ≤ max_nesting }
-    ensures { RanElse (sheet_in sheet.now) ctx text.now m next.0 (cursor_of c) (world e code.old book.old pool.old) (world result.emitter code.new book.new pool.new) lent.old lent.new result.cursor }
+    ensures { RanElse (sheet_in sheet.now) ctx text.now m next.0 (cursor_of c) (world e code.old book.old pool.old) (world result.emitter code.new book.new pool.new) lent.old.loops lent.new result.cursor }
 {
     if m == 0 {
         let emitter = e.bind_label(book, next);
         return Walked { cursor: c, emitter };
     }
-    let NewLabel { emitter, label: end } = e.create_label(book);
+    let NewLabel {
+        emitter,
+        label: end,
+    } = e.create_label(book);
     let e = emitter.emit_jmp(sheet, code, book, end);
     let e = e.bind_label(book, next);
-    let Walked { emitter, cursor } = sequence(text, sheet, code, book, pool, lent, ctx, true, m, e, c);
+    let Walked { emitter, cursor } = sequence(
+        text, sheet, code, book, pool, lent, ctx, true, m, e, c,
+    );
     let emitter = emitter.bind_label(book, end);
     Walked { cursor, emitter }
 }
@@ -279,19 +323,32 @@ fn case(
     e: Emitter,
     c: Cursor,
 ) -> Walked
-    requires ends { Sound text.now ctx.variables lent.old.ends }
+    requires noted { Sound text.now ctx.variables lent.old.ends }
     requires near { Near text.now c.at c.row }
     requires ready { Ready (world e code.old book.old pool.old) }
     requires left_bound { ctx.inside + 1 + ctx.left ≤ max_nesting }
-    ensures { RanCase (sheet_in sheet.now) ctx text.now n m (cursor_of c) (world e code.old book.old pool.old) (world result.emitter code.new book.new pool.new) lent.old lent.new result.cursor }
+    ensures { RanCase (sheet_in sheet.now) ctx text.now n m (cursor_of c) (world e code.old book.old pool.old) (world result.emitter code.new book.new pool.new) lent.old.loops lent.new result.cursor }
 {
     let (n, m) = (usize::from(n), usize::from(m));
-    let Context { variables, left, .. } = ctx;
-    let Walked { emitter, cursor } = expr::emit_expr(text, sheet, code, book, pool, variables, left, 0, e, c);
-    let NewLabel { emitter, label: end } = emitter.create_label(book);
-    let Walked { emitter, cursor } = arms(text, sheet, code, book, pool, lent, ctx, n, emitter, cursor, end);
+    let Context {
+        variables,
+        left,
+        ..
+    } = ctx;
+    let Walked { emitter, cursor } = expr::emit_expr(
+        text, sheet, code, book, pool, variables, left, 0, e, c,
+    );
+    let NewLabel {
+        emitter,
+        label: end,
+    } = emitter.create_label(book);
+    let Walked { emitter, cursor } = arms(
+        text, sheet, code, book, pool, lent, ctx, n, emitter, cursor, end,
+    );
     let e = emitter.emit_opcode(sheet, code, book, Role::Pop);
-    let Walked { emitter, cursor } = sequence(text, sheet, code, book, pool, lent, ctx, true, m, e, cursor);
+    let Walked { emitter, cursor } = sequence(
+        text, sheet, code, book, pool, lent, ctx, true, m, e, cursor,
+    );
     let emitter = emitter.bind_label(book, end);
     Walked { cursor, emitter }
 }
@@ -311,11 +368,11 @@ fn arms(
     c: Cursor,
     end: Label,
 ) -> Walked
-    requires ends { Sound text.now ctx.variables lent.old.ends }
+    requires noted { Sound text.now ctx.variables lent.old.ends }
     requires near { Near text.now c.at c.row }
     requires ready { Ready (world e code.old book.old pool.old) }
     requires left_bound { ctx.inside + 1 + ctx.left ≤ max_nesting }
-    ensures { RanArms (sheet_in sheet.now) ctx text.now n end.0 (cursor_of c) (world e code.old book.old pool.old) (world result.emitter code.new book.new pool.new) lent.old lent.new result.cursor }
+    ensures { RanArms (sheet_in sheet.now) ctx text.now n end.0 (cursor_of c) (world e code.old book.old pool.old) (world result.emitter code.new book.new pool.new) lent.old.loops lent.new result.cursor }
 {
     let mut on = e;
     let mut here = c;
@@ -329,7 +386,9 @@ fn arms(
             };
         }
         let body = program::next_line(text, here, next.end);
-        let done = arm(text, sheet, code, book, pool, lent, ctx, parts, on, body, end);
+        let done = arm(
+            text, sheet, code, book, pool, lent, ctx, parts, on, body, end,
+        );
         on = done.emitter;
         here = done.cursor;
     }
@@ -354,22 +413,37 @@ fn arm(
     c: Cursor,
     end: Label,
 ) -> Walked
-    requires ends { Sound text.now ctx.variables lent.old.ends }
+    requires noted { Sound text.now ctx.variables lent.old.ends }
     requires near { Near text.now c.at c.row }
     requires ready { Ready (world e code.old book.old pool.old) }
     requires left_bound { ctx.inside + 1 + ctx.left ≤ max_nesting }
-    ensures { RanArm (sheet_in sheet.now) ctx text.now parts.labels parts.statements end.0 (cursor_of c) (world e code.old book.old pool.old) (world result.emitter code.new book.new pool.new) lent.old lent.new result.cursor }
+    ensures { RanArm (sheet_in sheet.now) ctx text.now parts.labels parts.statements end.0 (cursor_of c) (world e code.old book.old pool.old) (world result.emitter code.new book.new pool.new) lent.old.loops lent.new result.cursor }
 {
-    let Context { variables, left, .. } = ctx;
-    let ArmParts { labels: n, statements: m, .. } = parts;
+    let Context {
+        variables,
+        left,
+        ..
+    } = ctx;
+    let ArmParts {
+        labels: n,
+        statements: m,
+        ..
+    } = parts;
     if n == 0 {
         let cursor = program_shape::skip_block(text, &mut lent.ends, variables, left, m, c);
         return Walked { cursor, emitter: e };
     }
-    let NewLabel { emitter, label: next } = e.create_label(book);
-    let Walked { emitter, cursor } = labels::open_arm(text, sheet, code, book, pool, left, n, emitter, c, next);
+    let NewLabel {
+        emitter,
+        label: next,
+    } = e.create_label(book);
+    let Walked { emitter, cursor } = labels::open_arm(
+        text, sheet, code, book, pool, left, n, emitter, c, next,
+    );
     let e = emitter.emit_opcode(sheet, code, book, Role::Pop);
-    let Walked { emitter, cursor } = sequence(text, sheet, code, book, pool, lent, ctx, true, m, e, cursor);
+    let Walked { emitter, cursor } = sequence(
+        text, sheet, code, book, pool, lent, ctx, true, m, e, cursor,
+    );
     let emitter = labels::close_arm(emitter, sheet, code, book, next, end);
     Walked { cursor, emitter }
 }
@@ -391,24 +465,47 @@ fn for_(
     e: Emitter,
     c: Cursor,
 ) -> Walked
-    requires ends { Sound text.now ctx.variables lent.old.ends }
+    requires noted { Sound text.now ctx.variables lent.old.ends }
     requires near { Near text.now c.at c.row }
     requires ready { Ready (world e code.old book.old pool.old) }
     requires left_bound { ctx.inside + 1 + ctx.left ≤ max_nesting }
-    ensures { RanFor (sheet_in sheet.now) ctx text.now i v step n (cursor_of c) (world e code.old book.old pool.old) (world result.emitter code.new book.new pool.new) lent.old lent.new result.cursor }
+    ensures { RanFor (sheet_in sheet.now) ctx text.now i v step n (cursor_of c) (world e code.old book.old pool.old) (world result.emitter code.new book.new pool.new) lent.old.loops lent.new result.cursor }
 {
-    let Context { variables, left, .. } = ctx;
+    let Context {
+        variables,
+        left,
+        ..
+    } = ctx;
     let to = program_shape::skip_expr(text, variables, left, c);
     let seen = program_shape::operand_at(text, variables, left, to);
     let e = expr::emit_expr(text, sheet, code, book, pool, variables, left, 0, e, c).emitter;
     let e = compile_expr::emit_store_var(e, sheet, code, book, v);
-    let NewLabel { emitter, label: head } = e.create_label(book);
-    let NewLabel { emitter, label: end } = emitter.create_label(book);
+    let NewLabel {
+        emitter,
+        label: head,
+    } = e.create_label(book);
+    let NewLabel {
+        emitter,
+        label: end,
+    } = emitter.create_label(book);
     let e = emitter.bind_label(book, head);
     let Walked { emitter, cursor } = conditions::end_test(
         text, sheet, code, book, pool, ctx, v, step, seen, e, to, end,
     );
-    let Walked { emitter, cursor } = loop_body(text, sheet, code, book, pool, lent, ctx, i, end, usize::from(n), emitter, cursor);
+    let Walked { emitter, cursor } = loop_body(
+        text,
+        sheet,
+        code,
+        book,
+        pool,
+        lent,
+        ctx,
+        i,
+        end,
+        usize::from(n),
+        emitter,
+        cursor,
+    );
     let emitter = conditions::for_end(emitter, sheet, code, book, pool, v, step, head, end);
     Walked { cursor, emitter }
 }
@@ -429,13 +526,17 @@ fn loop_(
     e: Emitter,
     c: Cursor,
 ) -> Walked
-    requires ends { Sound text.now ctx.variables lent.old.ends }
+    requires noted { Sound text.now ctx.variables lent.old.ends }
     requires near { Near text.now c.at c.row }
     requires ready { Ready (world e code.old book.old pool.old) }
     requires left_bound { ctx.inside + 1 + ctx.left ≤ max_nesting }
-    ensures { RanLoop (sheet_in sheet.now) ctx text.now i n m (cursor_of c) (world e code.old book.old pool.old) (world result.emitter code.new book.new pool.new) lent.old lent.new result.cursor }
+    ensures { RanLoop (sheet_in sheet.now) ctx text.now i n m (cursor_of c) (world e code.old book.old pool.old) (world result.emitter code.new book.new pool.new) lent.old.loops lent.new result.cursor }
 {
-    let Context { variables, left, .. } = ctx;
+    let Context {
+        variables,
+        left,
+        ..
+    } = ctx;
     let ends = &mut lent.ends;
     match program_shape::loop_shape(text, ends, variables, left, c, i, n, m) {
         Shape::While { condition, rest } => {
@@ -470,18 +571,28 @@ fn plain(
     e: Emitter,
     c: Cursor,
 ) -> Walked
-    requires ends { Sound text.now ctx.variables lent.old.ends }
+    requires noted { Sound text.now ctx.variables lent.old.ends }
     requires near { Near text.now c.at c.row }
     requires ready { Ready (world e code.old book.old pool.old) }
     requires left_bound { ctx.inside + 1 + ctx.left ≤ max_nesting }
-    ensures { RanPlain (sheet_in sheet.now) ctx text.now i n m (cursor_of c) (world e code.old book.old pool.old) (world result.emitter code.new book.new pool.new) lent.old lent.new result.cursor }
+    ensures { RanPlain (sheet_in sheet.now) ctx text.now i n m (cursor_of c) (world e code.old book.old pool.old) (world result.emitter code.new book.new pool.new) lent.old.loops lent.new result.cursor }
 {
     let (n, m) = (usize::from(n), usize::from(m));
-    let NewLabel { emitter, label: head } = e.create_label(book);
-    let NewLabel { emitter, label: end } = emitter.create_label(book);
+    let NewLabel {
+        emitter,
+        label: head,
+    } = e.create_label(book);
+    let NewLabel {
+        emitter,
+        label: end,
+    } = emitter.create_label(book);
     let e = emitter.bind_label(book, head);
-    let Walked { emitter, cursor } = loop_body(text, sheet, code, book, pool, lent, ctx, i, end, n, e, c);
-    let Walked { emitter, cursor } = sequence(text, sheet, code, book, pool, lent, ctx, true, m, emitter, cursor);
+    let Walked { emitter, cursor } = loop_body(
+        text, sheet, code, book, pool, lent, ctx, i, end, n, e, c,
+    );
+    let Walked { emitter, cursor } = sequence(
+        text, sheet, code, book, pool, lent, ctx, true, m, emitter, cursor,
+    );
     let e = emitter.emit_jmp(sheet, code, book, head);
     let emitter = e.bind_label(book, end);
     Walked { cursor, emitter }
@@ -503,18 +614,30 @@ fn while_(
     condition: Cursor,
     c: Cursor,
 ) -> Walked
-    requires ends { Sound text.now ctx.variables lent.old.ends }
+    requires noted { Sound text.now ctx.variables lent.old.ends }
     requires near { Near text.now condition.at condition.row }
     requires near_2 { Near text.now c.at c.row }
     requires ready { Ready (world e code.old book.old pool.old) }
     requires left_bound { ctx.inside + 1 + ctx.left ≤ max_nesting }
-    ensures { RanWhile (sheet_in sheet.now) ctx text.now i n (cursor_of condition) (cursor_of c) (world e code.old book.old pool.old) (world result.emitter code.new book.new pool.new) lent.old lent.new result.cursor }
+    ensures { RanWhile (sheet_in sheet.now) ctx text.now i n (cursor_of condition) (cursor_of c) (world e code.old book.old pool.old) (world result.emitter code.new book.new pool.new) lent.old.loops lent.new result.cursor }
 {
     let inner = ctx.inner();
-    let NewLabel { emitter, label: end } = e.create_label(book);
-    let NewLabel { emitter, label: back } = conditions::while_head(text, sheet, code, book, pool, inner, emitter, condition, end);
-    let Walked { emitter, cursor } = loop_body(text, sheet, code, book, pool, lent, ctx, i, end, n, emitter, c);
-    let e = conditions::while_end(text, sheet, code, book, pool, inner, emitter, condition, back);
+    let NewLabel {
+        emitter,
+        label: end,
+    } = e.create_label(book);
+    let NewLabel {
+        emitter,
+        label: back,
+    } = conditions::while_head(
+        text, sheet, code, book, pool, inner, emitter, condition, end,
+    );
+    let Walked { emitter, cursor } = loop_body(
+        text, sheet, code, book, pool, lent, ctx, i, end, n, emitter, c,
+    );
+    let e = conditions::while_end(
+        text, sheet, code, book, pool, inner, emitter, condition, back,
+    );
     let emitter = e.bind_label(book, end);
     Walked { cursor, emitter }
 }
@@ -536,21 +659,29 @@ fn repeat(
     condition: Cursor,
     last: Cursor,
 ) -> Walked
-    requires ends { Sound text.now ctx.variables lent.old.ends }
+    requires noted { Sound text.now ctx.variables lent.old.ends }
     requires near { Near text.now c.at c.row }
     requires near_2 { Near text.now condition.at condition.row }
     requires near_3 { Near text.now last.at last.row }
     requires ready { Ready (world e code.old book.old pool.old) }
     requires left_bound { ctx.inside + 1 + ctx.left ≤ max_nesting }
-    ensures { RanRepeat (sheet_in sheet.now) ctx text.now i n (cursor_of condition) (cursor_of c) (cursor_of last) (world e code.old book.old pool.old) (world result.emitter code.new book.new pool.new) lent.old lent.new result.cursor }
+    ensures { RanRepeat (sheet_in sheet.now) ctx text.now i n (cursor_of condition) (cursor_of c) (cursor_of last) (world e code.old book.old pool.old) (world result.emitter code.new book.new pool.new) lent.old.loops lent.new result.cursor }
 {
     let inner = ctx.inner();
-    let NewLabel { emitter, label: head } = e.create_label(book);
-    let NewLabel { emitter, label: end } = emitter.create_label(book);
+    let NewLabel {
+        emitter,
+        label: head,
+    } = e.create_label(book);
+    let NewLabel {
+        emitter,
+        label: end,
+    } = emitter.create_label(book);
     let e = conditions::pool_first(text, pool, inner, emitter, condition);
     let e = e.bind_label(book, head);
     let e = loop_body(text, sheet, code, book, pool, lent, ctx, i, end, n, e, c).emitter;
-    let e = conditions::branch_unless(text, sheet, code, book, pool, inner, e, condition, head).emitter;
+    let e = conditions::branch_unless(
+        text, sheet, code, book, pool, inner, e, condition, head,
+    ).emitter;
     let emitter = e.bind_label(book, end);
     Walked {
         cursor: last,
@@ -574,17 +705,22 @@ fn loop_body(
     e: Emitter,
     c: Cursor,
 ) -> Walked
-    requires ends { Sound text.now ctx.variables lent.old.ends }
+    requires noted { Sound text.now ctx.variables lent.old.ends }
     requires near { Near text.now c.at c.row }
     requires ready { Ready (world e code.old book.old pool.old) }
     requires left_bound { ctx.inside + 1 + ctx.left ≤ max_nesting }
-    ensures { RanBody (sheet_in sheet.now) ctx text.now i end.0 n (cursor_of c) (world e code.old book.old pool.old) (world result.emitter code.new book.new pool.new) lent.old lent.new result.cursor }
+    ensures { RanBody (sheet_in sheet.now) ctx text.now i end.0 n (cursor_of c) (world e code.old book.old pool.old) (world result.emitter code.new book.new pool.new) lent.old.loops lent.new result.cursor }
 {
-    let NewLabel { emitter, label: next } = e.create_label(book);
-    loops::open_loop(&mut lent.open, ctx.inside, i, end, next);
+    let NewLabel {
+        emitter,
+        label: next,
+    } = e.create_label(book);
+    loops::open_loop(&mut lent.loops, ctx.inside, i, end, next);
     let within = ctx.in_loop();
-    let Walked { emitter, cursor } = sequence(text, sheet, code, book, pool, lent, within, true, n, emitter, c);
-    let used = loops::next_used(&lent.open, ctx.inside);
+    let Walked { emitter, cursor } = sequence(
+        text, sheet, code, book, pool, lent, within, true, n, emitter, c,
+    );
+    let used = loops::next_used(&lent.loops, ctx.inside);
     let emitter = loops::bind_next(emitter, book, next, used);
     Walked { cursor, emitter }
 }
@@ -606,7 +742,7 @@ pub fn emit_stmts(
     ensures { Went (sheet_in sheet.now) (emit_stmts (block_at max_nesting variables text.now n (cursor_of c)).0) text.now (block_at max_nesting variables text.now n (cursor_of c)).1 (world e code.old book.old pool.old) (world result.emitter code.new book.new pool.new) result.cursor }
 {
     let mut lent = Lent {
-        open: [OpenLoop::NONE; MAX_NESTING],
+        loops: [OpenLoop::NONE; MAX_NESTING],
         ends: [0; ENDS_SIZE],
     };
     let ctx = Context {
