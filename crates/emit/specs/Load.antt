@@ -1,5 +1,5 @@
 -- What a load did. The two foldings and the plain load are told apart here and nowhere else.
-use Rattle.std.specs.Prelude.{ℕ, ◌-◌, ◌≡◌, Bool, true, false, List, [], eqb, length, Option, Some, None}
+use Rattle.std.specs.Prelude.{ℕ, ◌-◌, ◌≡◌, true, false, List, [], eqb, length, Option, Some, None}
 use Rattle.definition.specs.Res.{Res, ok, refuse, ◌>>=◌, ◌>>◌}
 use Rattle.definition.specs.Opcode.{Sheet, dup, load_var}
 use Rattle.definition.specs.Emit as def

@@ -6,8 +6,8 @@ use Rattle.emit.proofs.Instructions.{coded_by}
 use Rattle.emit.proofs.Loads.{load-answers, load_is, dup-is, fold_is, written-coded, folds-three}
 use Rattle.emit.proofs.Emitter.load_variable.Goals as goal
 
-pub fold_store-e-requires : goal.fold_store-e-requires
-fold_store-e-requires c = record { fine = c.requires.fine; code_len = c.requires.code_len; le_size = folds-three _ c.requires.fine (sym c.in-Fold.is ∙ c.form.ensures) }
+pub fold_store-e-requires-clause-le_size : goal.fold_store-e-requires-clause-le_size
+fold_store-e-requires-clause-le_size c = folds-three _ c.requires.fine (sym c.in-Fold.is ∙ c.form.ensures)
 
 pub overflow_sub-read : goal.overflow_sub-read
 overflow_sub-read c = omega (arith, folds-three _ c.requires.fine (sym c.in-Fold.is ∙ c.form.ensures))
