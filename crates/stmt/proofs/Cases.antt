@@ -5,7 +5,6 @@ use mathlib.Core.List.{List, [], ◌∷◌}
 use Prim.Native.Nat.{ℕ, zero, suc, ◌-◌, ◌≤◌, ◌<◌}
 use native.Mathlib.Numerals.{sub-one}
 use native.Mathlib.Omega.{arith}
-use Rattle.definition.specs.Limits.{max_nesting}
 use Rattle.definition.specs.Opcode.{Sheet, pop}
 use Rattle.definition.specs.Tree.{CaseLabel, Block, Arms, arm, bad_arm, Pos}
 use Rattle.definition.specs.Program as def
@@ -16,7 +15,7 @@ use Rattle.definition.specs.Walk as walk
 use Rattle.definition.specs.Stmt.{continues, continues_stmt, continues_arms, arm_body, emit_arm, emit_stmt, emit_arms}
 use Rattle.program.specs.declared.Cursor.{Cursor}
 use Rattle.program.specs.Walk.{cursor_of, Near, Skipped}
-use Rattle.program.proofs.Laws.{stmt-is, line-some}
+use Rattle.program.proofs.Laws.{stmt-is}
 use Rattle.program.specs.Ends.{Sound}
 use Rattle.emit.specs.declared.Emitter.{Emitter}
 use Rattle.emit.specs.View.{World, world}
@@ -25,11 +24,10 @@ use Rattle.emit.proofs.Calls.{seq-filled, said-filled, fresh-filled, none_filled
 use Rattle.expr.specs.Went.{WentExpr}
 use Rattle.expr.proofs.Laws.{filled}
 use Rattle.stmt_parts.specs.declared.Context.{Context}
-use Rattle.stmt_parts.specs.declared.labels.ArmParts.{ArmParts}
 use Rattle.stmt_parts.specs.declared.loops.OpenLoop.{OpenLoop}
 use Rattle.stmt_parts.specs.Context.{expr_in, block_in, inner_of}
 use Rattle.stmt_parts.specs.Loops.{opens_in, loops_of, marked}
-use Rattle.stmt_parts.specs.Parts.{Leads, arm_parts, arm_tests, arm_end}
+use Rattle.stmt_parts.specs.Parts.{Leads, arm_tests, arm_end}
 use Rattle.stmt.specs.Blocks.{arm_continues, arms_here, emit_case}
 use Rattle.stmt.specs.declared.Lent.{Lent}
 use Rattle.stmt.specs.Ran.{RanStmt, RanBlock, RanArm, RanArms, RanCase}
@@ -77,17 +75,6 @@ module _ (s : Sheet) (ctx : Context) (text : List ℕ) (n m end : ℕ) (c : Curs
       }
 
 -- ---- arms
-
-module _ (left : ℕ) (text : List ℕ) (at : ℕ) where
-  pub parts_is : (p : ArmParts) (x : Line def.ArmLine) → p ≡ arm_parts x → x ≡ line_at arm_forms left text at → p.bad ≡ 0 → line_at arm_forms left text at ≡ is (M p.labels p.statements)
-  unfolding arm_parts
-  parts_is p (is (M n m)) e line z = rw e (sym line)
-  parts_is p (not n) e line z = absurd (line-some arm_forms left text at n (sym line) (let q : p.bad ≡ n = ap (λ (a : ArmParts). a.bad) e in sym q ∙ z))
-
-  pub parts-not : (p : ArmParts) (x : Line def.ArmLine) → p ≡ arm_parts x → x ≡ line_at arm_forms left text at → (p.bad ≡ 0 → ⊥) → line_at arm_forms left text at ≡ not p.bad
-  unfolding arm_parts
-  parts-not p (is (M n m)) e line z = absurd (z (ap (λ (a : ArmParts). a.bad) e))
-  parts-not p (not n) e line z = rw e (sym line)
 
 module _ (ctx : Context) (text : List ℕ) (c : def.Cursor) where
   abbrev body_of : ℕ → ℕ → Block × def.Cursor

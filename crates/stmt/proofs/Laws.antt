@@ -9,9 +9,9 @@ use Rattle.definition.specs.Limits.{width}
 use Rattle.definition.specs.Opcode.{Sheet}
 use Rattle.definition.specs.Tree.{done, ◌then◌, Pos, is_done, counts_down, bound}
 use Rattle.definition.specs.Program as def
-use Rattle.definition.specs.Program.{Line, is, I, F, L, StmtLine, line_at, next_line, stmt_forms, stmt_of, block_of}
+use Rattle.definition.specs.Program.{Line, is, not, I, F, L, StmtLine, line_at, next_line, stmt_forms, stmt_of, block_of}
 use Rattle.definition.specs.CompileExpr.{constant_of}
-use Rattle.definition.specs.Emit.{bind_label, store_variable, emit_jmp}
+use Rattle.definition.specs.Emit.{bind_label, store_variable, emit_jmp, refused}
 use Rattle.definition.specs.Stmt.{continues, continues_stmt, branch_unless, else_part, end_test_by, emit_for, emit_stmt}
 use Rattle.program.specs.declared.Cursor.{Cursor}
 use Rattle.program.specs.Walk.{cursor_of, Near, Skipped}
@@ -19,7 +19,7 @@ use Rattle.program.proofs.Laws.{stmt-is}
 use Rattle.program.specs.Ends.{Sound}
 use Rattle.emit.specs.declared.Emitter.{Emitter}
 use Rattle.emit.specs.View.{World, world}
-use Rattle.emit.specs.Steps.{run, call, Ready, Booked, Created, Coded, Filled}
+use Rattle.emit.specs.Steps.{run, call, Ready, Bare, Booked, Created, Coded, Filled}
 use Rattle.emit.proofs.Calls.{seq-filled, said-filled, fresh-filled, none_filled}
 use Rattle.expr.specs.Went.{Went, WentExpr}
 use Rattle.expr.proofs.Laws.{filled}
@@ -34,7 +34,7 @@ use Rattle.stmt.specs.Ran.{RanSequence, RanBlock, RanStmt, RanIf, RanElse, RanFo
 use Rattle.stmt_parts.proofs.Marks.{marked-off, marked-then, loops-marked}
 use Rattle.stmt_parts.proofs.Walks.{booked-on, created-on, coded-on}
 use Rattle.stmt.proofs.Walks.{at-loops, re}
-use Rattle.stmt.proofs.Simple.{source-here, quiet, Reads}
+use Rattle.stmt.proofs.Simple.{source-here, unplaced, quiet, Reads, ran-bad}
 
 -- ---- sequences
 
@@ -75,6 +75,11 @@ module _ {s : Sheet} {ctx : Context} {text : List ℕ} {b : Bool} {n : ℕ} {c :
         near = r.place.near;
         ready = r.filled.ready;
       })
+
+  -- a line at fault: the walk stays
+  pub stays : (k : ℕ) {r : Emitter} → line_at (stmt_forms ctx.variables) ctx.left text here.at ≡ not k → Bare (refused (record { number = k; place = here.row })) w.e r → 0 < more → {rest : ℕ} → rest ≡ more - 1
+      → Doing s ctx text b n c w₀ ls₀ (world r w.code w.book w.pool) ls rest here
+  stays k line q h is-rest = goes_on (not k) (sym line) (unplaced b k d.ready.fine) (ran-bad s ctx text here k d.noted d.near d.ready line q) h is-rest
 
   pub ends : more ≤ 0 → RanSequence s ctx text b n c w₀ w ls₀ ls here
   unfolding block_of emit_sequence continues

@@ -31,7 +31,7 @@ use Rattle.stmt_parts.specs.Parts.{jump_row, Stepped, Continued}
 use Rattle.stmt_parts.proofs.Marks.{marked-off}
 use Rattle.stmt_parts.proofs.Walks.{bare-on, coded-on}
 use Rattle.stmt_parts.proofs.Jumps.{coded-run}
-use Rattle.stmt.specs.Blocks.{recorded_by, line_source, Placed, emit_assign}
+use Rattle.stmt.specs.Blocks.{recorded_by, position, line_source, Placed, emit_assign}
 use Rattle.stmt.specs.declared.Lent.{Lent}
 use Rattle.stmt.specs.Ran.{Ran, RanStmt}
 
@@ -41,17 +41,19 @@ pub unrecorded : (x : Line StmtLine) {e : Emitter} {b : Bool} → b ≡ false �
 unfolding recorded_by
 unrecorded x off h = rw off (record { fine = h; did = λ s row code book pool k u y d. d })
 
-pub unplaced : {b : Bool} (n : ℕ) {e : Emitter} → b ≡ true → Fine e → Placed b (not n) e e
+-- a line at fault has none
+pub unplaced : (b : Bool) (n : ℕ) {e : Emitter} → Fine e → Placed b (not n) e e
 unfolding recorded_by line_source record_position
-unplaced n on h = rw on (record { fine = h; did = λ s row code book pool k u y d. seq-filled s _ _ (none_filled s _ y) d })
+unplaced true n h = record { fine = h; did = λ s row code book pool k u y d. seq-filled s _ _ (none_filled s _ y) d }
+unplaced false n h = record { fine = h; did = λ s row code book pool k u y d. d }
 
-pub placed : {b : Bool} (x : Line StmtLine) (p : Pos) {e r : Emitter} → b ≡ true → ((row : ℕ) → line_source row x ≡ some (record { pos = p; row = row })) → Bare (set_position p) e r → Placed b x e r
-unfolding recorded_by record_position
-placed x p on src d = rw on (record { fine = d.fine; did = λ s row code book pool k u y q. rw (src row) (seq-filled s _ _ (said-filled s _ (bare-on y s d)) q) })
+pub placed : (l : StmtLine) {b : Bool} {p : Pos} {e r : Emitter} → b ≡ true → p ≡ position l → Bare (set_position p) e r → Placed b (is l) e r
+unfolding recorded_by record_position line_source
+placed l on src d' = let d = rw src at d' in rw on (record { fine = d.fine; did = λ s row code book pool k u y q. seq-filled s _ _ (said-filled s _ (bare-on y s d)) q })
 
 -- the source of the statement here is its line's
 pub source-here : (x : Line StmtLine) (ctx : Context) (text : List ℕ) (c : def.Cursor) → line_at (stmt_forms ctx.variables) ctx.left text c.at ≡ x → source_of (stmt_in ctx text c).0 ≡ line_source c.row x
-unfolding source_of line_source stmt_of
+unfolding source_of line_source position stmt_of
 source-here (is (A p i)) ctx text c e = rw (stmt-is ctx.left ctx.variables text c (A p i) e)
 source-here (is (I p n m)) ctx text c e = rw (stmt-is ctx.left ctx.variables text c (I p n m) e)
 source-here (is (S p n m)) ctx text c e = rw (stmt-is ctx.left ctx.variables text c (S p n m) e)

@@ -1,14 +1,17 @@
 -- What was done inside open loops; and sequences of statements as the definition's blocks.
-use mathlib.Core.Path.{◌≡◌, refl, ap, ◌∙◌}
+use mathlib.Core.Path.{◌≡◌, refl, ap, sym, ◌∙◌}
 use mathlib.Core.Bool.{Bool, true, false}
 use mathlib.Core.List.{List, []}
 use Prim.Native.Nat.{ℕ}
 use Rattle.definition.specs.Opcode.{Sheet}
 use Rattle.definition.specs.Tree.{Block, done, ◌then◌}
 use Rattle.definition.specs.Program as def
+use Rattle.definition.specs.Program.{is, StmtLine, line_at, stmt_forms}
 use Rattle.definition.specs.Walk.{Calls}
 use Rattle.definition.specs.Walk as walk
 use Rattle.definition.specs.Stmt.{Loops, record_position, source_of, emit_stmt, emit_block, emit_stmts}
+use Rattle.program_line.specs.declared.StmtLine as code
+use Rattle.program_line.specs.View.{stmt_line}
 use Rattle.program.specs.declared.Cursor.{Cursor}
 use Rattle.program.specs.Walk.{cursor_of, Near, Skipped}
 use Rattle.program.specs.Ends.{Sound}
@@ -27,6 +30,10 @@ use Rattle.stmt.specs.Ran.{Ran}
 -- a place that stands where it is
 pub stands_here : {text : List ℕ} {c : Cursor} → Near text c.at c.row → Skipped text (cursor_of c) c
 stands_here near = record { is = refl; near = near }
+
+-- what a line was read as
+pub reads : {text : List ℕ} {left v at : ℕ} {line x : code.StmtLine} → is (stmt_line line) ≡ line_at (stmt_forms v) left text at → line ≡ x → line_at (stmt_forms v) left text at ≡ is (stmt_line x)
+reads e told = sym e ∙ ap (λ (l : code.StmtLine). is {L = StmtLine} (stmt_line l)) told
 
 -- what is noted is so for a statement's parts too
 pub inner-noted : (ctx : Context) {text : List ℕ} {k : Context} {ends : List ℕ} → k ≡ inner_of ctx → Sound text ctx.variables ends → Sound text k.variables ends

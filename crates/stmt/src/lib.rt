@@ -4,13 +4,14 @@
 ghost use Rattle.std.specs.Prelude.{◌≡◌, ◌≤◌, ◌<◌, ◌+◌, ◌-◌, length};
 ghost use Rattle.definition.specs.Limits.{max_code, max_nesting};
 ghost use Rattle.definition.specs.Opcode.{ret};
-ghost use Rattle.definition.specs.Program.{stmt_forms, line_at};
+ghost use Rattle.definition.specs.Program.{is, stmt_forms, line_at, next_line};
 ghost use Rattle.definition.specs.Emit.{emit_opcode};
 ghost use Rattle.definition.specs.Walk.{say};
 ghost use Rattle.definition.specs.Stmt.{emit_stmts};
 ghost use Rattle.opcode.specs.Table.{sheet_in};
+ghost use Rattle.line_map.specs.View.{pos_view};
 ghost use Rattle.program_line.specs.View.{stmt_line};
-ghost use Rattle.program.specs.Walk.{cursor_of, Near, Behind};
+ghost use Rattle.program.specs.Walk.{cursor_of, Near, Skipped};
 ghost use Rattle.program.specs.Ends.{Sound};
 ghost use Rattle.program_shape.specs.Shape.{block_at};
 ghost use Rattle.emit.specs.View.{world};
@@ -18,17 +19,17 @@ ghost use Rattle.emit.specs.Steps.{Ready, Fine};
 ghost use Rattle.expr.specs.Went.{Went};
 ghost use Rattle.stmt_parts.specs.Context.{expr_in};
 ghost use Rattle.stmt_parts.specs.Parts.{Stepped};
-ghost use Rattle.stmt.specs.Blocks.{Placed, emit_assign};
+ghost use Rattle.stmt.specs.Blocks.{position, Placed, emit_assign};
 ghost use Rattle.stmt.specs.Ran.{RanSequence, RanStmt, RanIf, RanElse, RanCase, RanArms, RanArm, RanFor, RanLoop, RanPlain, RanWhile, RanRepeat, RanBody};
 
 use definition::MAX_NESTING;
 use emit::{Book, Constant, Emitter, Label, NewLabel, Pool};
 use expr::Walked;
+use line_map::Pos;
 use opcode::Role;
 use program::{Cursor, ENDS_SIZE};
-use program_line::StmtLine;
+use program_line::{ArmLine, StmtLine};
 use program_shape::Shape;
-use stmt_parts::labels::ArmParts;
 use stmt_parts::loops::{OpenLoop, OpenLoops};
 use stmt_parts::{Context, conditions, labels, loops};
 
@@ -39,14 +40,11 @@ struct Lent {
     ends: [u16; ENDS_SIZE],
 }
 
-// The position of a statement's line, unless the line is at fault or positions are not recorded.
-fn record_position(e: Emitter, line: StmtLine, recording: bool) -> Emitter
-    requires { Fine e }
-    ensures { Placed recording (stmt_line line) e result }
+// Where a statement stands in its source.
+#[tactic(auto, unfolding(crate::specs::Blocks::position))]
+fn position_of(line: StmtLine) -> Pos
+    ensures { pos_view result ≡ position (stmt_line line) }
 {
-    if !recording {
-        return e;
-    }
     match line {
         StmtLine::Assign { pos, .. }
         | StmtLine::If { pos, .. }
@@ -55,8 +53,19 @@ fn record_position(e: Emitter, line: StmtLine, recording: bool) -> Emitter
         | StmtLine::Loop { pos, .. }
         | StmtLine::Exit { pos, .. }
         | StmtLine::Continue { pos, .. }
-        | StmtLine::Return { pos } => e.set_position(pos),
-        StmtLine::Bad(_) => e,
+        | StmtLine::Return { pos } => pos,
+    }
+}
+
+// The position of a statement's line, if positions are recorded.
+fn record_position(e: Emitter, line: StmtLine, recording: bool) -> Emitter
+    requires { Fine e }
+    ensures { Placed recording (is (stmt_line line)) e result }
+{
+    if recording {
+        e.set_position(position_of(line))
+    } else {
+        e
     }
 }
 
@@ -84,14 +93,19 @@ fn sequence(
     let mut on = e;
     let mut here = c;
     for _ in 0..n {
-        let next = program_line::next_stmt(text, ctx.variables, ctx.left, here.at);
-        let to = program::behind(text, here, next.end);
-        on = record_position(on, next.line, recording);
-        let done = stmt(
-            text, sheet, code, book, pool, lent, ctx, next.line, on, here, to,
-        );
-        on = done.emitter;
-        here = done.cursor;
+        match program_line::next_stmt(text, ctx.variables, ctx.left, here.at) {
+            Ok(next) => {
+                let to = program::next_line(text, here, next.end);
+                on = record_position(on, next.line, recording);
+                let done = stmt(
+                    text, sheet, code, book, pool, lent, ctx, next.line, on, here, to,
+                );
+                on = done.emitter;
+                here = done.cursor;
+            }
+            // The walk stays here, where the others are refused alike, and a refused emitter stays as it is.
+            Err(refusal) => on = on.refuse(refusal, here.row),
+        }
     }
     Walked {
         cursor: here,
@@ -118,8 +132,8 @@ fn stmt(
     requires near { Near text.now c.at c.row }
     requires ready { Ready (world e code.old book.old pool.old) }
     requires left_bound { ctx.inside + ctx.left ≤ max_nesting }
-    requires line_value { stmt_line line ≡ line_at (stmt_forms ctx.variables) ctx.left text.now c.at }
-    requires behind { Behind (stmt_line line) text.now c on }
+    requires line_value { is (stmt_line line) ≡ line_at (stmt_forms ctx.variables) ctx.left text.now c.at }
+    requires skipped { Skipped text.now (next_line text.now (cursor_of c)) on }
     ensures { RanStmt (sheet_in sheet.now) ctx text.now (cursor_of c) (world e code.old book.old pool.old) (world result.emitter code.new book.new pool.new) lent.old.loops lent.new result.cursor }
 {
     let ctx = ctx.inner();
@@ -179,10 +193,6 @@ fn stmt(
             )
         }
         StmtLine::Return { .. } => return_(text, sheet, code, book, e, on),
-        StmtLine::Bad(n) => Walked {
-            cursor: c,
-            emitter: e.refuse(n, c.row),
-        },
     }
 }
 
@@ -377,17 +387,19 @@ fn arms(
     let mut on = e;
     let mut here = c;
     for _ in 0..n {
-        let next = program_line::next_arm(text, ctx.left, here.at);
-        let parts = labels::arm_parts(next.line);
-        if parts.bad != 0 {
-            return Walked {
-                cursor: here,
-                emitter: on.refuse(parts.bad, here.row),
-            };
-        }
-        let body = program::next_line(text, here, next.end);
+        let next = match program_line::next_arm(text, ctx.left, here.at) {
+            Ok(next) => next,
+            Err(refusal) => {
+                let emitter = on.refuse(refusal, here.row);
+                return Walked {
+                    cursor: here,
+                    emitter,
+                };
+            }
+        };
+        let to = program::next_line(text, here, next.end);
         let done = arm(
-            text, sheet, code, book, pool, lent, ctx, parts, on, body, end,
+            text, sheet, code, book, pool, lent, ctx, next.line, on, to, end,
         );
         on = done.emitter;
         here = done.cursor;
@@ -408,7 +420,7 @@ fn arm(
     pool: &mut Pool,
     lent: &mut Lent,
     ctx: Context,
-    parts: ArmParts,
+    line: ArmLine,
     e: Emitter,
     c: Cursor,
     end: Label,
@@ -417,18 +429,14 @@ fn arm(
     requires near { Near text.now c.at c.row }
     requires ready { Ready (world e code.old book.old pool.old) }
     requires left_bound { ctx.inside + 1 + ctx.left ≤ max_nesting }
-    ensures { RanArm (sheet_in sheet.now) ctx text.now parts.labels parts.statements end.0 (cursor_of c) (world e code.old book.old pool.old) (world result.emitter code.new book.new pool.new) lent.old.loops lent.new result.cursor }
+    ensures { RanArm (sheet_in sheet.now) ctx text.now line.labels line.statements end.0 (cursor_of c) (world e code.old book.old pool.old) (world result.emitter code.new book.new pool.new) lent.old.loops lent.new result.cursor }
 {
     let Context {
         variables,
         left,
         ..
     } = ctx;
-    let ArmParts {
-        labels: n,
-        statements: m,
-        ..
-    } = parts;
+    let (n, m) = (usize::from(line.labels), usize::from(line.statements));
     if n == 0 {
         let cursor = program_shape::skip_block(text, &mut lent.ends, variables, left, m, c);
         return Walked { cursor, emitter: e };

@@ -7,7 +7,7 @@ use Rattle.definition.specs.Opcode.{Sheet, Add}
 use Rattle.definition.specs.Opcode as role
 use Rattle.definition.specs.Tree.{Expr, CaseLabel}
 use Rattle.definition.specs.Program as def
-use Rattle.definition.specs.Program.{Line, is, not, M, line_at, next_line, label_by, label_forms}
+use Rattle.definition.specs.Program.{line_at, next_line, label_by, label_forms}
 use Rattle.definition.specs.CompileExpr.{ClassifiedCmp, emit_classified_cmp_br}
 use Rattle.definition.specs.Expr.{emit_expr}
 use Rattle.definition.specs.Emit.{load_variable, load_constant, store_variable, emit_opcode, emit_jmp, emit_jmp_if_not, bind_label, add_constant, reset_stack_depth, refused}
@@ -22,7 +22,6 @@ use Rattle.emit.specs.View.{World, world}
 use Rattle.emit.specs.Steps.{run, Ready, Fine, Coded, Filled}
 use Rattle.expr.specs.declared.Walked.{Walked}
 use Rattle.stmt_parts.specs.declared.loops.OpenLoop.{OpenLoop}
-use Rattle.stmt_parts.specs.declared.labels.ArmParts.{ArmParts}
 use Rattle.stmt_parts.specs.Loops.{opens_in, loops_of, marked, led_to}
 
 -- m was emitted, and whatever is emitted next stands where m has it
@@ -103,10 +102,6 @@ pub record BindsNext (used : Bool) (next : ℕ) (e : Emitter) (book : List ℕ) 
   pub did : (s : Sheet) (code pool : List ℕ) → Ready (world e code book pool) → Filled (run s (when used (say (bind_label next)))) (world e code book pool) (world r code book' pool)
 
 -- ---- CASE
-
-unfoldable pub arm_parts : Line def.ArmLine → ArmParts
-arm_parts (is (M n m)) = record { bad = 0; labels = n; statements = m }
-arm_parts (not n) = record { bad = n; labels = 0; statements = 0 }
 
 abbrev pub label_here : ℕ → List ℕ → def.Cursor → CaseLabel × def.Cursor
 label_here left text c = label_by text c (line_at label_forms left text c.at)

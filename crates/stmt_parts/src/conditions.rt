@@ -22,7 +22,7 @@ use emit::{Book, Constant, Emitter, Label, NewLabel, Pool};
 use expr::Walked;
 use opcode::{ArithmeticOp, CompareOp, Role};
 use program::Cursor;
-use program_shape::{ClassifiedCmp, Condition, Operand};
+use program_shape::{ClassifiedCmp, Operand};
 
 // The values below 0, as bits: from this one on.
 const NEGATIVE: Constant = 1 << (WIDTH - 1);
@@ -50,14 +50,14 @@ pub fn branch_unless(
         ..
     } = ctx;
     match program_shape::classify(text, variables, left, c) {
-        Condition::Fused(f) => {
+        Some(f) => {
             let cursor = program_shape::skip_expr(text, variables, left, c);
             let emitter = compile_expr::emit_classified_cmp_br(
                 e, sheet, code, book, pool, f, false, target,
             );
             Walked { cursor, emitter }
         }
-        Condition::Other => {
+        None => {
             let Walked { cursor, emitter } = expr::emit_expr(
                 text, sheet, code, book, pool, variables, left, 0, e, c,
             );
@@ -199,7 +199,7 @@ pub fn while_head(
         ..
     } = ctx;
     match program_shape::classify(text, variables, left, c) {
-        Condition::Fused(f) => {
+        Some(f) => {
             let e = e.add_constant(pool, f.constant);
             let NewLabel { emitter, label } = e.create_label(book);
             let e = compile_expr::emit_classified_cmp_br(
@@ -208,7 +208,7 @@ pub fn while_head(
             let emitter = e.bind_label(book, label);
             NewLabel { emitter, label }
         }
-        Condition::Other => {
+        None => {
             let NewLabel { emitter, label } = e.create_label(book);
             let e = emitter.bind_label(book, label);
             let e = expr::emit_expr(
@@ -237,10 +237,10 @@ pub fn while_end(
     ensures { Filled (run (sheet_in sheet.now) (while_end (classify (expr_in ctx text.now (cursor_of c)).0) start.0)) (world e code.old book.old pool.old) (world result code.new book.new pool.new) }
 {
     match program_shape::classify(text, ctx.variables, ctx.left, c) {
-        Condition::Fused(f) => {
+        Some(f) => {
             compile_expr::emit_classified_cmp_br(e, sheet, code, book, pool, f, true, start)
         }
-        Condition::Other => e.emit_jmp(sheet, code, book, start),
+        None => e.emit_jmp(sheet, code, book, start),
     }
 }
 
@@ -252,7 +252,7 @@ pub fn pool_first(text: &[u8], pool: &mut Pool, ctx: Context, e: Emitter, c: Cur
     ensures { PoolsFirst (classify (expr_in ctx text.now (cursor_of c)).0) e pool.old result pool.new }
 {
     match program_shape::classify(text, ctx.variables, ctx.left, c) {
-        Condition::Fused(f) => e.add_constant(pool, f.constant),
-        Condition::Other => e,
+        Some(f) => e.add_constant(pool, f.constant),
+        None => e,
     }
 }

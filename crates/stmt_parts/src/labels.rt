@@ -7,43 +7,17 @@ ghost use Rattle.definition.specs.Program.{labels_at};
 ghost use Rattle.definition.specs.Stmt.{test_against, test_label};
 ghost use Rattle.opcode.specs.Table.{sheet_in};
 ghost use Rattle.opcode.specs.View.{compare_view};
-ghost use Rattle.program_line.specs.View.{arm_line};
 ghost use Rattle.program.specs.Walk.{cursor_of, Near};
 ghost use Rattle.emit.specs.View.{world};
 ghost use Rattle.emit.specs.Steps.{run, Ready, Fine, Coded, Filled};
 ghost use Rattle.expr.specs.Went.{Went};
-ghost use Rattle.stmt_parts.specs.Parts.{Leads, arm_parts, label_here, test_jump, test_all, arm_tests, arm_end};
+ghost use Rattle.stmt_parts.specs.Parts.{Leads, label_here, test_jump, test_all, arm_tests, arm_end};
 
 use emit::{Book, Constant, Emitter, Label, NewLabel, Pool};
 use expr::Walked;
 use opcode::{CompareOp, Role};
 use program::Cursor;
-use program_line::{ArmLine, LabelLine};
-
-// What an arm's line says: `bad` is its refusal, 0 if there is none.
-#[derive(Clone, Copy)]
-pub struct ArmParts {
-    pub bad: u8,
-    pub labels: usize,
-    pub statements: usize,
-}
-
-pub fn arm_parts(line: ArmLine) -> ArmParts
-    ensures { result ≡ arm_parts (arm_line line) }
-{
-    match line {
-        ArmLine::Bad(n) => ArmParts {
-            bad: n,
-            labels: 0,
-            statements: 0,
-        },
-        ArmLine::Arm { labels, statements } => ArmParts {
-            bad: 0,
-            labels: labels as usize,
-            statements: statements as usize,
-        },
-    }
-}
+use program_line::LabelLine;
 
 // One test of a copy of the selector.
 fn test_against(
@@ -115,23 +89,19 @@ fn test_label(
     requires ready { Ready (world e code.old book.old pool.old) }
     ensures { Went (sheet_in sheet.now) (test_label (label_here left text.now (cursor_of c)).0 fail.0) text.now (label_here left text.now (cursor_of c)).1 (world e code.old book.old pool.old) (world result.emitter code.new book.new pool.new) result.cursor }
 {
-    let next = program_line::next_label(text, left, c.at);
-    match next.line {
-        LabelLine::Value(k) => {
-            let cursor = program::next_line(text, c, next.end);
-            let emitter = test_value(e, sheet, code, book, pool, k, fail);
-            Walked { cursor, emitter }
+    let next = match program_line::next_label(text, left, c.at) {
+        Ok(next) => next,
+        Err(refusal) => {
+            let emitter = e.refuse(refusal, c.row);
+            return Walked { cursor: c, emitter };
         }
-        LabelLine::Range(low, high) => {
-            let cursor = program::next_line(text, c, next.end);
-            let emitter = test_range(e, sheet, code, book, pool, low, high, fail);
-            Walked { cursor, emitter }
-        }
-        LabelLine::Bad(n) => Walked {
-            cursor: c,
-            emitter: e.refuse(n, c.row),
-        },
-    }
+    };
+    let cursor = program::next_line(text, c, next.end);
+    let emitter = match next.line {
+        LabelLine::Value(k) => test_value(e, sheet, code, book, pool, k, fail),
+        LabelLine::Range(low, high) => test_range(e, sheet, code, book, pool, low, high, fail),
+    };
+    Walked { cursor, emitter }
 }
 
 // One that is not the last: it jumps to the body.

@@ -9,7 +9,7 @@ ghost use Rattle.emit.specs.Steps.{Fine};
 ghost use Rattle.stmt_parts.specs.Loops.{open_at, opens_in, loops_of, Opened, Finds};
 ghost use Rattle.stmt_parts.specs.Parts.{jump_row, Stepped, Continued, BindsNext};
 
-use definition::{MAX_NESTING, NO_LOOP};
+use definition::{MAX_NESTING, Refusal};
 use emit::{Book, Emitter, Label};
 use expr::Walked;
 use program::Cursor;
@@ -78,7 +78,7 @@ pub fn exit(
     let found = labels(loops, inside, i);
     let emitter = match found {
         Some(k) => e.emit_jmp(sheet, code, book, loops[k].exit),
-        None => e.refuse(NO_LOOP, c.row),
+        None => e.refuse(Refusal::NoLoop, c.row),
     };
     Walked {
         cursor: on,
@@ -111,7 +111,7 @@ pub fn continue_(
             open.used = true;
             e.emit_jmp(sheet, code, book, open.next)
         }
-        None => e.refuse(NO_LOOP, c.row),
+        None => e.refuse(Refusal::NoLoop, c.row),
     };
     Walked {
         cursor: on,

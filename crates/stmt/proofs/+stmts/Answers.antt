@@ -1,15 +1,11 @@
-use mathlib.Core.Path.{◌∙◌, ap, sym}
 use native.Mathlib.Omega.{arith}
-use Rattle.program.proofs.Laws.{line-there, good-behind, end-inside, goes-behind}
-use Rattle.program_line.proofs.Laws.{good-end}
-use Rattle.program_line.specs.View.{stmt_line}
-use Rattle.stmt.proofs.Walks.{nested, stands_here, inner-noted}
-use Rattle.stmt_parts.proofs.Walks.{inner-left, inner-inside, loop-left, loop-inside}
-use Rattle.stmt_parts.proofs.Jumps.{bad-line}
-use Rattle.stmt.proofs.Simple.{ran-bad, ran-assign, ran-return, ran-exit, ran-continue}
-use Rattle.stmt.proofs.Laws.{begins, goes_on, ends, ran-if, ran-loop, ran-for, else-none, else-some, if-done, for-done}
+use Rattle.program.proofs.Laws.{line-there}
+use Rattle.stmt_parts.proofs.Walks.{inner-left, inner-inside}
+use Rattle.stmt.proofs.Walks.{nested, stands_here, reads, inner-noted}
+use Rattle.stmt.proofs.Simple.{ran-assign, ran-return, ran-exit, ran-continue}
+use Rattle.stmt.proofs.Laws.{begins, goes_on, stays, ends, ran-if, ran-loop, ran-for, else-none, else-some, if-done, for-done}
 use Rattle.stmt.proofs.Looping.{body-done, plain_done, while-done, repeat-done, while-places, repeat-places, is-while, is-repeat, is_plain}
-use Rattle.stmt.proofs.Cases.{arm-none, arm-some, parts_is, parts-not, arms-begin, arms-on, arms-bad, arms_end_lem, case-done, ran-case}
+use Rattle.stmt.proofs.Cases.{arm-none, arm-some, arms-begin, arms-on, arms-bad, arms_end_lem, case-done, ran-case}
 use Rattle.stmt.proofs.+stmts.Goals as goal
 
 pub arm-returns-then-n-eq0 : goal.arm-returns-then-n-eq0
@@ -20,12 +16,6 @@ arm-returns t c = arm-some _ _ _ _ _ _ _ c.requires.ready c.if-n-eq0.false c.cre
 
 pub arms-loop-init : goal.arms-loop-init
 arms-loop-init t c = arms-begin _ _ _ _ _ _ _ _ c.requires.noted c.requires.near c.requires.ready (omega arith)
-
-pub arms-returns-then-parts-ne0 : goal.arms-returns-then-parts-ne0
-arms-returns-then-parts-ne0 t c = arms-bad c.loop.invariant _ (parts-not _ _ _ _ _ c.arm_parts-parts.ensures c.next_arm-next.ensures.is c.if-parts-ne0.true) (omega (arith, c.loop-test.true)) c.refuse.ensures
-
-pub arms-loop-preserved : goal.arms-loop-preserved
-arms-loop-preserved t c = arms-on c.loop.invariant _ _ (parts_is _ _ _ _ _ c.arm_parts-parts.ensures c.next_arm-next.ensures.is c.if-parts-ne0.false) c.next_line-body.ensures c.arm-done.ensures (omega (arith, c.loop-test.true)) (omega arith)
 
 pub arms-returns : goal.arms-returns
 arms-returns t c = arms_end_lem c.loop.invariant (omega (arith, c.loop-test.false))
@@ -66,65 +56,53 @@ repeat-returns t c = repeat-done _ _ _ _ _ _ c.inner-inner.ensures _ _ c.require
 pub sequence-loop-init : goal.sequence-loop-init
 sequence-loop-init t c = begins _ _ _ _ _ _ _ _ c.requires.noted c.requires.near c.requires.ready (omega arith)
 
-pub sequence-loop-preserved : goal.sequence-loop-preserved
-sequence-loop-preserved t c = goes_on c.loop.invariant _ c.next_stmt-next.ensures.is c.record_position-on.ensures c.stmt-done.ensures (omega (arith, c.loop-test.true)) (omega arith)
-
 pub sequence-returns : goal.sequence-returns
 sequence-returns t c = ends c.loop.invariant (omega (arith, c.loop-test.false))
 
 pub stmt-returns-in-Assign : goal.stmt-returns-in-Assign
-stmt-returns-in-Assign t c = ran-assign _ _ _ _ c.inner-ctx.ensures _ _ c.requires.noted (sym c.requires.line_value ∙ ap stmt_line c.in-Assign.is) (rw (← (good-behind _ _ _ _ c.requires.behind (ap stmt_line c.in-Assign.is)).is) c.assign.ensures)
+stmt-returns-in-Assign t c = ran-assign _ _ _ _ c.inner-ctx.ensures _ _ c.requires.noted (reads c.requires.line_value c.in-Assign.is) (rw (← c.requires.skipped.is) c.assign.ensures)
 
 pub stmt-returns-in-If : goal.stmt-returns-in-If
-stmt-returns-in-If t c = ran-if _ _ _ _ c.inner-ctx.ensures _ _ _ (sym c.requires.line_value ∙ ap stmt_line c.in-If.is) (rw (← (good-behind _ _ _ _ c.requires.behind (ap stmt_line c.in-If.is)).is) c.if_.ensures)
+stmt-returns-in-If t c = ran-if _ _ _ _ c.inner-ctx.ensures _ _ _ (reads c.requires.line_value c.in-If.is) (rw (← c.requires.skipped.is) c.if_.ensures)
 
 pub stmt-returns-in-Case : goal.stmt-returns-in-Case
-stmt-returns-in-Case t c = ran-case _ _ _ _ c.inner-ctx.ensures _ _ _ (sym c.requires.line_value ∙ ap stmt_line c.in-Case.is) (rw (← (good-behind _ _ _ _ c.requires.behind (ap stmt_line c.in-Case.is)).is) c.case.ensures)
+stmt-returns-in-Case t c = ran-case _ _ _ _ c.inner-ctx.ensures _ _ _ (reads c.requires.line_value c.in-Case.is) (rw (← c.requires.skipped.is) c.case.ensures)
 
 pub stmt-returns-in-For : goal.stmt-returns-in-For
-stmt-returns-in-For t c = ran-for _ _ _ _ c.inner-ctx.ensures _ _ _ _ _ (sym c.requires.line_value ∙ ap stmt_line c.in-For.is) (rw (← (good-behind _ _ _ _ c.requires.behind (ap stmt_line c.in-For.is)).is) c.for_.ensures)
+stmt-returns-in-For t c = ran-for _ _ _ _ c.inner-ctx.ensures _ _ _ _ _ (reads c.requires.line_value c.in-For.is) (rw (← c.requires.skipped.is) c.for_.ensures)
 
 pub stmt-returns-in-Loop : goal.stmt-returns-in-Loop
-stmt-returns-in-Loop t c = ran-loop _ _ _ _ c.inner-ctx.ensures _ _ _ _ (sym c.requires.line_value ∙ ap stmt_line c.in-Loop.is) (rw (← (good-behind _ _ _ _ c.requires.behind (ap stmt_line c.in-Loop.is)).is) c.loop_.ensures)
+stmt-returns-in-Loop t c = ran-loop _ _ _ _ c.inner-ctx.ensures _ _ _ _ (reads c.requires.line_value c.in-Loop.is) (rw (← c.requires.skipped.is) c.loop_.ensures)
 
 pub stmt-returns-in-Exit : goal.stmt-returns-in-Exit
-stmt-returns-in-Exit t c = ran-exit _ _ _ _ c.requires.ready c.inner-ctx.ensures _ _ c.requires.noted (sym c.requires.line_value ∙ ap stmt_line c.in-Exit.is) c.exit.ensures
+stmt-returns-in-Exit t c = ran-exit _ _ _ _ c.requires.ready c.inner-ctx.ensures _ _ c.requires.noted (reads c.requires.line_value c.in-Exit.is) c.exit.ensures
 
 pub stmt-returns-in-Continue : goal.stmt-returns-in-Continue
-stmt-returns-in-Continue t c = ran-continue _ _ _ _ c.requires.ready c.inner-ctx.ensures _ _ c.requires.noted (sym c.requires.line_value ∙ ap stmt_line c.in-Continue.is) c.continue_.ensures
+stmt-returns-in-Continue t c = ran-continue _ _ _ _ c.requires.ready c.inner-ctx.ensures _ _ c.requires.noted (reads c.requires.line_value c.in-Continue.is) c.continue_.ensures
 
 pub stmt-returns-in-Return : goal.stmt-returns-in-Return
-stmt-returns-in-Return t c = ran-return _ _ _ _ c.requires.ready _ c.requires.noted (sym c.requires.line_value ∙ ap stmt_line c.in-Return.is) (rw (← (good-behind _ _ _ _ c.requires.behind (ap stmt_line c.in-Return.is)).is) c.return_.ensures)
-
-pub stmt-returns-in-Bad : goal.stmt-returns-in-Bad
-stmt-returns-in-Bad t c = ran-bad _ _ _ _ _ c.requires.noted c.requires.near c.requires.ready (sym c.requires.line_value ∙ ap stmt_line c.in-Bad.is) c.refuse.ensures
+stmt-returns-in-Return t c = ran-return _ _ _ _ c.requires.ready _ c.requires.noted (reads c.requires.line_value c.in-Return.is) (rw (← c.requires.skipped.is) c.return_.ensures)
 
 pub while_-returns : goal.while_-returns
 while_-returns t c = while-done _ _ _ _ _ _ c.inner-inner.ensures _ c.requires.ready c.create_label.ensures c.while_head.ensures c.loop_body.ensures c.while_end-e.ensures c.bind_label-emitter.ensures
 
-pub arms-next_line-body-requires : goal.arms-next_line-body-requires
-arms-next_line-body-requires t c = record { near = c.loop.invariant.near; at_in_bounds = (line-there _ _ _ _ _ (parts_is _ _ _ _ _ c.arm_parts-parts.ensures c.next_arm-next.ensures.is c.if-parts-ne0.false)).0; end_value = good-end _ c.next_arm-next.ensures (c.next_arm-next.ensures.is ∙ parts_is _ _ _ _ _ c.arm_parts-parts.ensures c.next_arm-next.ensures.is c.if-parts-ne0.false) }
-
-pub sequence-behind-to-requires : goal.sequence-behind-to-requires
-sequence-behind-to-requires t c = record { near = c.loop.invariant.near; end_in_bounds = end-inside _ _ _ c.loop.here _ c.next_stmt-next.ensures }
-
-pub sequence-stmt-done-requires : goal.sequence-stmt-done-requires
-sequence-stmt-done-requires t c = (omega (arith, c.decreases), (c.loop.invariant.noted, (c.loop.invariant.near, (record { fine = c.record_position-on.ensures.fine; room = c.loop.invariant.ready.room; slots = c.loop.invariant.ready.slots; held = c.loop.invariant.ready.held }, (c.requires.left_bound, (c.next_stmt-next.ensures.is, goes-behind _ _ _ _ _ c.next_stmt-next.ensures c.loop.invariant.near c.behind-to.ensures))))))
-
-pub stmt-refuse-requires : goal.stmt-refuse-requires
-stmt-refuse-requires t c = record { fine = c.requires.ready.fine; number_nonzero = bad-line _ _ _ _ _ (sym c.requires.line_value ∙ ap stmt_line c.in-Bad.is) }
-
-pub arms-refuse-requires : goal.arms-refuse-requires
-arms-refuse-requires t c = record { fine = c.loop.invariant.ready.fine; number_nonzero = bad-line _ _ _ _ _ (parts-not _ _ _ _ _ c.arm_parts-parts.ensures c.next_arm-next.ensures.is c.if-parts-ne0.true) }
-
 pub stmt-if_-requires : goal.stmt-if_-requires
-stmt-if_-requires t c = (omega (arith, c.decreases, (line-there _ _ _ _ _ (sym c.requires.line_value ∙ ap stmt_line c.in-If.is)).1, inner-left _ c.inner-ctx.ensures), (inner-noted _ c.inner-ctx.ensures c.requires.noted, ((good-behind _ _ _ _ c.requires.behind (ap stmt_line c.in-If.is)).near, (c.requires.ready, omega (arith, c.requires.left_bound, (line-there _ _ _ _ _ (sym c.requires.line_value ∙ ap stmt_line c.in-If.is)).1, inner-left _ c.inner-ctx.ensures, inner-inside _ c.inner-ctx.ensures)))))
+stmt-if_-requires t c = (omega (arith, c.decreases, (line-there _ _ _ _ _ (reads c.requires.line_value c.in-If.is)).1, inner-left _ c.inner-ctx.ensures), (inner-noted _ c.inner-ctx.ensures c.requires.noted, (c.requires.skipped.near, (c.requires.ready, omega (arith, c.requires.left_bound, (line-there _ _ _ _ _ (reads c.requires.line_value c.in-If.is)).1, inner-left _ c.inner-ctx.ensures, inner-inside _ c.inner-ctx.ensures)))))
 
 pub stmt-case-requires : goal.stmt-case-requires
-stmt-case-requires t c = (omega (arith, c.decreases, (line-there _ _ _ _ _ (sym c.requires.line_value ∙ ap stmt_line c.in-Case.is)).1, inner-left _ c.inner-ctx.ensures), (inner-noted _ c.inner-ctx.ensures c.requires.noted, ((good-behind _ _ _ _ c.requires.behind (ap stmt_line c.in-Case.is)).near, (c.requires.ready, omega (arith, c.requires.left_bound, (line-there _ _ _ _ _ (sym c.requires.line_value ∙ ap stmt_line c.in-Case.is)).1, inner-left _ c.inner-ctx.ensures, inner-inside _ c.inner-ctx.ensures)))))
+stmt-case-requires t c = (omega (arith, c.decreases, (line-there _ _ _ _ _ (reads c.requires.line_value c.in-Case.is)).1, inner-left _ c.inner-ctx.ensures), (inner-noted _ c.inner-ctx.ensures c.requires.noted, (c.requires.skipped.near, (c.requires.ready, omega (arith, c.requires.left_bound, (line-there _ _ _ _ _ (reads c.requires.line_value c.in-Case.is)).1, inner-left _ c.inner-ctx.ensures, inner-inside _ c.inner-ctx.ensures)))))
 
 pub stmt-for_-requires : goal.stmt-for_-requires
-stmt-for_-requires t c = (omega (arith, c.decreases, (line-there _ _ _ _ _ (sym c.requires.line_value ∙ ap stmt_line c.in-For.is)).1, inner-left _ c.inner-ctx.ensures), (inner-noted _ c.inner-ctx.ensures c.requires.noted, ((good-behind _ _ _ _ c.requires.behind (ap stmt_line c.in-For.is)).near, (c.requires.ready, omega (arith, c.requires.left_bound, (line-there _ _ _ _ _ (sym c.requires.line_value ∙ ap stmt_line c.in-For.is)).1, inner-left _ c.inner-ctx.ensures, inner-inside _ c.inner-ctx.ensures)))))
+stmt-for_-requires t c = (omega (arith, c.decreases, (line-there _ _ _ _ _ (reads c.requires.line_value c.in-For.is)).1, inner-left _ c.inner-ctx.ensures), (inner-noted _ c.inner-ctx.ensures c.requires.noted, (c.requires.skipped.near, (c.requires.ready, omega (arith, c.requires.left_bound, (line-there _ _ _ _ _ (reads c.requires.line_value c.in-For.is)).1, inner-left _ c.inner-ctx.ensures, inner-inside _ c.inner-ctx.ensures)))))
 
 pub stmt-loop_-requires : goal.stmt-loop_-requires
-stmt-loop_-requires t c = (omega (arith, c.decreases, (line-there _ _ _ _ _ (sym c.requires.line_value ∙ ap stmt_line c.in-Loop.is)).1, inner-left _ c.inner-ctx.ensures), (inner-noted _ c.inner-ctx.ensures c.requires.noted, ((good-behind _ _ _ _ c.requires.behind (ap stmt_line c.in-Loop.is)).near, (c.requires.ready, omega (arith, c.requires.left_bound, (line-there _ _ _ _ _ (sym c.requires.line_value ∙ ap stmt_line c.in-Loop.is)).1, inner-left _ c.inner-ctx.ensures, inner-inside _ c.inner-ctx.ensures)))))
+stmt-loop_-requires t c = (omega (arith, c.decreases, (line-there _ _ _ _ _ (reads c.requires.line_value c.in-Loop.is)).1, inner-left _ c.inner-ctx.ensures), (inner-noted _ c.inner-ctx.ensures c.requires.noted, (c.requires.skipped.near, (c.requires.ready, omega (arith, c.requires.left_bound, (line-there _ _ _ _ _ (reads c.requires.line_value c.in-Loop.is)).1, inner-left _ c.inner-ctx.ensures, inner-inside _ c.inner-ctx.ensures)))))
+
+pub arms-returns-in-Err : goal.arms-returns-in-Err
+arms-returns-in-Err t c = arms-bad c.loop.invariant _ c.in-Err.ensures.is (omega (arith, c.loop-test.true)) c.refuse-emitter.ensures
+
+pub arms-loop-preserved : goal.arms-loop-preserved
+arms-loop-preserved t c = arms-on c.loop.invariant _ _ c.in-Ok.ensures.is c.next_line-to.ensures c.arm-done.ensures (omega (arith, c.loop-test.true)) (omega arith)
+
+pub sequence-loop-preserved : goal.sequence-loop-preserved
+sequence-loop-preserved t c = ?

@@ -1,14 +1,8 @@
-use borrow.Author.Rules.{rules}
-use Rattle.stmt.specs.Blocks.{line_source}
-use Rattle.stmt.proofs.Simple.{placed, unplaced, unrecorded}
+use Rattle.stmt.proofs.Simple.{placed, unrecorded}
 use Rattle.stmt.proofs.record_position.Goals as goal
 
-pub returns-then-not-recording : goal.returns-then-not-recording
-returns-then-not-recording c = unrecorded _ c.if-not-recording.true c.requires
+pub returns-then-recording : goal.returns-then-recording
+returns-then-recording c = placed _ c.if-recording.true c.position_of.ensures c.set_position.ensures
 
-pub returns-in-Assign : goal.returns-in-Assign
-unfolding line_source
-returns-in-Assign c = ?
-
-pub returns-in-Bad : goal.returns-in-Bad
-returns-in-Bad c = rw c.in-Bad.is (unplaced _ c.if-not-recording.false c.requires)
+pub returns-else-recording : goal.returns-else-recording
+returns-else-recording c = unrecorded _ c.if-recording.false c.requires
