@@ -16,7 +16,7 @@ fed-more p q s t u bytes i h e f g =
 
 -- ---- reading in parts
 
-pub reading-none : (q : Phase) (s : State) → Reading q s s
+unfoldable pub reading-none : (q : Phase) (s : State) → Reading q s s
 unfolding steps
 reading-none q s = record { bytes = []; is = refl }
 

@@ -1,5 +1,5 @@
 -- What reading an input to its end comes to.
-use Rattle.std.specs.Prelude.{ℕ, ◌≤◌, ◌≡◌, Option, Result, Ok, List, Bool, true, false, length}
+use Rattle.std.specs.Prelude.{ℕ, ◌≤◌, ◌≡◌, Option, Result, IfOk, List, Bool, true, false, length}
 use Rattle.std.specs.Io.KnownBytes.{Consumes, IsAtEnd}
 use Rattle.input_machine.specs.Machine.{Phase, State}
 use Rattle.input_reader.specs.View.{Reading}
@@ -10,6 +10,6 @@ use Rattle.input_reader.specs.View.{Reading}
 -- it is open, and that all of them were.
 pub record Turned {E : Type 0} (known left : Option (List ℕ)) (q : Phase) (before after : State) (turns : ℕ) (more : Result Bool E) : Type 0 where
   pub reading : Reading q before after
-  pub many : more ≡ Ok true → turns ≤ length reading.bytes
+  pub many : IfOk more (λ m. m ≡ true → turns ≤ length reading.bytes)
   pub given : Consumes known left reading.bytes
-  pub all : more ≡ Ok false → IsAtEnd left
+  pub all : IfOk more (λ m. m ≡ false → IsAtEnd left)
