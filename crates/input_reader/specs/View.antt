@@ -46,8 +46,12 @@ stores_view r = record {
   entries = at r.entries.cells.now r.entries.used;
 }
 
+-- where the reading stands, and what the buffers hold
+abbrev pub state_at : Head → Reader → def.State
+state_at h r = record { head = head_view h; stores = stores_view r }
+
 abbrev pub state_view : Reader → def.State
-state_view r = record { head = head_view r.head; stores = stores_view r }
+state_view r = state_at r.head r
 
 -- the machine's start, over these buffers
 abbrev pub begun : List ℕ → List ℕ → List ℕ → List ℕ → List ℕ → def.State

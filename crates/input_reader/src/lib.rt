@@ -27,16 +27,16 @@ pub enum Phase {
     Uncounted,
 }
 
-// A line of the input, rule lines still to come, the fields of the line before this one, and of this one the bytes that were kept or the number
-// so far.
+// A line of the input, rule lines still to come, of this field the number so far, the fields of the line before it, the bytes of it that were kept,
+// and what the line holds. No padding lies between: a copy of it, at each byte, would go through memory.
 #[derive(Clone, Copy)]
 pub struct Head {
-    pub phase: Phase,
     pub line: u64,
     pub left: u32,
+    pub number: u32,
     pub index: u8,
     pub kept: u8,
-    pub number: u32,
+    pub phase: Phase,
 }
 
 // What follows the rules, where the reading stands, and the buffers; a listing's program is in the code's.
@@ -390,13 +390,11 @@ impl<'a> Reader<'a> {
         }
     }
 
-    // Keeps what the byte leaves to be kept.
-    fn keep(&mut self, b: u8)
+    // Keeps what a byte leaves to be kept where the reading stands at `h`.
+    fn keep(&mut self, h: Head, b: u8)
         ensures buffers { SameBuffers self.old self.new }
-        ensures head { self.new.head ≡ self.old.head }
-        ensures kept { stores_view self.new ≡ def.stored (stores_view self.old) (def.put_in (phase_view self.old.head.phase) (head_view self.old.head) b) }
+        ensures kept { stores_view self.new ≡ def.stored (stores_view self.old) (def.put_in (phase_view h.phase) (head_view h) b) }
     {
-        let h = self.head;
         match h.phase {
             Phase::SheetLine if is_kept(h, b) => self.sheet.push(b),
             Phase::RuleLine if is_kept(h, b) => self.rules.push(b),
@@ -408,22 +406,19 @@ impl<'a> Reader<'a> {
         }
     }
 
-    fn step(&mut self, b: u8)
-        ensures buffers { SameBuffers self.old self.new }
-        ensures stepped { state_view self.new ≡ def.step (phase_view self.old.follows) (state_view self.old) b }
-    {
-        self.keep(b);
-        self.head = next(self.follows, self.head, b);
-    }
-
-    // The next bytes of an input.
+    // The next bytes of an input. The head is a variable of the loop: behind `self` it would be stored and loaded again at each byte.
     pub fn feed(&mut self, bytes: &[u8])
         ensures buffers { SameBuffers self.old self.new }
         ensures fed { state_view self.new ≡ def.steps (phase_view self.old.follows) (state_view self.old) bytes.now }
     {
+        let follows = self.follows;
+        let mut head = self.head;
         for &b in bytes {
-            self.step(b);
+            let on = next(follows, head, b);
+            self.keep(head, b);
+            head = on;
         }
+        self.head = head;
     }
 }
 
