@@ -1,5 +1,5 @@
 -- The machine's steps, byte by byte and in parts.
-use Rattle.std.proofs.Common.{◌≡◌, refl, ap, sym, ◌∙◌, ℕ, ◌+◌, ◌<◌, suc, List, [], ◌∷◌, ◌++◌, length, take, get_or, add-one}
+use Rattle.std.proofs.Common.{◌≡◌, refl, ap, sym, ◌∙◌, ℕ, ◌+◌, ◌<◌, List, [], ◌∷◌, ◌++◌, length, take, get_or, add-one}
 use Rattle.std.proofs.Math.Seq.{take-suc}
 use Rattle.input_machine.specs.Machine.{Phase, Head, Stores, State, next, put_in, stored, step, steps}
 use Rattle.input_machine.proofs.Text.{steps-append}

@@ -1,5 +1,5 @@
 -- What this crate's types stand for in the machine.
-use Rattle.std.specs.Prelude.{ℕ, min, ◌≡◌, Bool, true, false, List, []}
+use Rattle.std.specs.Prelude.{ℕ, ◌≡◌, Bool, true, false, List, []}
 use Rattle.store.specs.Store.{at, contents}
 use Rattle.input_machine.specs.Machine as def
 use Rattle.input_reader.specs.declared.Phase.{Phase}

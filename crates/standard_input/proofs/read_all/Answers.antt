@@ -1,7 +1,6 @@
 use Rattle.std.proofs.Common.{ap, rules, arith}
 use Rattle.std.specs.Result.{is_err}
 use Rattle.std.proofs.lemmas.Result.{err_from_is_err_and}
-use Rattle.input_reader.specs.View.{phase_view}
 use Rattle.standard_input.proofs.Going.{goes-from, goes_on, ends, fails, spent}
 use Rattle.standard_input.proofs.read_all.Goals as goal
 
