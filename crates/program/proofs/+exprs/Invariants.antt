@@ -11,4 +11,4 @@ abbrev pub decreases-walk_exprs : goal.decreases-walk_exprs
 decreases-walk_exprs l = 2 * l.left + 1
 
 abbrev pub invariant-walk_exprs-loop : goal.invariant-walk_exprs-loop
-invariant-walk_exprs-loop l = Going l.n (over_expr l.heed l.left l.variables l.text) l.text l.initial.on l.on l.i
+invariant-walk_exprs-loop l = Going l.n (over_expr l.heed l.left l.variables l.text) l.text l.initial.on l.on l.counter
