@@ -10,15 +10,20 @@ use Rattle.definition.specs.Opcode.{Sheet, Role, BinaryOp, UnaryOp, CompareOp, S
 use Rattle.definition.specs.Opcode as role
 use Rattle.definition.specs.Tree.{Expr, const, bool, read, short_circuit}
 use Rattle.definition.specs.Program as def
-use Rattle.definition.specs.Program.{is, not, K, B, D, O, U, C, H, ExprLine, Reader, line_at, next_line, fault_at, expr_forms, expr_of, expr_at}
+use Rattle.definition.specs.Program.{Line, is, not, K, B, D, O, U, C, H, ExprLine, Reader, line_at, next_line, fault_at, expr_forms, expr_of, expr_at}
 use Rattle.definition.specs.Emit as emit
 use Rattle.definition.specs.Emit.{Call, bind_label, load_variable, load_constant, emit_opcode, emit_jmp, emit_jmp_if_not, reset_stack_depth, refused}
 use Rattle.definition.specs.Walk.{Calls, say}
 use Rattle.definition.specs.Walk as walk
 use Rattle.definition.specs.Expr.{emit_expr}
+use Rattle.opcode.specs.declared.ShortCircuitOp as circuit
+use Rattle.opcode.specs.View.{short_circuit_view}
+use Rattle.program_line.specs.declared.ExprLine as code
+use Rattle.program_line.specs.declared.ExprLine.TheVariants as expr-line
+use Rattle.program_line.specs.View.{expr_line}
 use Rattle.program.specs.declared.Cursor.{Cursor}
 use Rattle.program.specs.Walk.{cursor_of, Near, Skipped}
-use Rattle.program.proofs.Laws.{expr-bad, expr-is, line-there}
+use Rattle.program.proofs.Laws.{expr-bad, expr-is}
 use Rattle.emit.specs.declared.Emitter.{Emitter}
 use Rattle.emit.specs.View.{World, world, Stage, going, halted}
 use Rattle.emit.specs.Steps.{◌>->◌, run, call, Ready, Bare, Booked, Created, Coded, Filled}
@@ -198,6 +203,9 @@ module _ (s : Sheet) (h left v : ℕ) (text : List ℕ) (c : Cursor) where
         (seq-filled s _ _ (filled b)
         (said-filled s _ x₁₀))))))))))
 
--- the line is there, with a level left
-pub line-passed : (left v : ℕ) (text : List ℕ) (at : ℕ) {l : ExprLine} → is l ≡ line_at (expr_forms v) left text at → (at < length text) × (0 < left)
-line-passed left v text at {l = l} f = line-there (expr_forms v) left text at l (sym f)
+-- what a line was read as
+pub reads : {line x : code.ExprLine} {l : Line ExprLine} → is (expr_line line) ≡ l → line ≡ x → l ≡ is (expr_line x)
+reads e told = rw told at (sym e)
+
+pub reads-short : {line : code.ExprLine} {o x : circuit.ShortCircuitOp} {l : Line ExprLine} → is (expr_line line) ≡ l → line ≡ expr-line.ShortCircuit o → o ≡ x → l ≡ is (H (short_circuit_view x))
+reads-short e told op = rw (told, op) at (sym e)

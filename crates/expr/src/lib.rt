@@ -84,22 +84,77 @@ pub fn emit_expr(
             Walked { cursor, emitter }
         }
         ExprLine::Binary(o) => {
-            let two = emit_two(text, sheet, code, book, pool, variables, left - 1, h, e, cursor);
+            let two = emit_two(
+                text,
+                sheet,
+                code,
+                book,
+                pool,
+                variables,
+                left - 1,
+                h,
+                e,
+                cursor,
+            );
             operate(two, sheet, code, book, o.role())
         }
         ExprLine::Unary(o) => {
-            let one = emit_expr(text, sheet, code, book, pool, variables, left - 1, h, e, cursor);
+            let one = emit_expr(
+                text,
+                sheet,
+                code,
+                book,
+                pool,
+                variables,
+                left - 1,
+                h,
+                e,
+                cursor,
+            );
             operate(one, sheet, code, book, o.role())
         }
         ExprLine::Compare(o) => {
-            let two = emit_two(text, sheet, code, book, pool, variables, left - 1, h, e, cursor);
+            let two = emit_two(
+                text,
+                sheet,
+                code,
+                book,
+                pool,
+                variables,
+                left - 1,
+                h,
+                e,
+                cursor,
+            );
             operate(two, sheet, code, book, Role::Compare(o))
         }
         ExprLine::ShortCircuit(ShortCircuitOp::AndThen) => {
-            emit_and_then(text, sheet, code, book, pool, variables, left - 1, h, e, cursor)
+            emit_and_then(
+                text,
+                sheet,
+                code,
+                book,
+                pool,
+                variables,
+                left - 1,
+                h,
+                e,
+                cursor,
+            )
         }
         ExprLine::ShortCircuit(ShortCircuitOp::OrElse) => {
-            emit_or_else(text, sheet, code, book, pool, variables, left - 1, h, e, cursor)
+            emit_or_else(
+                text,
+                sheet,
+                code,
+                book,
+                pool,
+                variables,
+                left - 1,
+                h,
+                e,
+                cursor,
+            )
         }
     }
 }
@@ -123,9 +178,21 @@ fn emit_two(
     requires left_bound { h + left < max_height }
     ensures { WentTwo (sheet_in sheet.now) (emit_two h) left variables text.now (cursor_of c) (world e code.old book.old pool.old) (world result.emitter code.new book.new pool.new) result.cursor }
 {
-    let Walked { cursor, emitter } =
-        emit_expr(text, sheet, code, book, pool, variables, left, h, e, c);
-    emit_expr(text, sheet, code, book, pool, variables, left, h + 1, emitter, cursor)
+    let Walked { cursor, emitter } = emit_expr(
+        text, sheet, code, book, pool, variables, left, h, e, c,
+    );
+    emit_expr(
+        text,
+        sheet,
+        code,
+        book,
+        pool,
+        variables,
+        left,
+        h + 1,
+        emitter,
+        cursor,
+    )
 }
 
 // The right side is the value where the left is true; else it is false. The sides stand in another order than in OR ELSE, so one function for both would branch
@@ -150,9 +217,24 @@ fn emit_and_then(
 {
     let alternative = e.create_label(book);
     let end = alternative.emitter.create_label(book);
-    let lhs = emit_expr(text, sheet, code, book, pool, variables, left, h, end.emitter, c);
-    let e = lhs.emitter.emit_jmp_if_not(sheet, code, book, alternative.label);
-    let rhs = emit_expr(text, sheet, code, book, pool, variables, left, h, e, lhs.cursor);
+    let lhs = emit_expr(
+        text,
+        sheet,
+        code,
+        book,
+        pool,
+        variables,
+        left,
+        h,
+        end.emitter,
+        c,
+    );
+    let e = lhs
+        .emitter
+        .emit_jmp_if_not(sheet, code, book, alternative.label);
+    let rhs = emit_expr(
+        text, sheet, code, book, pool, variables, left, h, e, lhs.cursor,
+    );
     let f = rhs.emitter.emit_jmp(sheet, code, book, end.label);
     let f = f.bind_label(book, alternative.label);
     let f = f.reset_stack_depth(h);
@@ -182,13 +264,28 @@ fn emit_or_else(
 {
     let alternative = e.create_label(book);
     let end = alternative.emitter.create_label(book);
-    let lhs = emit_expr(text, sheet, code, book, pool, variables, left, h, end.emitter, c);
-    let e = lhs.emitter.emit_jmp_if_not(sheet, code, book, alternative.label);
+    let lhs = emit_expr(
+        text,
+        sheet,
+        code,
+        book,
+        pool,
+        variables,
+        left,
+        h,
+        end.emitter,
+        c,
+    );
+    let e = lhs
+        .emitter
+        .emit_jmp_if_not(sheet, code, book, alternative.label);
     let e = e.emit_opcode(sheet, code, book, Role::LoadTrue);
     let e = e.emit_jmp(sheet, code, book, end.label);
     let e = e.bind_label(book, alternative.label);
     let e = e.reset_stack_depth(h);
-    let rhs = emit_expr(text, sheet, code, book, pool, variables, left, h, e, lhs.cursor);
+    let rhs = emit_expr(
+        text, sheet, code, book, pool, variables, left, h, e, lhs.cursor,
+    );
     let emitter = rhs.emitter.bind_label(book, end.label);
     Walked { emitter, ..rhs }
 }
