@@ -8,10 +8,10 @@ ghost use Rattle.replay.specs.Case.{case_count, Replayed};
 
 use definition::{MAX_CODE, MAX_OUTCOMES};
 use replay::INPUT_ROOM;
-use slowest::Slowest;
+use slowest::Measured;
 use std::io;
 use std::io::{Read, Write};
-use text::{LISTING_ROOM, TEXT_ROOM};
+use text::{LISTING_ROOM, TEXT_ROOM, Text};
 
 // Whose answers they are. A closure in its place would make public what it stands for here, one function of this crate for each.
 #[derive(Clone, Copy)]
@@ -37,13 +37,20 @@ struct Image<'a> {
     bytes: &'a [u8],
 }
 
-// Is what is put at the start of this room, and whose length is answered, what is expected?
-fn is_told<const ROOM: usize, F: FnOnce(&mut [u8; ROOM]) -> usize>(put: F, expected: &[u8]) -> bool
-    requires { F.IsAlwaysCallable put }
-{
-    let mut out = [0u8; ROOM];
-    let n = put(&mut out);
-    out.get(..n).is_some_and(|told| told == expected)
+fn is_told(out: &[u8], used: usize, expected: &[u8]) -> bool {
+    out.get(..used).is_some_and(|told| told == expected)
+}
+
+fn is_listed(input: &[u8], expected: &[u8]) -> bool {
+    let mut out = [0u8; LISTING_ROOM];
+    let n = listing_answer::answer(input, &mut out);
+    is_told(&out, n, expected)
+}
+
+fn is_passed(input: &[u8], expected: &[u8]) -> bool {
+    let mut out = [0u8; TEXT_ROOM];
+    let n = passes_answer::answer(input, &mut out);
+    is_told(&out, n, expected)
 }
 
 fn digit(b: u8) -> u64 {
@@ -62,7 +69,7 @@ fn number(bytes: &[u8]) -> u64 {
 }
 
 // An image's three lines: the sheet, the depth, and the code's bytes; none where a line is missing.
-fn image(input: &[u8]) -> Option<Image<'_>> {
+fn read_image(input: &[u8]) -> Option<Image<'_>> {
     let first = input.iter().position(|b| *b == b'\n')?;
     let (sheet, rest) = input.split_at(first + 1);
     let second = rest.iter().position(|b| *b == b'\n')?;
@@ -91,60 +98,57 @@ fn read_code(line: &[u8], code: &mut [u8]) -> usize
 }
 
 // Number and place.
-fn put_checked(out: &mut [u8], i: Image<'_>) -> usize {
+fn is_checked(i: Image<'_>, expected: &[u8]) -> bool {
     let mut code = [0u8; CODE_ROOM];
     let n = read_code(i.bytes, &mut code);
     let (number, place) = match image_check::check_image(i.sheet, &code[..n], i.depth) {
         Ok(()) => (0, 0),
         Err(r) => (r.refusal.number(), r.place),
     };
-    text::put_refusal(out, 0, u64::from(number), place as u64)
+    let mut out = [0u8; ANSWER_ROOM];
+    let mut told = Text::new(&mut out);
+    told.put_refusal(u64::from(number), place as u64);
+    let used = told.used;
+    is_told(&out, used, expected)
 }
 
 // Number, place, is it 'loops', instructions, and the outcomes.
-fn put_measured(out: &mut [u8], i: Image<'_>) -> usize {
+fn is_measured(i: Image<'_>, expected: &[u8]) -> bool {
     let mut code = [0u8; CODE_ROOM];
     let n = read_code(i.bytes, &mut code);
     let mut outcomes = [0u8; MAX_OUTCOMES];
     let (numbers, count) = match slowest::slowest(i.sheet, &code[..n], i.depth, &mut outcomes) {
         Err(r) => ([u64::from(r.refusal.number()), r.place as u64, 0, 0], 0),
-        Ok(Slowest::Loops) => ([0, 0, 1, 0], 0),
+        Ok(Measured::Loops) => ([0, 0, 1, 0], 0),
         Ok(
-            Slowest::Run {
+            Measured::Run {
                 instructions,
                 outcomes,
             },
         ) => ([0, 0, 0, u64::from(instructions)], outcomes),
     };
-    let number = text::put_decimal(out, 0, numbers[0]);
-    let place = text::put_field(out, number, numbers[1]);
-    let loops = text::put_field(out, place, numbers[2]);
-    let instructions = text::put_field(out, loops, numbers[3]);
-    text::put_bytes(out, instructions, &outcomes[..count.min(MAX_OUTCOMES)])
+    let mut out = [0u8; MEASURED_ROOM];
+    let mut told = Text::new(&mut out);
+    told.put_decimal(numbers[0]);
+    told.put_field(numbers[1]);
+    told.put_field(numbers[2]);
+    told.put_field(numbers[3]);
+    told.put_fields(&outcomes[..count.min(MAX_OUTCOMES)]);
+    let used = told.used;
+    is_told(&out, used, expected)
 }
 
 fn is_answered(asked: Asked, input: &[u8], expected: &[u8]) -> bool {
     match asked {
-        Asked::Listing => is_told(
-            |out: &mut [u8; LISTING_ROOM]| listing_answer::answer(input, out),
-            expected,
-        ),
-        Asked::Passes => is_told(
-            |out: &mut [u8; TEXT_ROOM]| passes_answer::answer(input, out),
-            expected,
-        ),
-        Asked::Images => image(input).is_some_and(|i| is_told(
-            |out: &mut [u8; ANSWER_ROOM]| put_checked(out, i),
-            expected,
-        )),
-        Asked::Slowest => image(input).is_some_and(|i| is_told(
-            |out: &mut [u8; MEASURED_ROOM]| put_measured(out, i),
-            expected,
-        )),
+        Asked::Listing => is_listed(input, expected),
+        Asked::Passes => is_passed(input, expected),
+        Asked::Images => read_image(input).is_some_and(|i| is_checked(i, expected)),
+        Asked::Slowest => read_image(input).is_some_and(|i| is_measured(i, expected)),
     }
 }
 
 // How many cases there were is answered; which of them differ is printed. An error is the writer's.
+#[tactic(auto, unfolding(replay::specs::Case::missing))]
 pub fn replay_all<W: Write>(out: &mut W, asked: Asked, input: &[u8]) -> io::Result<u64>
     ensures { IfOk result (λ n. n ≡ case_count input.now) }
 {

@@ -9,7 +9,7 @@ use definition::{ENTRY_SIZE, MAX_CODE, MAX_CONSTANTS, MAX_LINES, Refused};
 use replay::{print, read_full};
 use std::io;
 use std::io::Write;
-use text::TEXT_ROOM;
+use text::{TEXT_ROOM, Text};
 
 // More than the list takes: a case that was cut off would differ.
 const INPUT_ROOM: usize = 65536;
@@ -141,32 +141,7 @@ fn read_line<'a>(c: &mut Case<'a>, line: &'a [u8], text: &mut [u8]) {
 
 // ---- answering
 
-fn put_constants(out: &mut [u8], used: usize, constants: &[u32]) -> usize {
-    let mut behind = used;
-    for k in constants {
-        let start = store::push(out, behind, b'k');
-        behind = text::put_last(out, start, u64::from(*k));
-    }
-    behind
-}
-
 // `number,place,depth`, then a line of the code's bytes, one for each constant and one for each line entry.
-fn put_answer(
-    out: &mut [u8],
-    numbers: [u64; 3],
-    code: &[u8],
-    constants: &[u32],
-    lines: &[u16],
-) -> usize {
-    let one = text::put_decimal(out, 0, numbers[0]);
-    let two = text::put_field(out, one, numbers[1]);
-    let three = text::put_last(out, two, numbers[2]);
-    let four = store::push(out, three, b'c');
-    let five = text::put_bytes(out, four, code);
-    let six = put_constants(out, five, constants);
-    text::put_entries(out, six, lines)
-}
-
 fn is_told(
     numbers: [u64; 3],
     code: &[u8],
@@ -175,7 +150,18 @@ fn is_told(
     expected: &[u8],
 ) -> bool {
     let mut out = [0u8; TEXT_ROOM];
-    let used = put_answer(&mut out, numbers, code, constants, lines);
+    let mut told = Text::new(&mut out);
+    told.put_decimal(numbers[0]);
+    told.put_field(numbers[1]);
+    told.put_last(numbers[2]);
+    told.push(b'c');
+    told.put_fields(code);
+    for k in constants {
+        told.push(b'k');
+        told.put_last(u64::from(*k));
+    }
+    told.put_entries(lines);
+    let used = told.used;
     out.get(..used).is_some_and(|told| told == expected)
 }
 
@@ -264,9 +250,10 @@ fn replay<W: Write>(out: &mut W, input: &[u8], text: &mut [u8]) -> io::Result<()
     let mut c = Case::named(None);
     for line in input.split(|b| *b == b'\n') {
         if line.first() == Some(&b'.') {
-            cases += 1;
+            // Wrapping, which they never do: no fact says how many parts a split has.
+            cases = cases.wrapping_add(1);
             if !is_passed(c, text) {
-                differ += 1;
+                differ = differ.wrapping_add(1);
                 print_name(out, c.name)?;
             }
         }
