@@ -22,11 +22,9 @@ use Rattle.rewrite.proofs.Decoding.{first}
 use Rattle.image_check.specs.View.{flagged, Marking, Image}
 
 flag-set : (flags : List ℕ) (at q : ℕ) → at < length flags → q ≡ at → flagged (set flags at 1) q ≡ true
-unfolding flagged
 flag-set flags at q lt e = ap (λ x. not (eqb x 0)) (ap (λ y. get_or (set flags at 1) y 0) e ∙ get_or-set_same flags at 1 0 lt) ∙ ap not (ne_eqb 1 0 (λ k. omega arith))
 
 flag-other : (flags : List ℕ) (at q : ℕ) → (q ≡ at → ⊥) → flagged (set flags at 1) q ≡ flagged flags q
-unfolding flagged
 flag-other flags at q n = ap (λ x. not (eqb x 0)) (get_or-set_other flags at q 1 0 n)
 
 module _ (sheet code : List ℕ) (table : IsTable sheet) (small : length code ≤ max_code) where
@@ -37,12 +35,12 @@ module _ (sheet code : List ℕ) (table : IsTable sheet) (small : length code �
   rest at = decode s (drop at code)
 
   pub mark-begins : (flags : List ℕ) → Clear (length code) flags → Marking sheet code flags 0
-  unfolding flagged starts
+  unfolding starts
   mark-begins flags c = record { room = c.slots; within = zero-le; known = λ q. sym (ap (λ x. not (eqb x 0) || has (starts s code) q) (c.none q) ∙ ap (λ b. not b || has (starts s code) q) (eq-eqb 0 0 refl)) }
 
   -- nothing is to come
   marked : (flags : List ℕ) (at : ℕ) → Marking sheet code flags at → up_to_unlisted s (rest at) ≡ [] → Image sheet code flags
-  unfolding flagged starts_from has
+  unfolding starts_from has
   marked flags at m e = record {
     table = table;
     small = small;

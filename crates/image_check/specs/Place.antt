@@ -6,7 +6,7 @@ use Rattle.definition.specs.Opcode.{Role, Sheet, role_of, size, needs, same, eff
 use Rattle.definition.specs.Check.{exits}
 use Rattle.image_check.specs.Graph.{Node}
 
-unfoldable pub halts : Flow → Bool
+abbrev pub halts : Flow → Bool
 halts onward = false
 halts away = false
 halts either = false
