@@ -9,12 +9,11 @@ ghost use Rattle.definition.specs.CompileExpr.{emit_classified_cmp_br};
 ghost use Rattle.opcode.specs.View.{compare_view, role_view};
 ghost use Rattle.opcode.specs.Table.{sheet_in};
 ghost use Rattle.program_shape.specs.Shape.{cmp_view};
-ghost use Rattle.emit.specs.Book.{book_size};
 ghost use Rattle.emit.specs.View.{world};
 ghost use Rattle.emit.specs.Steps.{run, call, Fine, Ready, Coded, Filled};
 ghost use Rattle.compile_expr.specs.Branching.{branching_on};
 
-use emit::{Constant, Emitter, Label};
+use emit::{Book, Emitter, Label, Pool};
 use opcode::{CompareOp, Role};
 use program_shape::ClassifiedCmp;
 
@@ -30,8 +29,8 @@ pub fn emit_classified_cmp_br(
     e: Emitter,
     sheet: &[u8],
     code: &mut [u8],
-    book: &mut [u16],
-    pool: &mut [Constant],
+    book: &mut Book,
+    pool: &mut Pool,
     classified: ClassifiedCmp,
     on: bool,
     target: Label,
@@ -50,12 +49,11 @@ pub fn emit_load_var(
     e: Emitter,
     sheet: &[u8],
     code: &mut [u8],
-    book: &mut [u16],
+    book: &mut Book,
     variable: u16,
 ) -> Emitter
     requires fine { Fine e }
     requires code_len { length code.old ≡ max_code }
-    requires book_len { length book.old ≡ book_size }
     ensures { Coded (call (sheet_in sheet.now) (load_variable variable)) e code.old book.old result code.new book.new }
 {
     let loaded = e.load_variable(sheet, code, book, variable);
@@ -67,28 +65,20 @@ pub fn emit_store_var(
     e: Emitter,
     sheet: &[u8],
     code: &mut [u8],
-    book: &mut [u16],
+    book: &mut Book,
     variable: u16,
 ) -> Emitter
     requires fine { Fine e }
     requires code_len { length code.old ≡ max_code }
-    requires book_len { length book.old ≡ book_size }
     ensures { Coded (call (sheet_in sheet.now) (store_variable variable)) e code.old book.old result code.new book.new }
 {
     e.store_variable(sheet, code, book, variable)
 }
 
 // An operation of one byte, its type in its role: the source's `emit_add`, `emit_eq` and the like.
-pub fn emit_typed(
-    e: Emitter,
-    sheet: &[u8],
-    code: &mut [u8],
-    book: &mut [u16],
-    role: Role,
-) -> Emitter
+pub fn emit_typed(e: Emitter, sheet: &[u8], code: &mut [u8], book: &mut Book, role: Role) -> Emitter
     requires fine { Fine e }
     requires code_len { length code.old ≡ max_code }
-    requires book_len { length book.old ≡ book_size }
     ensures { Coded (call (sheet_in sheet.now) (emit_opcode (role_view role))) e code.old book.old result code.new book.new }
 {
     e.emit_opcode(sheet, code, book, role)

@@ -5,11 +5,11 @@ ghost use Rattle.definition.specs.Limits.{max_labels, max_branches, max_lines, e
 ghost use Rattle.definition.specs.Compile.{bound_or0};
 ghost use Rattle.definition.specs.Lent.{one_entry, entry_in, entries_of};
 ghost use Rattle.line_map.specs.View.{entry_view};
-ghost use Rattle.emit.specs.Book.{label_size, patch_size, label_base, patch_base, line_base, book_size, label_in, patch_numbers, patch_in, row, lines_in};
+ghost use Rattle.emit.specs.Book.{label_size, patch_size, label_base, patch_base, line_base, label_in, patch_numbers, patch_in, row, lines_in};
 ghost use Rattle.emit.specs.View.{patch_view};
 
-use crate::Label;
 use crate::patch::PendingPatch;
+use crate::{Book, Label};
 use definition::{ENTRY_SIZE, MAX_BRANCHES, MAX_LABELS, MAX_LINES};
 use line_map::LineEntry;
 
@@ -28,8 +28,7 @@ const LINE_BASE: usize = PATCH_BASE + PATCH_SIZE * MAX_BRANCHES;
 pub const BOOK_SIZE: usize = LINE_BASE + ENTRY_SIZE * MAX_LINES;
 
 // Label n: bound (1) or not (0), and its place.
-pub fn put_label(book: &mut [u16], n: usize, bound: u16, place: u16)
-    requires book_len { length book.old ≡ book_size }
+pub fn put_label(book: &mut Book, n: usize, bound: u16, place: u16)
     requires n_lt_max_labels { n < max_labels }
     ensures { book.new ≡ sets book.old (label_base + label_size * n) (bound ∷ place ∷ []) }
 {
@@ -39,8 +38,7 @@ pub fn put_label(book: &mut [u16], n: usize, bound: u16, place: u16)
 }
 
 // Where label n is bound; 0 where it is not.
-pub fn label_place(book: &[u16], n: usize) -> usize
-    requires book_len { length book.now ≡ book_size }
+pub fn label_place(book: &Book, n: usize) -> usize
     requires n_lt_max_labels { n < max_labels }
     ensures { result ≡ bound_or0 (label_in (row label_base label_size book.now n)) }
 {
@@ -51,8 +49,7 @@ pub fn label_place(book: &[u16], n: usize) -> usize
     numbers::wide(book[at + 1])
 }
 
-pub fn put_patch(book: &mut [u16], n: usize, patch: PendingPatch)
-    requires book_len { length book.old ≡ book_size }
+pub fn put_patch(book: &mut Book, n: usize, patch: PendingPatch)
     requires n_lt_max_branches { n < max_branches }
     ensures { book.new ≡ sets book.old (patch_base + patch_size * n) (patch_numbers (patch_view patch)) }
 {
@@ -64,8 +61,7 @@ pub fn put_patch(book: &mut [u16], n: usize, patch: PendingPatch)
 }
 
 // The n-th patch, in the order of emission.
-pub fn patch_at(book: &[u16], n: usize) -> PendingPatch
-    requires book_len { length book.now ≡ book_size }
+pub fn patch_at(book: &Book, n: usize) -> PendingPatch
     requires n_lt_max_branches { n < max_branches }
     ensures { patch_view result ≡ patch_in (row patch_base patch_size book.now n) }
 {
@@ -80,8 +76,7 @@ pub fn patch_at(book: &[u16], n: usize) -> PendingPatch
     }
 }
 
-pub fn put_line(book: &mut [u16], n: usize, entry: LineEntry)
-    requires book_len { length book.old ≡ book_size }
+pub fn put_line(book: &mut Book, n: usize, entry: LineEntry)
     requires n_lt_max_lines { n < max_lines }
     ensures { book.new ≡ sets book.old (line_base + entry_size * n) (one_entry (entry_view entry)) }
 {
@@ -89,8 +84,7 @@ pub fn put_line(book: &mut [u16], n: usize, entry: LineEntry)
 }
 
 // The n-th line entry, in the order of emission.
-pub fn line_at(book: &[u16], n: usize) -> LineEntry
-    requires book_len { length book.now ≡ book_size }
+pub fn line_at(book: &Book, n: usize) -> LineEntry
     requires n_lt_max_lines { n < max_lines }
     ensures { entry_view result ≡ entry_in (row line_base entry_size book.now n) }
 {
@@ -98,8 +92,7 @@ pub fn line_at(book: &[u16], n: usize) -> LineEntry
 }
 
 // The numbers of the first n line entries, where they lie.
-pub fn emitted_lines<'a>(book: &'a [u16], n: usize) -> &'a [u16]
-    requires book_len { length book.now ≡ book_size }
+pub fn emitted_lines<'a>(book: &'a Book, n: usize) -> &'a [u16]
     requires n_le_max_lines { n ≤ max_lines }
     ensures result_value { entries_of result.now ≡ lines_in book.now n }
     ensures result_len { length result.now ≡ entry_size * n }

@@ -13,13 +13,14 @@ ghost use Rattle.definition.specs.Compile.{bound_label};
 ghost use Rattle.opcode.specs.View.{role_view, compare_view};
 ghost use Rattle.opcode.specs.Table.{sheet_in};
 ghost use Rattle.line_map.specs.View.{pos_view};
-ghost use Rattle.emit.specs.Book.{book_size, labels_in, lines_in};
+ghost use Rattle.emit.specs.Book.{labels_in, lines_in};
 ghost use Rattle.emit.specs.Pool.{Held};
 ghost use Rattle.emit.specs.View.{world, patch_view};
 ghost use Rattle.emit.specs.Steps.{once, call, LastAt, Fine, Ready, Bare, Booked, Created, Pooled, Coded, Filled, Begun};
 ghost use Rattle.emit.specs.Load.{Loads};
 ghost use Rattle.emit.specs.Parts.{altered, readied, Noted, Prepared, Written, Branched, Put, Added, cmp_operand, patching};
 
+use crate::book::BOOK_SIZE;
 use crate::load::{LoadForm, Loaded};
 use crate::patch::PendingPatch;
 use definition::{
@@ -40,6 +41,12 @@ pub type Constant = u32;
 
 // Elements of a pool: the constants, and a table that finds them.
 pub const POOL_SIZE: usize = pool::SIZE;
+
+// A pool as it is lent.
+pub type Pool = [Constant; POOL_SIZE];
+
+// A book as it is lent: labels, patches and line entries (book.rt).
+pub type Book = [u16; BOOK_SIZE];
 
 // Bytes of a store, which a load may fold into.
 const STORE_SIZE: usize = 3;
@@ -175,9 +182,8 @@ impl Emitter {
 
 impl Emitter {
     // A label more, not bound yet (11). Its number is the count before, refused or not.
-    pub fn create_label(self, book: &mut [u16]) -> NewLabel
+    pub fn create_label(self, book: &mut Book) -> NewLabel
         requires fine { Fine self }
-        requires book_len { length book.old ≡ book_size }
         ensures { Created self book.old result.emitter book.new result.label.0 }
     {
         let n = self.labels;
@@ -204,9 +210,8 @@ impl Emitter {
     }
 
     // The label is bound to the end of the code, and no load folds across it. One that was never created is bound nowhere.
-    pub fn bind_label(self, book: &mut [u16], label: Label) -> Emitter
+    pub fn bind_label(self, book: &mut Book, label: Label) -> Emitter
         requires fine { Fine self }
-        requires book_len { length book.old ≡ book_size }
         ensures { Booked (bind_label label.0) self book.old result book.new }
     {
         if self.refused != 0 {
@@ -222,9 +227,8 @@ impl Emitter {
     }
 
     // Where a label is bound; 0 where it is not (`bound_label`).
-    pub fn bound_label(self, book: &[u16], label: Label) -> usize
+    pub fn bound_label(self, book: &Book, label: Label) -> usize
         requires fine { Fine self }
-        requires book_len { length book.now ≡ book_size }
         ensures { result ≡ bound_label (labels_in book.now self.labels) label.0 }
     {
         let n = numbers::wide(label.0);
@@ -239,9 +243,8 @@ impl Emitter {
 
 impl Emitter {
     // Is the last line entry of the position?
-    fn stands_here(self, book: &[u16]) -> bool
+    fn stands_here(self, book: &Book) -> bool
         requires fine { Fine self }
-        requires book_len { length book.now ≡ book_size }
         ensures { result ≡ stands_at (pos_view self.position) (last_entry (lines_in book.now self.lines)) }
     {
         if self.lines == 0 {
@@ -255,9 +258,8 @@ impl Emitter {
 
     // Room for an instruction of so many bytes (10), and its line entry unless the last one is of this position (`record_position_for_next_opcode`, 12). What
     // changes is given back without the emitter, which would be copied for every instruction.
-    fn note(self, book: &mut [u16], bytes: usize) -> Note
+    fn note(self, book: &mut Book, bytes: usize) -> Note
         requires fine { Fine self }
-        requires book_len { length book.old ≡ book_size }
         requires bytes_le_max_code { bytes ≤ max_code }
         ensures { Prepared bytes self book.old (readied self result.refused result.lines) book.new }
     {
@@ -300,9 +302,8 @@ impl Emitter {
     }
 
     // An instruction of so many bytes is about to be added (10, 12).
-    fn prepare(self, book: &mut [u16], bytes: usize) -> Emitter
+    fn prepare(self, book: &mut Book, bytes: usize) -> Emitter
         requires fine { Fine self }
-        requires book_len { length book.old ≡ book_size }
         requires bytes_le_max_code { bytes ≤ max_code }
         ensures { Prepared bytes self book.old result book.new }
     {
@@ -328,10 +329,9 @@ impl Emitter {
         self.with(self.size + bytes, last, depth, deepest)
     }
 
-    fn add_plain(self, sheet: &[u8], code: &mut [u8], book: &mut [u16], role: Role) -> Emitter
+    fn add_plain(self, sheet: &[u8], code: &mut [u8], book: &mut Book, role: Role) -> Emitter
         requires fine { Fine self }
         requires code_len { length code.old ≡ max_code }
-        requires book_len { length book.old ≡ book_size }
         ensures { Added (sheet_in sheet.now) (role_view role) [] Last.Other self code.old book.old result code.new book.new }
     {
         let e = self.prepare(book, 1);
@@ -361,14 +361,13 @@ impl Emitter {
         self,
         sheet: &[u8],
         code: &mut [u8],
-        book: &mut [u16],
+        book: &mut Book,
         role: Role,
         x: u16,
         last: Last,
     ) -> Emitter
         requires fine { Fine self }
         requires code_len { length code.old ≡ max_code }
-        requires book_len { length book.old ≡ book_size }
         ensures { Added (sheet_in sheet.now) (role_view role) (le16 x) last self code.old book.old result code.new book.new }
     {
         let e = self.prepare(book, 3);
@@ -392,10 +391,9 @@ impl Emitter {
     }
 
     // An instruction of one byte.
-    pub fn emit_opcode(self, sheet: &[u8], code: &mut [u8], book: &mut [u16], role: Role) -> Emitter
+    pub fn emit_opcode(self, sheet: &[u8], code: &mut [u8], book: &mut Book, role: Role) -> Emitter
         requires fine { Fine self }
         requires code_len { length code.old ≡ max_code }
-        requires book_len { length book.old ≡ book_size }
         ensures { Coded (call (sheet_in sheet.now) (emit_opcode (role_view role))) self code.old book.old result code.new book.new }
     {
         self.add_plain(sheet, code, book, role)
@@ -425,10 +423,9 @@ impl Emitter {
     }
 
     // `emit_load_with_dup_check`: a load, a DUP of the last load, or a DUP before the last store.
-    pub fn load_variable(self, sheet: &[u8], code: &mut [u8], book: &mut [u16], v: u16) -> Loaded
+    pub fn load_variable(self, sheet: &[u8], code: &mut [u8], book: &mut Book, v: u16) -> Loaded
         requires fine { Fine self }
         requires code_len { length code.old ≡ max_code }
-        requires book_len { length book.old ≡ book_size }
         ensures { Loads (sheet_in sheet.now) v self code.old book.old result code.new book.new }
     {
         let size = self.size;
@@ -451,10 +448,9 @@ impl Emitter {
     }
 
     // `emit_store_with_tracking`: a store that the next load may fold into.
-    pub fn store_variable(self, sheet: &[u8], code: &mut [u8], book: &mut [u16], v: u16) -> Emitter
+    pub fn store_variable(self, sheet: &[u8], code: &mut [u8], book: &mut Book, v: u16) -> Emitter
         requires fine { Fine self }
         requires code_len { length code.old ≡ max_code }
-        requires book_len { length book.old ≡ book_size }
         ensures { Coded (call (sheet_in sheet.now) (store_variable v)) self code.old book.old result code.new book.new }
     {
         self.add_u16(sheet, code, book, Role::StoreVar, v, Last::Stored(v))
@@ -466,7 +462,7 @@ impl Emitter {
 impl Emitter {
     // A constant that enters the pool before the instruction that names it. Equal ones share an index, new ones stand behind the others (`intern_i32_constant`):
     // its index is at most the count, so 13 is met by a new one where there is no room.
-    pub fn add_constant(self, pool: &mut [Constant], k: Constant) -> Emitter
+    pub fn add_constant(self, pool: &mut Pool, k: Constant) -> Emitter
         requires fine { Fine self }
         requires held { Held pool.old }
         ensures { Pooled (add_constant k) self pool.old result pool.new }
@@ -487,8 +483,8 @@ impl Emitter {
         self,
         sheet: &[u8],
         code: &mut [u8],
-        book: &mut [u16],
-        pool: &mut [Constant],
+        book: &mut Book,
+        pool: &mut Pool,
         k: Constant,
     ) -> Emitter
         requires { Ready (world self code.old book.old pool.old) }
@@ -517,9 +513,8 @@ impl Emitter {
 
 impl Emitter {
     // A patch more.
-    fn add_patch(self, book: &mut [u16], patch: PendingPatch) -> Emitter
+    fn add_patch(self, book: &mut Book, patch: PendingPatch) -> Emitter
         requires fine { Fine self }
-        requires book_len { length book.old ≡ book_size }
         requires branched { Branched self }
         ensures { Noted (once (patching (patch_view patch))) self book.old result book.new }
     {
@@ -538,13 +533,12 @@ impl Emitter {
         self,
         sheet: &[u8],
         code: &mut [u8],
-        book: &mut [u16],
+        book: &mut Book,
         role: Role,
         patch: PendingPatch,
     ) -> Emitter
         requires fine { Fine self }
         requires code_len { length code.old ≡ max_code }
-        requires book_len { length book.old ≡ book_size }
         requires instruction_offset_value { patch.instruction_offset ≡ self.size }
         ensures { Coded (once (branch (sheet_in sheet.now) (role_view role) [] patch.operand_delta patch.label.0)) self code.old book.old result code.new book.new }
     {
@@ -552,10 +546,9 @@ impl Emitter {
         e.add_patch(book, patch)
     }
 
-    pub fn emit_jmp(self, sheet: &[u8], code: &mut [u8], book: &mut [u16], label: Label) -> Emitter
+    pub fn emit_jmp(self, sheet: &[u8], code: &mut [u8], book: &mut Book, label: Label) -> Emitter
         requires fine { Fine self }
         requires code_len { length code.old ≡ max_code }
-        requires book_len { length book.old ≡ book_size }
         ensures { Coded (call (sheet_in sheet.now) (emit_jmp label.0)) self code.old book.old result code.new book.new }
     {
         let patch = PendingPatch::jmp(numbers::narrow(self.size), label);
@@ -566,12 +559,11 @@ impl Emitter {
         self,
         sheet: &[u8],
         code: &mut [u8],
-        book: &mut [u16],
+        book: &mut Book,
         label: Label,
     ) -> Emitter
         requires fine { Fine self }
         requires code_len { length code.old ≡ max_code }
-        requires book_len { length book.old ≡ book_size }
         ensures { Coded (call (sheet_in sheet.now) (emit_jmp_if_not label.0)) self code.old book.old result code.new book.new }
     {
         let patch = PendingPatch::jmp_if_not(numbers::narrow(self.size), label);
@@ -583,8 +575,8 @@ impl Emitter {
         self,
         sheet: &[u8],
         code: &mut [u8],
-        book: &mut [u16],
-        pool: &mut [Constant],
+        book: &mut Book,
+        pool: &mut Pool,
         op: CompareOp,
         v: u16,
         k: Constant,

@@ -2,9 +2,9 @@
 ghost use Rattle.std.specs.Prelude.{◌≡◌, ◌≤◌, ◌<◌, length, take};
 ghost use Rattle.definition.specs.Limits.{max_constants};
 ghost use Rattle.definition.specs.Emit.{index_of};
-ghost use Rattle.emit.specs.Pool.{pool_size, bucket_of, covers, nearer, Chained, Held, Appended, Keeps};
+ghost use Rattle.emit.specs.Pool.{bucket_count, bucket_of, covers, nearer, Chained, Held, Appended, Keeps};
 
-use crate::Constant;
+use crate::{Constant, Pool};
 use definition::MAX_CONSTANTS;
 
 // Buckets: a prime, so that constants at regular distances fall into different ones.
@@ -22,14 +22,14 @@ const STALE_AT: usize = COUNT_AT + 1;
 pub const SIZE: usize = STALE_AT + 1;
 
 fn bucket(k: Constant) -> usize
-    ensures { result ≡ bucket_of k }
+    ensures value { result ≡ bucket_of k }
+    ensures below { result < bucket_count }
 {
     numbers::wide_word(k) % BUCKETS
 }
 
 // Is the table that of the first n constants?
-fn covers(pool: &[Constant], n: usize) -> bool
-    requires { length pool.now ≡ pool_size }
+fn covers(pool: &Pool, n: usize) -> bool
     ensures { result ≡ covers pool.now n }
 {
     if pool[STALE_AT] != 0 {
@@ -39,7 +39,7 @@ fn covers(pool: &[Constant], n: usize) -> bool
 }
 
 // Where a constant stands first among the first n, one by one.
-fn scan(pool: &[Constant], n: usize, k: Constant) -> usize
+fn scan(pool: &Pool, n: usize, k: Constant) -> usize
     requires { n ≤ length pool.now }
     ensures value { result ≡ index_of k (take n pool.now) }
     ensures upper_bound { result ≤ n }
@@ -62,8 +62,7 @@ fn nearer(x: Constant, k: Constant, i: usize, found: usize) -> usize
 }
 
 // The same along its bucket, from the last to the first.
-fn search(pool: &[Constant], n: usize, k: Constant) -> usize
-    requires pool_len { length pool.now ≡ pool_size }
+fn search(pool: &Pool, n: usize, k: Constant) -> usize
     requires chained { Chained pool.now n }
     ensures value { result ≡ index_of k (take n pool.now) }
     ensures upper_bound { result ≤ n }
@@ -79,7 +78,7 @@ fn search(pool: &[Constant], n: usize, k: Constant) -> usize
 }
 
 // Where a constant stands first among the first n of the pool; n where it stands nowhere.
-pub fn index_of(pool: &[Constant], n: usize, k: Constant) -> usize
+pub fn index_of(pool: &Pool, n: usize, k: Constant) -> usize
     requires held { Held pool.now }
     requires n_le_max_constants { n ≤ max_constants }
     ensures value { result ≡ index_of k (take n pool.now) }
@@ -93,7 +92,7 @@ pub fn index_of(pool: &[Constant], n: usize, k: Constant) -> usize
 }
 
 // Constant n, into the pool and into its table. A table of other constants goes out of use.
-pub fn append(pool: &mut [Constant], n: usize, k: Constant)
+pub fn append(pool: &mut Pool, n: usize, k: Constant)
     requires held { Held pool.old }
     requires n_lt_max_constants { n < max_constants }
     ensures { Appended n k pool.old pool.new }
@@ -112,7 +111,7 @@ pub fn append(pool: &mut [Constant], n: usize, k: Constant)
 }
 
 // How many constants there are once this one, whose place was found, is kept: it is appended if it is new.
-pub fn keep(pool: &mut [Constant], n: usize, i: usize, k: Constant) -> usize
+pub fn keep(pool: &mut Pool, n: usize, i: usize, k: Constant) -> usize
     requires held { Held pool.old }
     requires i_lt_max_constants { i < max_constants }
     ensures { Keeps n i k pool.old result pool.new }

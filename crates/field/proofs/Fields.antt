@@ -8,20 +8,21 @@ use native.Mathlib.Decide.{dec_lt, ℕ_discrete}
 use native.Mathlib.Omega.{arith}
 use borrow.Author.Tests.{eqb-true, eqb-false, lt-ltb, le-ltb, ne_eqb}
 use lib.Dec.{eqb, ltb}
-use lib.ListN.{length, get_or, drop, length-drop}
-use lib.Seq.{drop-drop, get_or-drop}
+use lib.ListN.{length, get_or, drop, length-drop, drop_of_length-le}
+use lib.Seq.{drop-cons, drop-drop, get_or-drop}
+use mir.Val.{bool_byte}
 use Rattle.definition.specs.Field as def
-use Rattle.definition.specs.Field.{lf, comma, minus, onto, split, first_line, natural_within, negative, field, up_to, below, value}
-use Rattle.field.specs.View.{cap, is_digit, count, spelt, signs, past, decided, Capped, until, separates, first_field, Sums, Stops, Counts, Reads, line_end, line_fields, separator}
+use Rattle.definition.specs.Field.{lf, comma, minus, onto, split, first_line, natural, natural_within, negative, field, up_to, below, value}
+use Rattle.field.specs.View.{cap, is_digit, count, capped, spelt, signs, past, decided, Passes, Capped, until, separates, first_field, Sums, Stops, Counts, Reads, line_end, line_fields, separator}
 use Rattle.field.proofs.Lists.{first-left, there, no_bytes}
 use Rattle.field.proofs.Numbers.{digit_low, count-digit, count-other, natural-some, natural-none, up-to-is, below-is, value-plain, value-minus}
 use Rattle.field.proofs.Results.{never}
-use Rattle.field.proofs.Parts.{finds-start, finds-next, finds-rest, until-next, until-here, until_end, until-first, split-sep, split-other, Some, some-part, split-some}
+use Rattle.field.proofs.Parts.{finds-start, finds-next, finds-rest, until-never, until-next, until-here, until_end, until-first, split-sep, split-other, Some, some-part, split-some}
 
 -- ---- the digits of a field, byte by byte
 
-digit-inside : (b : ℕ) → true ≡ is_digit b → separates b ≡ false
-digit-inside b e = rw (ne_eqb b comma (λ c. omega (arith, digit_low b e)), ne_eqb b lf (λ c. omega (arith, digit_low b e)))
+pub digits-pass : Passes separates
+digits-pass b e = rw (ne_eqb b comma (λ c. omega (arith, digit_low b e)), ne_eqb b lf (λ c. omega (arith, digit_low b e)))
 
 -- no digit is no number, whatever its first byte
 by_first : (b n : ℕ) (bs : List ℕ) → (0 < length bs → b ≡ get_or bs 0 0) → spelt b (length bs) n ≡ spelt (get_or bs 0 0) (length bs) n
@@ -29,18 +30,15 @@ unfolding spelt
 by_first b n [] h = refl
 by_first b n (c ∷ bs) h = ap (λ (k : ℕ). spelt k (length (c ∷ bs)) n) (h (omega arith))
 
-pub sums-start : (text : List ℕ) (at : ℕ) → Sums text at 0 at
-sums-start text at = record { finding = finds-start separates text at; makes = refl }
+pub sums_next : {stops : ℕ → Bool} {text : List ℕ} {at n i : ℕ} → Sums stops text at n i → Passes stops → i < length text → true ≡ is_digit (get_or text i 0) → {m : ℕ} → m ≡ min (n * 10 + (get_or text i 0 - 48)) cap → Sums stops text at m (i + 1)
+sums_next {stops} {text} {at} {n} {i} s p h e q =
+    let goes : stops (get_or text i 0) ≡ false = sym (p _ e) in
+    record {
+      finding = finds-next s.finding h goes;
+      makes = rw q (s.makes ∙ ap (count n) (until-next stops text i h goes) ∙ count-digit n _ _ e);
+    }
 
-module _ {text : List ℕ} {at n i : ℕ} (s : Sums text at n i) where
-  pub sums_next : i < length text → true ≡ is_digit (get_or text i 0) → {m : ℕ} → m ≡ min (n * 10 + (get_or text i 0 - 48)) cap → Sums text at m (i + 1)
-  sums_next h e q =
-      let goes = digit-inside (get_or text i 0) e in
-      record {
-        finding = finds-next s.finding h goes;
-        makes = rw q (s.makes ∙ ap (count n) (until-next separates text i h goes) ∙ count-digit n _ _ e);
-      }
-
+module _ {text : List ℕ} {at n i : ℕ} (s : Sums separates text at n i) where
   -- where they end the field does, or it is malformed
   module _ {end stop : ℕ} (e : Stops text i end stop) where
     ends_there : Stops text at end stop
@@ -61,6 +59,21 @@ module _ {text : List ℕ} {at n i : ℕ} (s : Sums text at n i) where
         go (no l) b q = absurd (h (omega (arith, e.ends.is, ap length (until_end separates text i (omega arith)))))
         go (yes l) true q = absurd (h (omega (arith, e.ends.is, ap length (until-here separates text i l q))))
         go (yes l) false q = ap (count n) (until-next separates text i l q) ∙ count-other n _ _ d
+
+-- and where they are all of the bytes
+module _ {text : List ℕ} {n i : ℕ} (s : Sums (λ _. false) text 0 n i) where
+  all-counted : count 0 text ≡ count n (drop i text)
+  all-counted = rw (until-never text, until-never (drop i text)) at s.makes
+
+  pub sums-all : length text ≤ i → {o : Option ℕ} → o ≡ spelt (get_or text 0 0) (i - 0) n → o ≡ capped (natural text)
+  unfolding count
+  sums-all h q =
+      let none_left : drop i text ≡ [] = drop_of_length-le text h in
+      let long : i - 0 ≡ length text = omega (arith, s.finding.high) in
+      q ∙ ap (λ (k : ℕ). spelt (get_or text 0 0) k n) long ∙ natural-some text (all-counted ∙ ap (count n) none_left)
+
+  pub sums-other : i < length text → false ≡ is_digit (get_or text i 0) → none ≡ capped (natural text)
+  sums-other h d = natural-none text (all-counted ∙ ap (count n) (drop-cons text i 0 h) ∙ count-other n _ _ d)
 
 -- ---- what a field holds, from its number
 module _ {text : List ℕ} {at end stop : ℕ} {o : Option ℕ} {x : def.Read} where
@@ -98,12 +111,18 @@ module _ {text : List ℕ} {at end stop : ℕ} {o : Option ℕ} {x : def.Read} w
   pub reads-next : (f : def.Field) {s : Bool} {from : ℕ} → s ≡ signs f (get_or text at 0) → from ≡ past s at → Counts text from o end stop → Capped f → x ≡ decided f s o → Reads f text at x end stop
   reads-next f h q c low e = reads-by f (rw (← h, ← q) c) low (rw (← h) e)
 
+pub past-is : (s : Bool) (at : ℕ) → at + bool_byte s ≡ past s at
+unfolding past
+past-is true at = refl
+past-is false at = omega arith
+
 -- a sign is there
-pub sign-there : (f : def.Field) (text : List ℕ) (at : ℕ) → signs f (get_or text at 0) ≡ true → at < length text
+pub sign-there : (f : def.Field) (text : List ℕ) (at : ℕ) {s : Bool} → s ≡ signs f (get_or text at 0) → at + bool_byte s ≤ at + (length text - at)
 unfolding signs
-sign-there (up_to m) text at e = never (cc)
-sign-there (below m) text at e = never (cc)
-sign-there (value w) text at e = there text at (λ z. omega (arith, z, eqb-true (get_or text at 0) minus e))
+sign-there f text at {s = false} e = omega arith
+sign-there (up_to m) text at {s = true} e = never (cc)
+sign-there (below m) text at {s = true} e = never (cc)
+sign-there (value w) text at {s = true} e = omega (arith, there text at (λ z. omega (arith, z, eqb-true (get_or text at 0) minus (sym e))))
 
 -- ---- a field and its line
 

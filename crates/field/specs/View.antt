@@ -1,24 +1,29 @@
 -- What this crate's types stand for in the definition, and what its functions answer.
 use Rattle.std.specs.Prelude.{Bool, true, false, ◌&&◌, ◌||◌, ◌≡◌, List, [], ◌∷◌, ℕ, zero, suc, ◌+◌, ◌-◌, ◌*◌, ◌^◌, ◌≤◌, min, eqb, leb, ltb, length, get_or, drop}
+use Rattle.std.specs.Prelude.{Result, Ok, Err, Some, None}
+use Rattle.std.specs.Prelude as code
 use Rattle.std.proofs.Math.Option.{Option, some, none}
 use Rattle.definition.specs.Field as def
 use Rattle.definition.specs.Limits.{width}
 use Rattle.field.specs.declared.Kind.{Kind}
 use Rattle.field.specs.declared.Kind.TheVariants.{UpTo, Below, Value}
-use Rattle.field.specs.declared.Read.{Read}
-use Rattle.field.specs.declared.Read.TheVariants.{Malformed, Outside, Is}
-use Rattle.field.specs.declared.Number as number
-use Rattle.field.specs.declared.Number.TheVariants as counted
+use Rattle.field.specs.declared.Fault.{Fault}
+use Rattle.field.specs.declared.Fault.TheVariants.{Malformed, Outside}
 
 abbrev pub kind_of : Kind → def.Field
 kind_of (UpTo m) = def.up_to m
 kind_of (Below m) = def.below m
 kind_of Value = def.value width
 
-abbrev pub read_of : Read → def.Read
-read_of Malformed = def.malformed
-read_of Outside = def.outside
-read_of (Is n) = def.is n
+abbrev pub read_of : Result ℕ Fault → def.Read
+read_of (Ok n) = def.is n
+read_of (Err Malformed) = def.malformed
+read_of (Err Outside) = def.outside
+
+-- code's option as the definition's, which is another type
+abbrev pub option_of : {A : Type 0} → code.Option A → Option A
+option_of None = none
+option_of (Some x) = some x
 
 -- where the counting of digits stops: above every number of 64 bits with a sign
 abbrev pub cap : ℕ
@@ -29,24 +34,8 @@ unfoldable pub capped : Option ℕ → Option ℕ
 capped none = none
 capped (some n) = some (min n cap)
 
-abbrev pub number_of : number.Number → Option ℕ
-number_of counted.Empty = none
-number_of counted.Malformed = none
-number_of (counted.Is n) = some n
-
--- one digit more; a number that is 0 has none after it
-unfoldable pub with_digit : number.Number → ℕ → number.Number
-with_digit counted.Empty d = counted.Is d
-with_digit counted.Malformed d = counted.Malformed
-with_digit (counted.Is zero) d = counted.Malformed
-with_digit (counted.Is (suc n)) d = counted.Is (min (suc n * 10 + d) cap)
-
 abbrev pub is_digit : ℕ → Bool
 is_digit b = leb def.digit0 b && leb b def.digit9
-
--- one byte more
-unfoldable pub longer : number.Number → ℕ → number.Number
-longer n b = elim (is_digit b) [ true ↦ with_digit n (b - def.digit0) | false ↦ counted.Malformed ]
 
 -- digits after those that make n, counted up to the cap
 unfoldable pub count : ℕ → List ℕ → Option ℕ
@@ -111,10 +100,14 @@ pub record Finding (stops : ℕ → Bool) (bytes : List ℕ) (at i : ℕ) : Type
   pub high : i ≤ at + (length bytes - at)
   pub more : at + length (until stops (drop at bytes)) ≡ i + length (until stops (drop i bytes))
 
--- the bytes of a field from `at` to i are digits that make n
-pub record Sums (text : List ℕ) (at n i : ℕ) : Type 0 where
-  pub finding : Finding separates text at i
-  pub makes : count 0 (first_field (drop at text)) ≡ count n (first_field (drop i text))
+-- no digit stops a part
+abbrev pub Passes : (ℕ → Bool) → Type 0
+Passes stops = (b : ℕ) → true ≡ is_digit b → false ≡ stops b
+
+-- the bytes of a part from `at` to i are digits that make n
+pub record Sums (stops : ℕ → Bool) (text : List ℕ) (at n i : ℕ) : Type 0 where
+  pub finding : Finding stops text at i
+  pub makes : count 0 (until stops (drop at text)) ≡ count n (until stops (drop i text))
 
 -- the field of a text that starts at `at`: where it ends, and the byte that it ends at
 pub record Stops (text : List ℕ) (at end stop : ℕ) : Type 0 where

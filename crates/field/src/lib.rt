@@ -2,10 +2,10 @@
 // and what is malformed is told apart from what is out of its range.
 #![tactic(auto)]
 
-ghost use Rattle.std.specs.Prelude.{◌≡◌, true, false, ◌≤◌, ◌<◌, ◌+◌, ◌-◌, ◌*◌, ◌^◌, min, ltb, length, get_or};
+ghost use Rattle.std.specs.Prelude.{◌≡◌, ℕ, Bool, false, ◌≤◌, ◌<◌, ◌+◌, ◌-◌, ◌*◌, ◌^◌, min, ltb, length, get_or, drop};
 ghost use Rattle.definition.specs.Limits.{width};
-ghost use Rattle.definition.specs.Field.{comma, first_line, natural, natural_within, negative, field, up_to, below, value};
-ghost use Rattle.field.specs.View.{read_of, kind_of, number_of, is_digit, longer, separates, capped, cap, spelt, signs, past, decided, Capped, before, Ends, Stops, Sums, Counts, Reads, separator};
+ghost use Rattle.definition.specs.Field.{comma, first_line, natural_within, negative, field, up_to, below, value};
+ghost use Rattle.field.specs.View.{read_of, kind_of, option_of, is_digit, separates, cap, spelt, signs, decided, Passes, Capped, until, before, Ends, Stops, Sums, Counts, Reads, separator};
 
 use definition::WIDTH;
 
@@ -17,18 +17,17 @@ pub enum Kind {
     Value,
 }
 
-// A field as it is read; a value is its two's complement bits.
-#[derive(Clone, Copy)]
-pub enum Read {
+// Why a field is refused: it spells no number, or one outside its range.
+#[derive(Clone, Copy, PartialEq, Eq)]
+pub enum Fault {
     Malformed,
     Outside,
-    Is(u32),
 }
 
-// A field of a text as it is read, where it ends, and the byte that it ends at: a comma, an LF, or 0 for the text's end.
+// A field of a text as it is read, where it ends, and the byte that it ends at: a comma, an LF, or 0 for the text's end. A value is its two's complement bits.
 #[derive(Clone, Copy)]
 pub struct Next {
-    pub read: Read,
+    pub read: Result<u32, Fault>,
     pub end: usize,
     pub stop: u8,
 }
@@ -38,29 +37,6 @@ pub struct Next {
 pub struct End {
     pub end: usize,
     pub stop: u8,
-}
-
-// A number with no sign, after some of its bytes, counted up to the cap. With a leading zero it is malformed from its second digit on.
-#[derive(Clone, Copy)]
-enum Number {
-    Empty,
-    Malformed,
-    Is(u64),
-}
-
-// What digits make, and where they end.
-#[derive(Clone, Copy)]
-struct Run {
-    n: u64,
-    end: usize,
-}
-
-// The number of a field of a text, where it ends, and the byte that it ends at.
-#[derive(Clone, Copy)]
-struct Counted {
-    number: Number,
-    end: usize,
-    stop: u8,
 }
 
 // Where counting stops: above every value, of 64 bits too, and a power of ten, so that one test of the number before a digit decides.
@@ -75,7 +51,7 @@ const NEGATIVES: u64 = 1 << (WIDTH - 1);
 pub fn byte_or(bytes: &[u8], i: usize, other: u8) -> u8
     ensures { result ≡ get_or bytes.now i other }
 {
-    if i < bytes.len() { bytes[i] } else { other }
+    bytes.get(i).copied().unwrap_or(other)
 }
 
 // One digit more.
@@ -84,243 +60,151 @@ fn add_digit(n: u64, digit: u8) -> u64
     ensures { result ≡ min (n * 10 + digit) cap }
 {
     if n < CAP / 10 {
-        n * 10 + digit as u64
+        n * 10 + u64::from(digit)
     } else {
         CAP
     }
 }
 
-// One byte more.
-fn add_byte(number: Number, b: u8) -> Number
-    ensures { result ≡ longer number b }
-{
-    if b < b'0' {
-        return Number::Malformed;
-    }
-    if b > b'9' {
-        return Number::Malformed;
-    }
-    let digit = b - b'0';
-    match number {
-        Number::Malformed => Number::Malformed,
-        Number::Empty => Number::Is(digit as u64),
-        Number::Is(so_far) => {
-            if so_far == 0 {
-                return Number::Malformed;
-            }
-            Number::Is(add_digit(so_far, digit))
-        }
-    }
-}
-
-// The number that the bytes spell.
-fn natural(bytes: &[u8]) -> Number
-    ensures { number_of result ≡ capped (natural bytes.now) }
-{
-    let mut number = Number::Empty;
-    let mut i = 0;
-    while i < bytes.len() {
-        number = add_byte(number, bytes[i]);
-        i += 1;
-    }
-    number
-}
-
 // The number as a field's, which is below a limit.
-fn within(number: Number, limit: u64) -> Read
+#[tactic(auto, unfolding(definition::specs::Field::natural_within, definition::specs::Field::within))]
+fn within(number: Option<u64>, limit: u64) -> Result<u32, Fault>
     requires { limit ≤ 2 ^ width }
-    ensures { read_of result ≡ natural_within (λ n. ltb n limit) (number_of number) }
+    ensures { read_of result ≡ natural_within (λ n. ltb n limit) (option_of number) }
 {
     match number {
-        Number::Empty => Read::Malformed,
-        Number::Malformed => Read::Malformed,
-        Number::Is(n) => {
-            if n < limit {
-                Read::Is(n as u32)
-            } else {
-                Read::Outside
-            }
-        }
+        None => Err(Fault::Malformed),
+        Some(n) if n < limit => Ok(n as u32),
+        Some(_) => Err(Fault::Outside),
     }
 }
 
 // The bits of the number's negative, which is never 0.
-fn negative(number: Number) -> Read
-    ensures { read_of result ≡ negative width (number_of number) }
+#[tactic(auto, unfolding(definition::specs::Field::negative, definition::specs::Field::within))]
+fn negative(number: Option<u64>) -> Result<u32, Fault>
+    ensures { read_of result ≡ negative width (option_of number) }
 {
     match number {
-        Number::Empty => Read::Malformed,
-        Number::Malformed => Read::Malformed,
-        Number::Is(n) => {
-            if n == 0 {
-                return Read::Malformed;
-            }
-            if n <= NEGATIVES {
-                Read::Is((VALUES - n) as u32)
-            } else {
-                Read::Outside
-            }
-        }
+        None | Some(0) => Err(Fault::Malformed),
+        Some(n) if n <= NEGATIVES => Ok((VALUES - n) as u32),
+        Some(_) => Err(Fault::Outside),
     }
 }
 
-// A field of 0 to `max`.
-pub fn up_to(bytes: &[u8], max: u32) -> Read
-    ensures { read_of result ≡ field (up_to max) bytes.now }
+// Where what starts at `at` ends: at the first byte that stops it, or with the bytes.
+fn end_where<F: Fn(u8) -> bool>(bytes: &[u8], at: usize, stops: F) -> usize
+    requires { F.IsAlwaysCallable stops }
+    ensures { (test : ℕ → Bool) → ((b : ℕ) (r : Bool) → F.post stops b r → r ≡ test b) → Ends (until test) bytes.now at result }
 {
-    within(natural(bytes), max as u64 + 1)
-}
-
-// Where the part that starts at `at` and ends before `sep` ends.
-fn part_end(bytes: &[u8], at: usize, sep: u8) -> usize
-    ensures { Ends (before sep) bytes.now at result }
-{
-    let mut i = at;
-    while i < bytes.len() {
-        if bytes[i] == sep {
-            return i;
-        }
-        i += 1;
-    }
-    i
+    let rest = bytes.get(at..).unwrap_or(&[]);
+    at + rest.iter().position(|b| stops(*b)).unwrap_or(rest.len())
 }
 
 // Where the line that starts at `at` ends: its LF, or the text's end.
 pub fn line_end(text: &[u8], at: usize) -> usize
     ensures { Ends first_line text.now at result }
 {
-    part_end(text, at, b'\n')
+    end_where(text, at, |b| b == b'\n')
 }
 
 // Where the field that starts at `at` of a line ends: its comma, or the line's end.
 pub fn field_end(line: &[u8], at: usize) -> usize
     ensures { Ends (before comma) line.now at result }
 {
-    part_end(line, at, b',')
+    end_where(line, at, |b| b == b',')
 }
 
 // Does a field of a text end at this byte?
 fn is_separator(b: u8) -> bool
     ensures { result ≡ separates b }
 {
-    if b == b',' {
-        return true;
-    }
-    b == b'\n'
-}
-
-fn is_digit(b: u8) -> bool
-    ensures { result ≡ is_digit b }
-{
-    if b < b'0' {
-        return false;
-    }
-    b <= b'9'
+    b == b',' || b == b'\n'
 }
 
 // Where the field that starts at `at` of a text ends, and the byte that it ends at.
 pub fn next_end(text: &[u8], at: usize) -> End
     ensures { Stops text.now at result.end result.stop }
 {
-    let mut i = at;
-    while i < text.len() {
-        let b = text[i];
-        if is_separator(b) {
-            return End { end: i, stop: b };
-        }
-        i += 1;
+    let end = end_where(text, at, is_separator);
+    End {
+        end,
+        stop: byte_or(text, end, 0),
     }
-    End { end: i, stop: 0 }
 }
 
-// The digits from `at` on, up to the first byte that is none.
-fn digits(text: &[u8], at: usize) -> Run
-    ensures { Sums text.now at result.n result.end × (false ≡ is_digit (get_or text.now result.end 0)) }
+// What the digits from `at` on make, up to the first byte that is none, and where that is.
+fn digits(text: &[u8], at: usize) -> (u64, usize)
+    ensures made { (stops : ℕ → Bool) → Passes stops → Sums stops text.now at result.0 result.1 }
+    ensures stopped { false ≡ is_digit (get_or text.now result.1 0) }
 {
     let mut n = 0;
-    let mut i = at;
-    while i < text.len() {
+    for i in at..text.len() {
         let b = text[i];
-        if is_digit(b) {
-            n = add_digit(n, b - b'0');
-            i += 1;
-        } else {
-            return Run { n: n, end: i };
+        if !b.is_ascii_digit() {
+            return (n, i);
         }
+        n = add_digit(n, b - b'0');
     }
-    Run { n: n, end: i }
+    (n, at.max(text.len()))
 }
 
 // The number of a field that is digits alone, which make `n`: none if there are none, or a zero leads others.
-fn spell(text: &[u8], at: usize, end: usize, n: u64) -> Number
+#[tactic(auto, unfolding(crate::specs::View::spelt))]
+fn spell(text: &[u8], at: usize, end: usize, n: u64) -> Option<u64>
     requires at_le_end { at ≤ end }
     requires end_bound { end ≤ at + (length text.now - at) }
-    ensures { number_of result ≡ spelt (get_or text.now at 0) (end - at) n }
+    ensures { option_of result ≡ spelt (get_or text.now at 0) (end - at) n }
 {
-    if end == at {
-        return Number::Empty;
+    if end == at || end - at > 1 && text[at] == b'0' {
+        None
+    } else {
+        Some(n)
     }
-    if end - at > 1 {
-        if text[at] == b'0' {
-            return Number::Malformed;
-        }
-    }
-    Number::Is(n)
 }
 
-// The number of the field that starts at `at` of a text.
-fn count(text: &[u8], at: usize) -> Counted
-    ensures { Counts text.now at (number_of result.number) result.end result.stop }
+// The number of the field that starts at `at` of a text, and where that field ends.
+fn count(text: &[u8], at: usize) -> (Option<u64>, End)
+    ensures { Counts text.now at (option_of result.0) result.1.end result.1.stop }
 {
-    let d = digits(text, at);
-    let e = next_end(text, d.end);
-    if e.end == d.end {
-        return Counted {
-            number: spell(text, at, d.end, d.n),
-            end: e.end,
-            stop: e.stop,
-        };
-    }
-    Counted {
-        number: Number::Malformed,
-        end: e.end,
-        stop: e.stop,
+    let (n, digits_end) = digits(text, at);
+    let field = next_end(text, digits_end);
+    if field.end == digits_end {
+        (spell(text, at, digits_end, n), field)
+    } else {
+        (None, field)
     }
 }
 
 // Does a field of this kind that starts at `at` have a minus?
+#[tactic(auto, unfolding(crate::specs::View::signs))]
 fn has_minus(text: &[u8], at: usize, kind: Kind) -> bool
     ensures { result ≡ signs (kind_of kind) (get_or text.now at 0) }
 {
-    match kind {
-        Kind::UpTo(_) => false,
-        Kind::Below(_) => false,
-        Kind::Value => byte_or(text, at, 0) == b'-',
-    }
-}
-
-// Where its digits start.
-fn behind_minus(text: &[u8], at: usize, minus: bool) -> usize
-    requires { minus ≡ true → at < length text.now }
-    ensures { result ≡ past minus at }
-{
-    if minus { at + 1 } else { at }
+    matches!(kind, Kind::Value) && byte_or(text, at, 0) == b'-'
 }
 
 // The field that this number makes.
-fn decide(kind: Kind, minus: bool, number: Number) -> Read
-    ensures { (read_of result ≡ decided (kind_of kind) minus (number_of number)) × Capped (kind_of kind) }
+#[tactic(auto, unfolding(crate::specs::View::decided))]
+fn decide(kind: Kind, minus: bool, number: Option<u64>) -> Result<u32, Fault>
+    ensures { (read_of result ≡ decided (kind_of kind) minus (option_of number)) × Capped (kind_of kind) }
 {
     match kind {
-        Kind::UpTo(max) => within(number, max as u64 + 1),
-        Kind::Below(limit) => within(number, limit as u64),
-        Kind::Value => {
-            if minus {
-                return negative(number);
-            }
-            within(number, NEGATIVES)
-        }
+        Kind::UpTo(max) => within(number, u64::from(max) + 1),
+        Kind::Below(limit) => within(number, u64::from(limit)),
+        Kind::Value if minus => negative(number),
+        Kind::Value => within(number, NEGATIVES),
     }
+}
+
+// A field of 0 to `max`, which is all of the bytes.
+pub fn up_to(bytes: &[u8], max: u32) -> Result<u32, Fault>
+    ensures { read_of result ≡ field (up_to max) bytes.now }
+{
+    let (n, end) = digits(bytes, 0);
+    if end < bytes.len() {
+        return Err(Fault::Malformed);
+    }
+    within(spell(bytes, 0, end, n), u64::from(max) + 1)
 }
 
 // The field that starts at `at` of a text, and where it ends: all of it by one scan.
@@ -328,12 +212,11 @@ pub fn next_field(text: &[u8], at: usize, kind: Kind) -> Next
     ensures { Reads (kind_of kind) text.now at (read_of result.read) result.end result.stop }
 {
     let minus = has_minus(text, at, kind);
-    let c = count(text, behind_minus(text, at, minus));
-    let number = c.number;
+    let (number, End { end, stop }) = count(text, at + usize::from(minus));
     Next {
         read: decide(kind, minus, number),
-        end: c.end,
-        stop: c.stop,
+        end,
+        stop,
     }
 }
 
@@ -345,6 +228,7 @@ pub fn next_up_to(text: &[u8], at: usize, max: u32) -> Next
 }
 
 // The byte that field `k` of a line ends at, whose last field is `last`.
+#[tactic(auto, unfolding(crate::specs::View::separator))]
 pub fn separator(k: usize, last: usize) -> u8
     ensures { result ≡ separator k last }
 {

@@ -12,12 +12,11 @@ ghost use Rattle.opcode.specs.View.{compare_view};
 ghost use Rattle.opcode.specs.Table.{sheet_in};
 ghost use Rattle.program.specs.Walk.{cursor_of, Near};
 ghost use Rattle.program_shape.specs.Shape.{block_at};
-ghost use Rattle.emit.specs.Book.{book_size};
 ghost use Rattle.emit.specs.View.{world};
 ghost use Rattle.emit.specs.Steps.{call, Fine, Ready, Booked, Created, Coded, Filled};
 ghost use Rattle.expr.specs.Went.{Went};
 
-use emit::{Constant, Emitter, Label};
+use emit::{Book, Constant, Emitter, Label, Pool};
 use opcode::CompareOp;
 use program::Cursor;
 
@@ -30,9 +29,8 @@ pub struct Lent {
 
 impl Lent {
     // A label more (11).
-    pub fn create_label(&mut self, book: &mut [u16]) -> Label
+    pub fn create_label(&mut self, book: &mut Book) -> Label
         requires fine { Fine self.old.emitter }
-        requires book_len { length book.old ≡ book_size }
         ensures { Created self.old.emitter book.old self.new.emitter book.new result.0 }
     {
         let new = self.emitter.create_label(book);
@@ -40,9 +38,8 @@ impl Lent {
         new.label
     }
 
-    pub fn bind_label(&mut self, book: &mut [u16], label: Label)
+    pub fn bind_label(&mut self, book: &mut Book, label: Label)
         requires fine { Fine self.old.emitter }
-        requires book_len { length book.old ≡ book_size }
         ensures { Booked (bind_label label.0) self.old.emitter book.old self.new.emitter book.new }
     {
         self.emitter = self.emitter.bind_label(book, label);
@@ -52,19 +49,17 @@ impl Lent {
 // ---- variables and constants
 
 impl Lent {
-    pub fn emit_load_var(&mut self, sheet: &[u8], code: &mut [u8], book: &mut [u16], variable: u16)
+    pub fn emit_load_var(&mut self, sheet: &[u8], code: &mut [u8], book: &mut Book, variable: u16)
         requires fine { Fine self.old.emitter }
         requires code_len { length code.old ≡ max_code }
-        requires book_len { length book.old ≡ book_size }
         ensures { Coded (call (sheet_in sheet.now) (load_variable variable)) self.old.emitter code.old book.old self.new.emitter code.new book.new }
     {
         self.emitter = compile_expr::emit_load_var(self.emitter, sheet, code, book, variable);
     }
 
-    pub fn emit_store_var(&mut self, sheet: &[u8], code: &mut [u8], book: &mut [u16], variable: u16)
+    pub fn emit_store_var(&mut self, sheet: &[u8], code: &mut [u8], book: &mut Book, variable: u16)
         requires fine { Fine self.old.emitter }
         requires code_len { length code.old ≡ max_code }
-        requires book_len { length book.old ≡ book_size }
         ensures { Coded (call (sheet_in sheet.now) (store_variable variable)) self.old.emitter code.old book.old self.new.emitter code.new book.new }
     {
         self.emitter = compile_expr::emit_store_var(self.emitter, sheet, code, book, variable);
@@ -75,8 +70,8 @@ impl Lent {
         &mut self,
         sheet: &[u8],
         code: &mut [u8],
-        book: &mut [u16],
-        pool: &mut [Constant],
+        book: &mut Book,
+        pool: &mut Pool,
         k: Constant,
     )
         requires { Ready (world self.old.emitter code.old book.old pool.old) }
@@ -89,10 +84,9 @@ impl Lent {
 // ---- branches
 
 impl Lent {
-    pub fn emit_jmp(&mut self, sheet: &[u8], code: &mut [u8], book: &mut [u16], label: Label)
+    pub fn emit_jmp(&mut self, sheet: &[u8], code: &mut [u8], book: &mut Book, label: Label)
         requires fine { Fine self.old.emitter }
         requires code_len { length code.old ≡ max_code }
-        requires book_len { length book.old ≡ book_size }
         ensures { Coded (call (sheet_in sheet.now) (emit_jmp label.0)) self.old.emitter code.old book.old self.new.emitter code.new book.new }
     {
         self.emitter = self.emitter.emit_jmp(sheet, code, book, label);
@@ -103,8 +97,8 @@ impl Lent {
         &mut self,
         sheet: &[u8],
         code: &mut [u8],
-        book: &mut [u16],
-        pool: &mut [Constant],
+        book: &mut Book,
+        pool: &mut Pool,
         op: CompareOp,
         v: u16,
         k: Constant,
@@ -128,8 +122,8 @@ impl Lent {
         text: &[u8],
         sheet: &[u8],
         code: &mut [u8],
-        book: &mut [u16],
-        pool: &mut [Constant],
+        book: &mut Book,
+        pool: &mut Pool,
         variables: u16,
         n: usize,
         c: Cursor,

@@ -1,9 +1,9 @@
 -- Line entries as numbers and back.
 use mathlib.Core.Path.{◌≡◌, refl, ap, sym, ◌∙◌}
 use mathlib.Core.List.{List, [], ◌∷◌, ◌++◌, append_assoc}
-use Prim.Native.Nat.{ℕ, zero, suc, ◌+◌, ◌-◌, ◌*◌, ◌/◌, ◌≤◌, ◌<◌}
+use Prim.Native.Nat.{ℕ, zero, suc, ◌+◌, ◌*◌, ◌/◌, ◌≤◌, ◌<◌}
 use native.Mathlib.Omega.{arith}
-use lib.ListN.{length, get_or, take, drop, length-drop, length-append, get_or-eq_default, drop_of_length-le}
+use lib.ListN.{length, get_or, take, drop, length-drop, length-append}
 use lib.Seq.{get_or-drop, drop-drop, drop_at}
 use Rattle.definition.specs.Limits.{entry_size}
 use Rattle.definition.specs.Tree.{pos_numbers, pos_of}
@@ -38,12 +38,6 @@ entry-is e ns a b c = rw (a, b, c, get_or-drop 1 ns 0 0, get_or-drop 1 ns 1 0)
 pub entry-put : (e : code.LineEntry) (s : Store) {t u v : Store} → t ≡ push s e.offset → u ≡ push t e.pos.line → v ≡ push u e.pos.column → v ≡ push_all s (one_entry (entry_view e))
 unfolding one_entry pos_numbers push_all
 entry-put e s a b c = c ∙ ap (λ (w : Store). push w e.pos.column) (b ∙ ap (λ (w : Store). push w e.pos.line) a)
-
-pub past-place : (l : List ℕ) (i k : ℕ) → length l ≤ i → ◌≡◌ {A = ℕ} 0 (get_or (drop i l) k 0)
-past-place l i k h = rw (drop_of_length-le l h)
-
-pub past_end : (l : List ℕ) (i k : ℕ) → length l - i ≤ k → ◌≡◌ {A = ℕ} 0 (get_or (drop i l) k 0)
-past_end l i k h = sym (get_or-eq_default (drop i l) 0 (rw (length-drop i l) h))
 
 -- ---- many
 

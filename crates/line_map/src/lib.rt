@@ -1,5 +1,5 @@
 // A source position and a line entry: the types that reading, the emitter and line mapping share (emit.rs `EmittedLineMapEntry`), and how an entry
-// lies in a list of numbers: nothing else in code knows it.
+// lies in a list of numbers: nothing else in code knows it. C lends line lists as numbers, so they are not arrays of entries.
 #![tactic(auto)]
 
 ghost use Rattle.std.specs.Prelude.{◌≡◌, get_or, drop};
@@ -9,23 +9,18 @@ ghost use Rattle.store.specs.Store.{at, push_all};
 ghost use Rattle.line_map.specs.View.{pos_view, entry_view};
 
 // A source position.
-#[derive(Clone, Copy)]
+#[derive(Clone, Copy, PartialEq, Eq)]
 pub struct Pos {
     pub line: u16,
     pub column: u16,
 }
 
 impl Pos {
+    // `==`, named for what it decides in the definition.
     pub fn same(self, other: Pos) -> bool
         ensures { result ≡ same_pos (pos_view self) (pos_view other) }
     {
-        if self.line != other.line {
-            return false;
-        }
-        if self.column != other.column {
-            return false;
-        }
-        true
+        self == other
     }
 }
 
@@ -40,13 +35,10 @@ pub struct LineEntry {
 fn number_at(list: &[u16], at: usize, k: usize) -> u16
     ensures { result ≡ get_or (drop at list.now) k 0 }
 {
-    if at >= list.len() {
-        return 0;
-    }
-    if k >= list.len() - at {
-        return 0;
-    }
-    list[at + k]
+    list.get(at..)
+        .and_then(|rest| rest.get(k))
+        .copied()
+        .unwrap_or(0)
 }
 
 // The entry whose numbers start at a place.
@@ -57,11 +49,8 @@ pub fn entry_at(list: &[u16], at: usize) -> LineEntry
     let line = number_at(list, at, 1);
     let column = number_at(list, at, 2);
     LineEntry {
-        offset: offset,
-        pos: Pos {
-            line: line,
-            column: column,
-        },
+        offset,
+        pos: Pos { line, column },
     }
 }
 
@@ -69,8 +58,7 @@ pub fn entry_at(list: &[u16], at: usize) -> LineEntry
 pub fn put_entry(list: &mut [u16], used: usize, entry: LineEntry) -> usize
     ensures { at list.new result ≡ push_all (at list.old used) (one_entry (entry_view entry)) }
 {
-    let pos = entry.pos;
-    let one = store::push_number(list, used, entry.offset);
-    let two = store::push_number(list, one, pos.line);
-    store::push_number(list, two, pos.column)
+    let one = store::push(list, used, entry.offset);
+    let two = store::push(list, one, entry.pos.line);
+    store::push(list, two, entry.pos.column)
 }

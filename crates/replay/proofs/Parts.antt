@@ -3,46 +3,32 @@ use mathlib.Core.Path.{◌≡◌, refl, ◌∙◌}
 use mathlib.Core.Bool.{Bool, true, false, ◌&&◌}
 use mathlib.Core.List.{List, [], ◌∷◌}
 use Prim.Native.Nat.{ℕ, zero, suc, ◌+◌, ◌≤◌, ◌<◌}
-use native.Mathlib.Nat.{add-zero, add-suc}
 use native.Mathlib.Numerals.{add-one}
 use native.Mathlib.Omega.{arith}
 use borrow.Author.Tests.{eq-eqb, ne_eqb, lt-ltb, le-ltb}
 use lib.Dec.{eqb}
-use lib.ListN.{length, get_or, drop, length-drop, drop_of_length-le}
-use lib.Seq.{drop-cons}
+use Rattle.std.proofs.Common.{inl, inr, sym, ap, ◌-◌}
+use Rattle.std.proofs.lemmas.Bool.Decides.{eqb_tells}
+use lib.Pointwise.{pointwise}
+use lib.ListN.{length, get_or, take, drop, length-drop, drop_of_length-le}
+use lib.Seq.{drop-cons, take_all}
 use Rattle.replay.specs.declared.Case.{Case}
 use Rattle.replay.specs.Case.{begins, separator, lf, part_size, part_end, behind, case_at, cases_from, case_count, missing, Parts}
 
 -- ---- whether a text begins with some bytes
-pub begins-short : (ps text : List ℕ) → length text < length ps → false ≡ begins ps text
+eqb_swap : (a b : ℕ) → eqb a b ≡ eqb b a
+eqb_swap a b = elim (eqb_tells a b) [ inl h ↦ rw (h.0, eq-eqb b a (sym h.1)) | inr h ↦ rw (h.0, ne_eqb b a (λ e. h.1 (sym e))) ]
+
+starts-begins : (ps text : List ℕ) → pointwise eqb ps (take (length ps) text) ≡ begins ps text
 unfolding begins
-begins-short [] text h = absurd (omega (arith, h))
-begins-short (p ∷ ps) [] h = refl
-begins-short (p ∷ ps) (b ∷ bs) h = elim (eqb b p) as (λ t. false ≡ t && begins ps bs) [ true ↦ begins-short ps bs (omega (arith, h)) | false ↦ refl ]
+starts-begins [] text = refl
+starts-begins (p ∷ ps) [] = refl
+starts-begins (p ∷ ps) (b ∷ bs) = rw (eqb_swap p b, starts-begins ps bs)
 
--- i bytes of the separator stand at a place
-pub record Matching (text : List ℕ) (at i : ℕ) : Type 0 where
-  pub within : i ≤ length separator
-  pub rest : begins separator (drop at text) ≡ begins (drop i separator) (drop (at + i) text)
-
-pub match-begins : (text : List ℕ) (at : ℕ) → Matching text at 0
-match-begins text at = record { within = omega arith; rest = rw (add-zero at) }
-
-module _ (text : List ℕ) (at i : ℕ) (m : Matching text at i) where
-  pub match-on : i < length separator → at + i < length text → get_or text (at + i) 0 ≡ get_or separator i 0 → Matching text at (i + 1)
-  unfolding begins
-  match-on h t e = record {
-    within = omega (arith, h);
-    rest = m.rest ∙ rw (drop-cons separator i 0 h, drop-cons text (at + i) 0 t, begins, eq-eqb (get_or text (at + i) 0) (get_or separator i 0) e, add-one i, add-suc at i);
-  }
-
-  pub match-not : i < length separator → at + i < length text → (get_or text (at + i) 0 ≡ get_or separator i 0 → ⊥) → false ≡ begins separator (drop at text)
-  unfolding begins
-  match-not h t e = rw (m.rest, drop-cons separator i 0 h, drop-cons text (at + i) 0 t, begins, ne_eqb (get_or text (at + i) 0) (get_or separator i 0) e)
-
-  pub match-all : length separator ≤ i → true ≡ begins separator (drop at text)
-  unfolding begins
-  match-all h = rw (m.rest, drop_of_length-le separator h)
+-- what `starts_with` says of the bytes from a place on
+pub starts-here : (text : List ℕ) (at : ℕ) {b : Bool} → b ≡ pointwise eqb separator (take 5 (take (length text - at) (drop at text))) → b ≡ begins separator (drop at text)
+starts-here text at e =
+    e ∙ ap (λ (l : List ℕ). pointwise eqb separator (take 5 l)) (take_all (length text - at) (drop at text) (rw (length-drop at text) (omega arith))) ∙ starts-begins separator (drop at text)
 
 -- ---- a part
 pub part-within : (starts : Bool) (text : List ℕ) → part_size starts text ≤ length text
@@ -76,11 +62,11 @@ module _ (text : List ℕ) (from at : ℕ) (starts : Bool) (r : Reading text fro
       let one : part_size starts (drop at text) ≡ suc (part_size (eqb (get_or text at 0) lf) (drop (at + 1) text)) = rw (add-one at, d, part_size, rw d at e) in
       record { within = omega (arith, h); size = omega (arith, r.size, one) }
 
-  pub read-end : length text ≤ at → at ≡ part_end text from
+  pub read-end : length text ≤ at → length text ≡ part_end text from
   unfolding part_size
   read-end h =
       let none : part_size starts (drop at text) ≡ 0 = rw (drop_of_length-le text h, part_size) in
-      omega (arith, r.size, none)
+      omega (arith, r.within, r.size, none)
 
 -- ---- a case
 module _ (text : List ℕ) where

@@ -14,11 +14,9 @@ use std::io::{Read, Write};
 // More than the stored answers of one program take: a case that was cut off would differ.
 pub const INPUT_ROOM: usize = 700000;
 
-const SEPARATOR_SIZE: usize = 5;
+const SEPARATOR: [u8; 5] = *b"====\n";
 
-const SEPARATOR: [u8; SEPARATOR_SIZE] = [61, 61, 61, 61, 10];
-
-// Where a case's input ends, where its answer starts and ends, and where the next case starts.
+// Offsets and not slices, since what `case_at` promises is where the parts lie: where a case's input ends, where its answer starts and ends, and where the next case starts.
 #[derive(Clone, Copy)]
 pub struct Case {
     pub end: usize,
@@ -27,38 +25,19 @@ pub struct Case {
     pub next: usize,
 }
 
-fn is_separator(input: &[u8], at: usize) -> bool
-    requires { at ≤ length input.now }
-    ensures { result ≡ begins separator (drop at input.now) }
-{
-    if input.len() - at < SEPARATOR_SIZE {
-        return false;
-    }
-    let mut i = 0;
-    while i < SEPARATOR_SIZE {
-        if input[at + i] != SEPARATOR[i] {
-            return false;
-        }
-        i += 1;
-    }
-    true
-}
-
 // The separator line at or after a line's start; the end where there is none.
 fn part_end(input: &[u8], from: usize) -> usize
     requires { from ≤ length input.now }
     ensures { result ≡ part_end input.now from }
 {
-    let mut at = from;
     let mut starts = true;
-    while at < input.len() {
-        if starts && is_separator(input, at) {
+    for at in from..input.len() {
+        if starts && input[at..].starts_with(&SEPARATOR) {
             return at;
         }
         starts = input[at] == b'\n';
-        at += 1;
     }
-    at
+    input.len()
 }
 
 // Behind the separator line that stands here; the end where there is none.
@@ -66,11 +45,7 @@ fn behind(input: &[u8], at: usize) -> usize
     requires { at ≤ length input.now }
     ensures { result ≡ behind input.now at }
 {
-    if input.len() - at < SEPARATOR_SIZE {
-        input.len()
-    } else {
-        at + SEPARATOR_SIZE
-    }
+    (at + SEPARATOR.len()).min(input.len())
 }
 
 // The case that starts here.
@@ -83,10 +58,10 @@ pub fn case_at(input: &[u8], at: usize) -> Case
     let stop = part_end(input, answer);
     let next = behind(input, stop);
     Case {
-        end: end,
-        answer: answer,
-        stop: stop,
-        next: next,
+        end,
+        answer,
+        stop,
+        next,
     }
 }
 
@@ -99,6 +74,7 @@ pub fn read_full<R: Read>(input: &mut R, buf: &mut [u8]) -> io::Result<usize>
     ensures err { OnErr result ((n : ℕ) × (n ≤ length buf.new) × Consumes (R.remaining input.old) (R.remaining input.new) (take n buf.new)) }
 {
     let mut done = 0;
+    // A read gives as many bytes as it likes, so the step varies.
     while done < buf.len() {
         let n = input.read(&mut buf[done..])?;
         if n == 0 {
@@ -109,8 +85,8 @@ pub fn read_full<R: Read>(input: &mut R, buf: &mut [u8]) -> io::Result<usize>
     Ok(done)
 }
 
-// A number, and the byte behind it.
-fn print<W: Write>(out: &mut W, n: u64, last: u8) -> io::Result<()>
+// A number, and the byte behind it. An error is the writer's.
+pub fn print<W: Write>(out: &mut W, n: u64, last: u8) -> io::Result<()>
     ensures printed { OnOk result (Appends (W.contents out.old) (W.contents out.new) (decimal n ++ last ∷ [])) }
 {
     write!(out, "{n}")?;

@@ -15,25 +15,31 @@ use Rattle.definition.specs.Opcode.{Role, Sheet, role_of, size, traits, traits_o
 use Rattle.definition.specs.Rewrite.{Bytes, opcode_of, ends, size_or1, cut, decode}
 use Rattle.rewrite.specs.View.{first_of}
 
--- every instruction has its opcode
-pub size-positive : (r : Role) → 1 ≤ size r
+-- every instruction has its opcode, and no more than seven bytes behind it
+sizes : (r : Role) → (1 ≤ size r) × (size r ≤ 8)
 unfolding size traits traits_of
-size-positive dup = omega arith
-size-positive pop = omega arith
-size-positive load_var = omega arith
-size-positive store_var = omega arith
-size-positive load_const = omega arith
-size-positive load_true = omega arith
-size-positive load_false = omega arith
-size-positive (arithmetic o) = omega arith
-size-positive (logic o) = omega arith
-size-positive neg = omega arith
-size-positive bool_not = omega arith
-size-positive (compare c) = omega arith
-size-positive jmp = omega arith
-size-positive jmp_if_not = omega arith
-size-positive cmp_br = omega arith
-size-positive ret = omega arith
+sizes dup = (omega arith, omega arith)
+sizes pop = (omega arith, omega arith)
+sizes load_var = (omega arith, omega arith)
+sizes store_var = (omega arith, omega arith)
+sizes load_const = (omega arith, omega arith)
+sizes load_true = (omega arith, omega arith)
+sizes load_false = (omega arith, omega arith)
+sizes (arithmetic o) = (omega arith, omega arith)
+sizes (logic o) = (omega arith, omega arith)
+sizes neg = (omega arith, omega arith)
+sizes bool_not = (omega arith, omega arith)
+sizes (compare c) = (omega arith, omega arith)
+sizes jmp = (omega arith, omega arith)
+sizes jmp_if_not = (omega arith, omega arith)
+sizes cmp_br = (omega arith, omega arith)
+sizes ret = (omega arith, omega arith)
+
+pub size-positive : (r : Role) → 1 ≤ size r
+size-positive r = (sizes r).0
+
+pub size-small : (r : Role) → size r ≤ 8
+size-small r = (sizes r).1
 
 -- an open instruction takes its bytes, and the rest is decoded
 pub cut-is : (s : Sheet) (xs : List ℕ) (n : ℕ) → n ≤ length xs → cut s xs n ≡ take n xs ∷ decode s (drop n xs)
@@ -151,6 +157,10 @@ module _ (s : Sheet) (code : List ℕ) (at : ℕ) where
         let l = ap length here in
         let w = first.within (omega (arith, l)) in
         omega (arith, l, w)
+
+-- an instruction that is decoded lies in the code
+pub part_within : (s : Sheet) (code : List ℕ) (at : ℕ) (a : Bytes) → a ≡ first_of (decode s (drop at code)) → 1 ≤ length a → at + length a ≤ length code
+part_within = first-within
 
 -- what is decoded is an instruction of the sheet
 pub record Listed (s : Sheet) (a : Bytes) : Type 0 where

@@ -17,6 +17,7 @@ use Rattle.definition.specs.Emit.{le16}
 use Rattle.definition.specs.Rewrite.{Bytes, Matcher, OffsetMap, decode, instruction, actions, applied, output, offsets, moved_to, apply_peephole}
 use Rattle.definition.specs.Lent.{filled}
 use Rattle.store.specs.Fill.{zeroed_from}
+use Rattle.store.proofs.Fills.{zeroed-is}
 use Rattle.rewrite.specs.View.{first_of, actions_after, Fitting, FittingNext, Planned, put, Peephole}
 use Rattle.rewrite.proofs.Decoding.{First, first, first-is, first-none}
 
@@ -107,19 +108,15 @@ module _ (s : Sheet) (matches : Matcher) (protected : List ℕ) where
 -- ---- what is decided for an instruction, by the tests that led there
 
 module _ (s : Sheet) (matches : Matcher) (protected code : List ℕ) (at : ℕ) (a : Bytes) (here : a ≡ first_of (decode s (drop at code))) where
-  pub plan-none : (next : Option Action) → length a ≡ 0 → Planned s matches protected code at next (length a) keep none
-  unfolding Fitting FittingNext
-  plan-none next z = record { long = ap length here; acts = λ h. absurd (omega arith); fits = tt; later = tt }
-
   pub plan-known : (x : Action) → 1 ≤ length a → FittingNext (some x) (first_of (decode s (drop at code))) → Planned s matches protected code at (some x) (length a) x none
   unfolding Fitting FittingNext actions_after
-  plan-known x h f = record { long = ap length here; acts = λ _. rw (first-is s code at a here h); fits = rw here f; later = tt }
+  plan-known x h f = record { long = ap length here; full = h; acts = rw (first-is s code at a here h); fits = rw here f; later = tt }
 
   plan-keep : 1 ≤ length a → (is : List Bytes) → decode s (drop (at + length a) code) ≡ is
       → actions s matches protected at (a ∷ is) ≡ keep ∷ actions s matches protected (at + length a) is
       → Planned s matches protected code at none (length a) keep none
   unfolding Fitting FittingNext actions_after
-  plan-keep h is e acts = record { long = ap length here; acts = λ _. rw (first-is s code at a here h, e) acts; fits = tt; later = tt }
+  plan-keep h is e acts = record { long = ap length here; full = h; acts = rw (first-is s code at a here h, e) acts; fits = tt; later = tt }
 
   -- no rule fits whatever follows
   pub plan-unstarted : 1 ≤ length a → ((b : Bytes) → matches (instruction s a) (instruction s b) ≡ none) → Planned s matches protected code at none (length a) keep none
@@ -149,7 +146,8 @@ module _ (s : Sheet) (matches : Matcher) (protected code : List ℕ) (at : ℕ) 
           let e = first-is s code (at + length a) b next more in
           record {
             long = ap length here;
-            acts = λ _. rw (first-is s code at a here full, e) (acts-asked s matches protected at a b _ (some (x, y)) h m);
+            full = full;
+            acts = rw (first-is s code at a here full, e) (acts-asked s matches protected at a b _ (some (x, y)) h m);
             fits = fx;
             later = rw (← next) fy;
           }
@@ -224,10 +222,11 @@ module _ (s : Sheet) (matches : Matcher) (protected code₀ : List ℕ) where
   }
 
   pub goes_on : {k : ℕ} {code map : List ℕ} {at to z : ℕ} {next then : Option Action} {x : Action} → Going k code map at to next
-      → Planned s matches protected code at next z x then → 1 ≤ z
+      → Planned s matches protected code at next z x then
       → Going k (put code to (applied x (take z (drop at code)))) (set map at to) (at + z) (to + length (applied x (take z (drop at code)))) then
   unfolding output offsets
-  goes_on {k} {code} {map} {at} {to} {z} {next} {then} {x} g p h =
+  goes_on {k} {code} {map} {at} {to} {z} {next} {then} {x} g p =
+      let h = p.full in
       let D' = decode s (drop (at + z) code) in
       let a = take z (drop at code) in
       let f : First s code at z = rw (← p.long) at (first s code at) in
@@ -236,7 +235,7 @@ module _ (s : Sheet) (matches : Matcher) (protected code₀ : List ℕ) where
       let short = applied-short x a z la p.fits in
       let fits : to + length (applied x a) ≤ length code = omega (arith, g.behind) in
       let rest : drop (at + z) (put code to (applied x a)) ≡ drop (at + z) code = drop-put code to (applied x a) fits (at + z) (omega (arith, g.behind)) in
-      let acts = p.acts h in
+      let acts = p.acts in
       let out = rw (acts, f.some h) at g.out in
       record {
         behind = omega (arith, g.behind);
@@ -256,14 +255,14 @@ module _ (s : Sheet) (matches : Matcher) (protected code₀ : List ℕ) where
   -- nothing is left
   pub ends : {k : ℕ} {code map : List ℕ} {at to : ℕ} {next : Option Action} → Going k code map at to next → decode s (drop at code) ≡ []
       → Peephole (apply_peephole s matches protected code₀) code₀ (zeroed_from to code) (set map at to) to
-  unfolding output offsets actions_after actions moved_to filled zeroed_from
+  unfolding output offsets actions_after actions moved_to filled
   ends {k} {code} {map} {at} {to} {next} g e =
       let none_left : (n : Option Action) → actions_after s matches protected n at [] ≡ [] = λ n. elim n as (λ o. actions_after s matches protected o at [] ≡ []) [ none ↦ refl | some x ↦ refl ] in
       let out = rw (e, none_left next) at g.out in
       let is : (apply_peephole s matches protected code₀).0 ≡ take to code = out ∙ append-nil (take to code) in
       let long : length (take to code) ≡ to = length-take-le to code (omega (arith, g.behind, g.within)) in
       record {
-        is = rw (is, long, ← g.room);
+        is = rw (is, long, ← g.room) (zeroed-is to code);
         end = rw is (sym long);
         moved = λ x.
             let m = rw (e, none_left next) at (g.moved x) in

@@ -1,11 +1,12 @@
 -- What `decide` answers at each return, and what the loop makes of it.
-use mathlib.Core.Path.{◌≡◌, sym, ◌∙◌}
-use mathlib.Core.Bool.{true, false, ◌||◌}
+use mathlib.Core.Path.{◌≡◌, refl, sym, ◌∙◌}
+use mathlib.Core.Bool.{Bool, true, false, ◌||◌}
 use mathlib.Core.Option.{Option, some, none}
-use mathlib.Core.List.{List, map}
+use Rattle.std.specs.Prelude as std
+use Rattle.std.specs.Prelude.{Some, None}
+use mathlib.Core.List.{List, [], map}
 use Prim.Native.Nat.{ℕ, ◌+◌, ◌≤◌}
 use native.Mathlib.Omega.{arith}
-use borrow.Author.Tests.{eq-eqb, ne_eqb}
 use lib.ListN.{length, take, drop, set, get_or}
 use Rattle.definition.specs.Field.{has}
 use Rattle.definition.specs.Opcode.{Sheet}
@@ -19,14 +20,11 @@ use Rattle.rules.specs.declared.Found.TheVariants.{At, Nothing}
 use Rattle.rules.specs.View.{action_view, IsRules, rule_at, actions_in, pair_at}
 use Rattle.rules.proofs.Lookup.{actions-there, first-action, second-action}
 use Rattle.rewrite.proofs.Looking.{looked-inside}
-use Rattle.rewrite.specs.declared.Next.{Next}
-use Rattle.rewrite.specs.declared.Next.TheVariants.{Ask, Do}
 use Rattle.rewrite.specs.declared.Plan.{Plan}
-use Rattle.rewrite.specs.View.{is_mark, first_of, marked, matcher, next_view, Looked, Kept, Ready, FittingNext, Planned, Puts, Peephole}
-use Rattle.rewrite.proofs.Decoding.{First, first, first-within, listed}
+use Rattle.rewrite.specs.View.{first_of, marked, matcher, next_view, Looked, Kept, Ready, FittingNext, Planned, Puts, Peephole}
+use Rattle.rewrite.proofs.Decoding.{First, first, first-none, first-within, listed}
 use Rattle.rewrite.proofs.Fits.{found-fits}
-use Rattle.rewrite.proofs.Marked.{has-marked}
-use Rattle.rewrite.proofs.Pass.{plan-none, plan-known, plan-unstarted, plan-last, plan-protected, plan-unmatched, plan-matched, Going, goes_on, ends}
+use Rattle.rewrite.proofs.Pass.{plan-known, plan-unstarted, plan-last, plan-protected, plan-unmatched, plan-matched, Going, goes_on, ends}
 
 -- ---- a plan to keep
 
@@ -34,62 +32,50 @@ kept : {s : Sheet} {matches : Matcher} {protected code : List ℕ} {at z : ℕ} 
     → Planned s matches protected code at next z keep none → Planned s matches protected code at next r.size (action_view r.action) (next_view r.next)
 kept k p = rw (k.size, k.action, k.next) p
 
--- ---- marks
+-- ---- two tests in turn, a and b, of what p and q say
 
-module _ (marks : List ℕ) (at next : ℕ) where
-  either_first : (get_or marks at 0 ≡ 0 → ⊥) → (has (marked marks) at || has (marked marks) next) ≡ true
-  unfolding is_mark
-  either_first h = rw (has-marked marks at, ne_eqb _ _ h)
+pub either_first : {a p : Bool} (q : Bool) → a ≡ p → a ≡ true → (p || q) ≡ true
+either_first q e h = rw (← e, h)
 
-  either_second : get_or marks at 0 ≡ 0 → (get_or marks next 0 ≡ 0 → ⊥) → (has (marked marks) at || has (marked marks) next) ≡ true
-  unfolding is_mark
-  either_second e h = rw (has-marked marks at, has-marked marks next, eq-eqb _ _ e, ne_eqb _ _ h)
+pub either_second : {a b p q : Bool} → a ≡ p → a ≡ false → b ≡ q → b ≡ true → (p || q) ≡ true
+either_second e h f k = rw (← e, h, ← f, k)
 
-  neither : get_or marks at 0 ≡ 0 → get_or marks next 0 ≡ 0 → (has (marked marks) at || has (marked marks) next) ≡ false
-  unfolding is_mark
-  neither e f = rw (has-marked marks at, has-marked marks next, eq-eqb _ _ e, eq-eqb _ _ f)
+pub neither : {a b p q : Bool} → a ≡ p → a ≡ false → b ≡ q → b ≡ false → (p || q) ≡ false
+neither e h f k = rw (← e, h, ← f, k)
 
 -- ---- the returns of `decide`
 
-module _ (s : Sheet) (table : List ℕ) (count pass : ℕ) (marks code : List ℕ) (at : ℕ) (next : Next) (a : Bytes) (here : a ≡ first_of (decode s (drop at code))) where
-  pub decided-none : {r : Plan} → length a ≡ 0 → Kept (length a) r
-      → Planned s (matcher table count pass) (marked marks) code at (next_view next) r.size (action_view r.action) (next_view r.next)
-  decided-none z k = kept k (plan-none s _ _ code at a here (next_view next) z)
-
-  pub decided-known : {x : Action} → next ≡ Do x → (length a ≡ 0 → ⊥) → FittingNext (next_view next) (first_of (decode s (drop at code)))
+module _ (s : Sheet) (table : List ℕ) (count pass : ℕ) (marks code : List ℕ) (at : ℕ) (next : std.Option Action) (a : Bytes) (here : a ≡ first_of (decode s (drop at code))) (full : 1 ≤ length a) where
+  pub decided-known : {x : Action} → next ≡ Some x → FittingNext (next_view next) (first_of (decode s (drop at code)))
       → Planned s (matcher table count pass) (marked marks) code at (next_view next) (length a) (action_view x) none
-  decided-known {x} e full f =
+  decided-known {x} e f =
       let f' = rw e at f in
-      rw e (plan-known s _ _ code at a here (action_view x) (omega arith) f')
+      rw e (plan-known s _ _ code at a here (action_view x) full f')
 
-  pub decided-within : (length a ≡ 0 → ⊥) → at + length a ≤ length code
-  decided-within full = first-within s code at a here (omega arith)
+  pub decided-within : at + length a ≤ length code
+  decided-within = first-within s code at a here full
 
-  pub decided-unstarted : {r : Plan} → next ≡ Ask → (length a ≡ 0 → ⊥) → ((b : Bytes) → matcher table count pass (instruction s a) (instruction s b) ≡ none) → Kept (length a) r
+  pub decided-unstarted : {r : Plan} → next ≡ None → ((b : Bytes) → matcher table count pass (instruction s a) (instruction s b) ≡ none) → Kept (length a) r
       → Planned s (matcher table count pass) (marked marks) code at (next_view next) r.size (action_view r.action) (next_view r.next)
-  decided-unstarted asked full m k = rw asked (kept k (plan-unstarted s _ _ code at a here (omega arith) m))
+  decided-unstarted asked m k = rw asked (kept k (plan-unstarted s _ _ code at a here full m))
 
-  module _ (b : Bytes) (after : b ≡ first_of (decode s (drop (at + length a) code))) (asked : next ≡ Ask) (full : length a ≡ 0 → ⊥) where
+  module _ (b : Bytes) (after : b ≡ first_of (decode s (drop (at + length a) code))) (asked : next ≡ None) where
     pub decided-last : {r : Plan} → length b ≡ 0 → Kept (length a) r
         → Planned s (matcher table count pass) (marked marks) code at (next_view next) r.size (action_view r.action) (next_view r.next)
-    decided-last z k = rw asked (kept k (plan-last s _ _ code at a here b after (omega arith) z))
+    decided-last z k = rw asked (kept k (plan-last s _ _ code at a here b after full z))
 
-    module _ (more : length b ≡ 0 → ⊥) where
-      pub decided-first : {r : Plan} → (get_or marks at 0 ≡ 0 → ⊥) → Kept (length a) r
+    module _ (more : 1 ≤ length b) where
+      pub decided-protected : {r : Plan} → (has (marked marks) at || has (marked marks) (at + length a)) ≡ true → Kept (length a) r
           → Planned s (matcher table count pass) (marked marks) code at (next_view next) r.size (action_view r.action) (next_view r.next)
-      decided-first h k = rw asked (kept k (plan-protected s _ _ code at a here b after (omega arith) (omega arith) (either_first marks at (at + length a) h)))
+      decided-protected h k = rw asked (kept k (plan-protected s _ _ code at a here b after full more h))
 
-      pub decided-second : {r : Plan} → get_or marks at 0 ≡ 0 → (get_or marks (at + length a) 0 ≡ 0 → ⊥) → Kept (length a) r
-          → Planned s (matcher table count pass) (marked marks) code at (next_view next) r.size (action_view r.action) (next_view r.next)
-      decided-second e h k = rw asked (kept k (plan-protected s _ _ code at a here b after (omega arith) (omega arith) (either_second marks at (at + length a) e h)))
-
-      module _ (free : get_or marks at 0 ≡ 0) (free-next : get_or marks (at + length a) 0 ≡ 0) {f : Found} (l : Looked table count (matcher table count pass (instruction s a) (instruction s b)) f) where
+      module _ (free : (has (marked marks) at || has (marked marks) (at + length a)) ≡ false) {f : Found} (l : Looked table count (matcher table count pass (instruction s a) (instruction s b)) f) where
         pub decided-unmatched : {r : Plan} → f ≡ Nothing → Kept (length a) r
             → Planned s (matcher table count pass) (marked marks) code at (next_view next) r.size (action_view r.action) (next_view r.next)
         unfolding pair_at
         decided-unmatched e k =
             let m : matcher table count pass (instruction s a) (instruction s b) ≡ none = sym l.is ∙ rw e in
-            rw asked (kept k (plan-unmatched s _ _ code at a here b after (omega arith) (omega arith) (neither marks at (at + length a) free free-next) m))
+            rw asked (kept k (plan-unmatched s _ _ code at a here b after full more free m))
 
         pub decided-matched : (i : ℕ) (pair : List Action) (d : Action) → f ≡ At i → IsRules table count → map action_view pair ≡ actions_in table i
             → Planned s (matcher table count pass) (marked marks) code at (next_view next) (length a) (action_view (get_or pair 0 d)) (some (action_view (get_or pair 1 d)))
@@ -97,26 +83,24 @@ module _ (s : Sheet) (table : List ℕ) (count pass : ℕ) (marks code : List �
         decided-matched i pair d e held acts =
             let two = acts ∙ actions-there held (looked-inside l e) in
             let m : matcher table count pass (instruction s a) (instruction s b) ≡ some ((rule_at table i).one, (rule_at table i).two) = sym l.is ∙ rw e in
-            let fit = found-fits s table count pass a b _ _ held (listed s code at a here (omega arith)) (listed s code (at + length a) b after (omega arith)) m in
-            rw (asked, first-action d pair two, second-action d pair two) (plan-matched s _ _ code at a here b after (omega arith) (omega arith) _ _ (neither marks at (at + length a) free free-next) m fit.0 fit.1)
+            let fit = found-fits s table count pass a b _ _ held (listed s code at a here full) (listed s code (at + length a) b after more) m in
+            rw (asked, first-action d pair two, second-action d pair two) (plan-matched s _ _ code at a here b after full more _ _ free m fit.0 fit.1)
 
 -- ---- the loop
 
-module _ {s : Sheet} {matches : Matcher} {protected code₀ code code' moves : List ℕ} {k at to n z : ℕ} {next then : Option def.Action} {x : def.Action}
-    (g : Going s matches protected code₀ k code moves at to next) (p : Planned s matches protected code at next z x then) (same : n ≡ to) where
-  pub turns : {to' : ℕ} → (z ≡ 0 → ⊥) → Puts (applied x (take z (drop at code))) code code' to to' → Going s matches protected code₀ k code' (set moves at n) (at + z) to' then
-  turns full q = rw (same, q.is, q.end) (goes_on s matches protected code₀ g p (omega arith))
+module _ {s : Sheet} {matches : Matcher} {protected code₀ code code' moves : List ℕ} {k at to : ℕ} {next : Option def.Action} (g : Going s matches protected code₀ k code moves at to next) where
+  pub turns : {z to' : ℕ} {then : Option def.Action} {x : def.Action} → Planned s matches protected code at next z x then → Puts (applied x (take z (drop at code))) code code' to to'
+      → Going s matches protected code₀ k code' (set moves at to) (at + z) to' then
+  turns p q = rw (q.is, q.end) (goes_on s matches protected code₀ g p)
 
-  pub finishes : z ≡ 0 → code' ≡ zeroed_from to code → Peephole (apply_peephole s matches protected code₀) code₀ code' (set moves at n) to
-  finishes e q =
-      let f : First s code at z = rw (← p.long) at (first s code at) in
-      rw (same, q) (ends s matches protected code₀ g (f.none e))
+  pub finishes : first_of (decode s (drop at code)) ≡ [] → code' ≡ zeroed_from to code → Peephole (apply_peephole s matches protected code₀) code₀ code' (set moves at to) to
+  finishes e q = rw q (ends s matches protected code₀ g (first-none s code at [] (sym e) refl))
 
 pub turn-within : {s : Sheet} {matches : Matcher} {protected code : List ℕ} {at z : ℕ} {next then : Option def.Action} {x : def.Action}
-    → Planned s matches protected code at next z x then → (z ≡ 0 → ⊥) → at + z ≤ length code
-turn-within {s} {code = code} {at = at} {z = z} p full =
+    → Planned s matches protected code at next z x then → at + z ≤ length code
+turn-within {s} {code = code} {at = at} {z = z} p =
     let f : First s code at z = rw (← p.long) at (first s code at) in
-    f.within (omega arith)
+    f.within p.full
 
 -- `decide` is asked of the code as it is
 pub still-ready : {sheet rules marks code₀ code : List ℕ} {count : ℕ} → Ready sheet rules count marks code₀ → length code ≡ length code₀ → Ready sheet rules count marks code

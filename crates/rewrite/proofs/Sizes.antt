@@ -1,33 +1,43 @@
 -- What code learns of an instruction from the sheet's table.
 use mathlib.Core.Path.{◌≡◌, refl, ap, sym, ◌∙◌}
 use mathlib.Core.Option.{Option, some, none}
+use Rattle.std.specs.Prelude as std
+use Rattle.std.specs.Prelude.{Some, None, IfSome}
+use Rattle.std.specs.Borrow.{Bor}
+use Rattle.std.specs.Slice.{IsGetRangeResult}
 use mathlib.Core.List.{List, [], ◌∷◌}
 use Prim.Native.Nat.{ℕ, zero, suc, ◌+◌, ◌-◌, ◌≤◌, ◌<◌}
 use native.Mathlib.Omega.{arith}
+use Rattle.std.proofs.Common.{⊎_elim}
 use lib.ListN.{length, take, drop, get_or, get_elem?, length-drop}
 use lib.Seq.{length-take-le}
 use Rattle.definition.specs.Opcode.{Role, Sheet, role_of, roles, number, size, ret}
 use Rattle.definition.specs.Rules as def
 use Rattle.definition.specs.Rules.{role_numbered}
 use Rattle.definition.specs.Rewrite.{Bytes, decode, opcode_of, operand_of, instruction}
-use Rattle.opcode.specs.Table.{number_or}
+use Rattle.opcode.specs.Table.{number_or, number_in, IsTable, sheet_in}
+use Rattle.opcode.proofs.Tables.{table-number}
 use Rattle.opcode.proofs.Sheets.{role-number, number-below}
-use Rattle.rewrite.specs.View.{first_of}
-use Rattle.rewrite.proofs.Decoding.{decode-past, decode-at, decode-unlisted-at, decode-cut-at, first_taken, first-within}
+use Rattle.rewrite.specs.View.{first_of, part_of}
+use Rattle.rewrite.proofs.Decoding.{decode-past, decode-at, decode-unlisted-at, decode-cut-at, size-positive}
 
--- ---- its size
+-- ---- its bytes
+
+-- the number of the role of the byte at a place
+pub role-there : {sheet : List ℕ} (code : List ℕ) (at : ℕ) {n x : ℕ} → IsTable sheet → n ≡ number_in sheet x → x ≡ get_or code at 0 → x < 256 → n ≡ number_or (role_of (sheet_in sheet) (get_or code at 0))
+role-there code at {x = x} t e f h = rw (← f) (e ∙ table-number t x h)
 
 module _ (s : Sheet) (code : List ℕ) (at : ℕ) where
-  pub size-past : length code ≤ at → 0 ≡ length (first_of (decode s (drop at code)))
+  pub part-past : length code ≤ at → [] ≡ first_of (decode s (drop at code))
   unfolding first_of
-  size-past h = rw (decode-past s code at h)
+  part-past h = rw (decode-past s code at h)
 
   module _ (n : ℕ) (is : n ≡ number_or (role_of s (get_or code at 0))) (here : at < length code) where
-    pub size-unlisted : n ≡ 255 → 0 ≡ length (first_of (decode s (drop at code)))
+    pub part-unlisted : n ≡ 255 → [] ≡ first_of (decode s (drop at code))
     unfolding number_or first_of
-    size-unlisted e = by_role (role_of s (get_or code at 0)) refl (sym is ∙ e)
+    part-unlisted e = by_role (role_of s (get_or code at 0)) refl (sym is ∙ e)
       where
-        by_role : (q : Option Role) → role_of s (get_or code at 0) ≡ q → number_or q ≡ 255 → 0 ≡ length (first_of (decode s (drop at code)))
+        by_role : (q : Option Role) → role_of s (get_or code at 0) ≡ q → number_or q ≡ 255 → [] ≡ first_of (decode s (drop at code))
         by_role none r e = rw (decode-unlisted-at s code at here r)
         by_role (some q) r e = absurd (omega (arith, number-below q))
 
@@ -37,37 +47,23 @@ module _ (s : Sheet) (code : List ℕ) (at : ℕ) where
     listed ne none r e = absurd (ne (sym e))
     listed ne (some q) r e = rw (← e, role-number q) r
 
-    pub size-listed : (n ≡ 255 → ⊥) → role_of s (get_or code at 0) ≡ some (role_numbered n)
+    size-listed : (n ≡ 255 → ⊥) → role_of s (get_or code at 0) ≡ some (role_numbered n)
     size-listed ne = listed ne (role_of s (get_or code at 0)) refl (sym is)
 
-    pub size-cut : (n ≡ 255 → ⊥) → {z : ℕ} → z ≡ size (role_numbered n) → length code - at < z → 0 ≡ length (first_of (decode s (drop at code)))
+    -- as many bytes as its role says, if the code has them
+    pub part-got : (n ≡ 255 → ⊥) → {z : ℕ} → z ≡ size (role_numbered n) → (r : std.Option (Bor Bytes)) → IsGetRangeResult code at (at + z) r
+        → (part_of r ≡ first_of (decode s (drop at code))) × IfSome r (λ i. 1 ≤ length i.now)
     unfolding first_of
-    size-cut ne e h = rw (decode-cut-at s code at (role_numbered n) here (size-listed ne) (omega arith))
-
-    pub size-whole : (n ≡ 255 → ⊥) → {z : ℕ} → z ≡ size (role_numbered n) → z ≤ length code - at → z ≡ length (first_of (decode s (drop at code)))
-    unfolding first_of
-    size-whole ne {z} e h =
-        let d = decode-at s code at (role_numbered n) (size-listed ne) (omega arith) in
-        let l : length (take (size (role_numbered n)) (drop at code)) ≡ size (role_numbered n) = length-take-le (size (role_numbered n)) (drop at code) (simp length-drop (omega arith)) in
-        rw (d, l) e
-
-  -- ---- its bytes
-
-  pub part_none : {z : ℕ} → z ≡ length (first_of (decode s (drop at code))) → z ≡ 0 → [] ≡ first_of (decode s (drop at code))
-  part_none {z} e h = empty (first_of (decode s (drop at code))) (sym e ∙ h)
-    where
-      empty : (xs : List ℕ) → length xs ≡ 0 → [] ≡ xs
-      empty [] h = refl
-      empty (x ∷ xs) h = absurd (omega arith)
-
-  pub part-whole : {z : ℕ} → z ≡ length (first_of (decode s (drop at code))) → (z ≡ 0 → ⊥) → take (at + z - at) (drop at code) ≡ first_of (decode s (drop at code))
-  part-whole {z} e h =
-      let same : at + z - at ≡ z = omega arith in
-      let full : 1 ≤ z = omega arith in
-      rw (same, e) (sym (first_taken s code at (first_of (decode s (drop at code))) refl (omega arith)))
-
-  pub part-within : {z : ℕ} → z ≡ length (first_of (decode s (drop at code))) → (z ≡ 0 → ⊥) → at + z ≤ length code
-  part-within {z} e h = rw e (first-within s code at (first_of (decode s (drop at code))) refl (omega arith))
+    part-got ne {z} e None g =
+        let h : length code < at + size (role_numbered n) = ⊎_elim (λ l. absurd (omega arith)) (λ l. omega arith) g.0 in
+        (rw (decode-cut-at s code at (role_numbered n) here (size-listed ne) h), tt)
+    part-got ne {z} e (Some i) g =
+        let h : at + size (role_numbered n) ≤ length code = omega arith in
+        let same : at + z - at ≡ size (role_numbered n) = omega arith in
+        let p = size-positive (role_numbered n) in
+        let is = g.0.2 in
+        let long = g.0.3 in
+        (rw (decode-at s code at (role_numbered n) (size-listed ne) h) (is ∙ ap (λ (k : ℕ). take k (drop at code)) same), omega arith)
 
 -- ---- as a rule sees it
 

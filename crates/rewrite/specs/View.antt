@@ -1,5 +1,8 @@
 -- What this crate's functions give, said of the definition: the first instruction of some bytes, and what is left of a pass at a place.
 use Rattle.std.specs.Prelude.{ℕ, ◌+◌, ◌≤◌, ◌<◌, suc, ◌≡◌, Bool, true, false, not, List, [], ◌∷◌, ◌++◌, eqb, length, get_or, take, drop}
+use Rattle.std.specs.Prelude as std
+use Rattle.std.specs.Prelude.{Some, None}
+use Rattle.std.specs.Borrow.{Bor}
 use Rattle.std.proofs.Math.Option.{Option, some, none}
 use Rattle.definition.specs.Limits.{max_code}
 use Rattle.definition.specs.Opcode.{Sheet}
@@ -8,15 +11,19 @@ use Rattle.definition.specs.Rewrite.{Bytes, Matcher, OffsetMap, decode, actions,
 use Rattle.definition.specs.Lent.{filled}
 use Rattle.opcode.specs.Table.{IsTable}
 use Rattle.rules.specs.View.{action_view, rules_in, IsRules, Inside, pair_at}
+use Rattle.rules.specs.declared.Action as code
 use Rattle.rules.specs.declared.Found.{Found}
-use Rattle.rewrite.specs.declared.Next.{Next}
-use Rattle.rewrite.specs.declared.Next.TheVariants.{Ask, Do}
 use Rattle.rewrite.specs.declared.Plan.{Plan}
 
 -- the first of some instructions; no bytes where there is none
 unfoldable pub first_of : List Bytes → Bytes
 first_of [] = []
 first_of (i ∷ is) = i
+
+-- the bytes of an instruction that code may have; none where there is none
+abbrev pub part_of : std.Option (Bor Bytes) → Bytes
+part_of None = []
+part_of (Some i) = i.now
 
 -- the offsets, from `at` on, whose number in a table passes a test
 unfoldable pub offsets_where : (ℕ → ℕ → Bool) → ℕ → List ℕ → List ℕ
@@ -56,9 +63,10 @@ pub record Looked (table : List ℕ) (count : ℕ) (result : Option (Action × A
   pub is : pair_at table r ≡ result
   pub inside : Inside count r
 
-abbrev pub next_view : Next → Option Action
-next_view Ask = none
-next_view (Do x) = some (action_view x)
+-- what is known of the next instruction's action
+abbrev pub next_view : std.Option code.Action → Option Action
+next_view None = none
+next_view (Some x) = some (action_view x)
 
 -- the plan that keeps an instruction and knows nothing of the next
 pub record Kept (z : ℕ) (r : Plan) : Type 0 where
@@ -96,13 +104,19 @@ pub record Clear (n : ℕ) (table : List ℕ) : Type 0 where
   pub slots : n < length table
   pub none : (x : ℕ) → get_or table x 0 ≡ 0
 
--- what is decided for the instruction at a place: its size (0: there is none), its action, and what is then known of the next one's
+-- what is decided for the instruction at a place: its size, its action, and what is then known of the next one's
 pub record Planned (s : Sheet) (matches : Matcher) (protected code : List ℕ) (at : ℕ) (next : Option Action) (size : ℕ) (x : Action) (then : Option Action) : Type 0 where
   pub long : size ≡ length (first_of (decode s (drop at code)))
-  pub acts : 1 ≤ size → actions_after s matches protected next at (decode s (drop at code))
+  pub full : 1 ≤ size
+  pub acts : actions_after s matches protected next at (decode s (drop at code))
       ≡ x ∷ actions_after s matches protected then (at + size) (decode s (drop (at + size) code))
   pub fits : Fitting x size
   pub later : FittingNext then (first_of (decode s (drop (at + size) code)))
+
+-- the plan for a place, if an instruction can be decoded there
+abbrev pub Decided : Sheet → Matcher → List ℕ → List ℕ → ℕ → Option Action → std.Option Plan → Type 0
+Decided s matches protected code at next None = first_of (decode s (drop at code)) ≡ []
+Decided s matches protected code at next (Some p) = Planned s matches protected code at next p.size (action_view p.action) (next_view p.next)
 
 -- bytes put over others from a place on
 unfoldable pub put : List ℕ → ℕ → List ℕ → List ℕ

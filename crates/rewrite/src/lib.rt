@@ -1,11 +1,12 @@
 // One pass of pair rewriting, in place over lent code (optimize/rewrite.rs). Only our own crates call it: they lend tables that were read.
 #![tactic(auto)]
 
-ghost use Rattle.std.specs.Prelude.{◌≡◌, ◌+◌, ◌≤◌, length, take, drop};
+ghost use Rattle.std.specs.Prelude.{◌≡◌, ◌+◌, ◌≤◌, ◌<◌, length, take, drop, IfSome};
+ghost use Rattle.definition.specs.Field.{has};
 ghost use Rattle.definition.specs.Rewrite.{decode, operand_of, instruction, applied, apply_peephole};
 ghost use Rattle.opcode.specs.Table.{IsTable, sheet_in};
 ghost use Rattle.rules.specs.View.{action_view, instruction_view, IsRules, Indexed};
-ghost use Rattle.rewrite.specs.View.{first_of, marked, matcher, Looked, Kept, next_view, Fitting, FittingNext, Ready, Planned, Puts, Clear, Peephole};
+ghost use Rattle.rewrite.specs.View.{first_of, part_of, marked, matcher, Looked, Kept, next_view, Fitting, FittingNext, Ready, Decided, Puts, Clear, Peephole};
 
 use definition::MAX_CODE;
 use opcode::sheet;
@@ -24,59 +25,31 @@ pub const MIDDLE_CODE: usize = 16384;
 
 pub const MIDDLE_SLOTS: usize = MIDDLE_CODE + 1;
 
-// What is known of the next instruction's action: the second of a matched pair is decided with the first.
-#[derive(Clone, Copy)]
-pub enum Next {
-    Ask,
-    Do(Action),
-}
-
-// What is decided for one instruction; a size of 0 for none.
+// What is decided for one instruction, and what is then known of the next one's action: the second of a matched pair is decided with the first.
 #[derive(Clone, Copy)]
 pub struct Plan {
     pub size: usize,
     pub action: Action,
-    pub next: Next,
+    pub next: Option<Action>,
 }
 
-// The size of the instruction at a place; 0 where none can be decoded.
-fn size_at(sheet: &[u8], code: &[u8], at: usize) -> usize
+// The instruction at a place, as its part of the lent code, if one can be decoded.
+pub fn decode<'a>(sheet: &[u8], code: &'a [u8], at: usize) -> Option<&'a [u8]>
     requires { IsTable sheet.now }
-    ensures { result ≡ length (first_of (decode (sheet_in sheet.now) (drop at code.now))) }
+    ensures is { part_of result ≡ first_of (decode (sheet_in sheet.now) (drop at code.now)) }
+    ensures full { IfSome result (λ i. 1 ≤ length i.now) }
 {
-    if at >= code.len() {
-        return 0;
-    }
-    let role = sheet::role_number(sheet, code[at]);
+    let role = sheet::role_number(sheet, *code.get(at)?);
     if role == sheet::UNLISTED {
-        return 0;
+        return None;
     }
-    let size = opcode::size_numbered(role);
-    if size > code.len() - at {
-        return 0;
-    }
-    size
-}
-
-// The instruction at a place, as its part of the lent code; no bytes where none can be decoded.
-pub fn decode<'a>(sheet: &[u8], code: &'a [u8], at: usize) -> &'a [u8]
-    requires { IsTable sheet.now }
-    ensures { result.now ≡ first_of (decode (sheet_in sheet.now) (drop at code.now)) }
-{
-    let size = size_at(sheet, code, at);
-    if size == 0 {
-        return &code[..0];
-    }
-    let end = at + size;
-    &code[at..end]
+    code.get(at..at + opcode::size_numbered(role))
 }
 
 fn u16_operand(bytes: &[u8]) -> u16
     ensures { result ≡ operand_of bytes.now }
 {
-    let low = field::byte_or(bytes, 1, 0);
-    let high = field::byte_or(bytes, 2, 0);
-    low as u16 + 256 * (high as u16)
+    u16::from_le_bytes([field::byte_or(bytes, 1, 0), field::byte_or(bytes, 2, 0)])
 }
 
 // An instruction as a rule sees it.
@@ -85,44 +58,29 @@ fn seen(sheet: &[u8], bytes: &[u8]) -> Instruction
     ensures { instruction_view result ≡ instruction (sheet_in sheet.now) bytes.now }
 {
     let opcode = field::byte_or(bytes, 0, 0);
-    let role = sheet::role_number(sheet, opcode);
-    let operand = u16_operand(bytes);
     Instruction {
-        role: role,
-        operand: operand,
+        role: sheet::role_number(sheet, opcode),
+        operand: u16_operand(bytes),
     }
 }
 
-// The bytes at `from` again at `to`, which is not behind it.
-fn copy_down(code: &mut [u8], from: usize, to: usize, size: usize) -> usize
-    requires { (to ≤ from) × (from + size ≤ length code.old) }
-    ensures { Puts (take size (drop from code.old)) code.old code.new to result }
-{
-    let mut i = 0;
-    while i < size {
-        let b = code[from + i];
-        code[to + i] = b;
-        i += 1;
-    }
-    to + size
-}
-
-// What an action leaves of the instruction of `size` bytes at `from`, put at `to`.
+// What an action leaves of the instruction of `size` bytes at `from`, put at `to`, which is not behind it.
 fn apply(code: &mut [u8], from: usize, to: usize, size: usize, action: Action) -> usize
     requires to_le_from { (to ≤ from) × (from + size ≤ length code.old) }
     requires fitting { Fitting (action_view action) size }
     ensures { Puts (applied (action_view action) (take size (drop from code.old))) code.old code.new to result }
 {
     match action {
-        Action::Keep => copy_down(code, from, to, size),
+        Action::Keep => {
+            code.copy_within(from..from + size, to);
+            to + size
+        }
         Action::Remove => to,
         Action::RewriteOperand(n) => {
-            let high = n / 256;
-            let low = n % 256;
-            let opcode = code[from];
-            code[to] = opcode;
-            code[to + 1] = low as u8;
-            code[to + 2] = high as u8;
+            let [low, high] = n.to_le_bytes();
+            code[to] = code[from];
+            code[to + 1] = low;
+            code[to + 2] = high;
             to + 3
         }
     }
@@ -133,9 +91,9 @@ fn keep(size: usize) -> Plan
     ensures { Kept size result }
 {
     Plan {
-        size: size,
+        size,
         action: Action::Keep,
-        next: Next::Ask,
+        next: None,
     }
 }
 
@@ -158,7 +116,16 @@ fn look_up(
     rules::find(rules, count, index, pass, first, second)
 }
 
+// Whether a table of marks marks an offset.
+fn is_marked(marks: &[u8], at: usize) -> bool
+    requires { at < length marks.now }
+    ensures { result ≡ has (marked marks.now) at }
+{
+    marks[at] != 0
+}
+
 // What is done with the instruction at a place, and with the next one if the two match.
+#[tactic(auto, using(crate::proofs::Decoding::part_within))]
 fn decide(
     sheet: &[u8],
     rules: &[u16],
@@ -168,51 +135,42 @@ fn decide(
     marks: &[u8],
     code: &[u8],
     at: usize,
-    next: Next,
-) -> Plan
+    next: Option<Action>,
+) -> Option<Plan>
     requires ready { Ready sheet.now rules.now count marks.now code.now }
     requires indexed { Indexed rules.now count pass index.now }
     requires fitting_next { FittingNext (next_view next) (first_of (decode (sheet_in sheet.now) (drop at code.now))) }
-    ensures { Planned (sheet_in sheet.now) (matcher rules.now count pass) (marked marks.now) code.now at (next_view next) result.size (action_view result.action) (next_view result.next) }
+    ensures { Decided (sheet_in sheet.now) (matcher rules.now count pass) (marked marks.now) code.now at (next_view next) result }
 {
-    let a = decode(sheet, code, at);
+    let a = decode(sheet, code, at)?;
     let size = a.len();
-    if size == 0 {
-        return keep(size);
-    }
-    if let Next::Do(x) = next {
-        return Plan {
-            size: size,
-            action: x,
-            next: Next::Ask,
-        };
+    if let Some(action) = next {
+        return Some(Plan {
+            size,
+            action,
+            next: None,
+        });
     }
     let first = seen(sheet, a);
     if rules::head(index, first.role) == rules::NO_RULE {
-        return keep(size);
+        return Some(keep(size));
     }
     let then = at + size;
-    let b = decode(sheet, code, then);
-    if b.len() == 0 {
-        return keep(size);
-    }
-    if marks[at] != 0 {
-        return keep(size);
-    }
-    if marks[then] != 0 {
-        return keep(size);
+    let Some(b) = decode(sheet, code, then) else {
+        return Some(keep(size));
+    };
+    if is_marked(marks, at) || is_marked(marks, then) {
+        return Some(keep(size));
     }
     let Found::At(i) = look_up(sheet, rules, count, index, pass, first, b) else {
-        return keep(size);
+        return Some(keep(size));
     };
     let pair = rules::actions(rules, i);
-    let one = pair[0];
-    let two = pair[1];
-    Plan {
-        size: size,
-        action: one,
-        next: Next::Do(two),
-    }
+    Some(Plan {
+        size,
+        action: pair[0],
+        next: Some(pair[1]),
+    })
 }
 
 // One pass over a whole slice: it holds the rewritten code and then 0, the map leads from old offsets to new ones, and the new length is answered.
@@ -232,18 +190,14 @@ pub fn apply_peephole(
     let index = rules::make_index(rules, count, pass);
     let mut at = 0;
     let mut to = 0;
-    let mut next = Next::Ask;
-    loop {
-        let plan = decide(sheet, rules, count, &index, pass, marks, code, at, next);
-        let size = plan.size;
-        moves[at] = numbers::narrow(to);
-        if size == 0 {
-            store::zero_bytes(code, to);
-            return to;
-        }
-        let action = plan.action;
-        to = apply(code, at, to, size, action);
-        at += size;
+    let mut next = None;
+    while let Some(plan) = decide(sheet, rules, count, &index, pass, marks, code, at, next) {
+        moves[at] = to as u16;
+        to = apply(code, at, to, plan.size, plan.action);
+        at += plan.size;
         next = plan.next;
     }
+    moves[at] = to as u16;
+    store::zero_bytes(code, to);
+    to
 }

@@ -1,8 +1,9 @@
-use Rattle.field.proofs.Fields.{sums-whole, sums-broken}
+use Rattle.field.proofs.Fields.{digits-pass, sums-whole, sums-broken}
+use Rattle.field.specs.View.{separates}
 use Rattle.field.proofs.count.Goals as goal
 
-pub returns-then-e-d : goal.returns-then-e-d
-returns-then-e-d c = sums-whole c.digits-d.ensures.0 c.next_end-e.ensures c.if-e-d.true c.spell.ensures
+pub returns-then-field-digits_end : goal.returns-then-field-digits_end
+returns-then-field-digits_end c = sums-whole (c.digits-n.ensures.made separates digits-pass) c.next_end-field.ensures c.if-field-digits_end.true c.spell.ensures
 
-pub returns : goal.returns
-returns c = sums-broken c.digits-d.ensures.0 c.next_end-e.ensures c.if-e-d.false c.digits-d.ensures.1
+pub returns-else-field-digits_end : goal.returns-else-field-digits_end
+returns-else-field-digits_end c = sums-broken (c.digits-n.ensures.made separates digits-pass) c.next_end-field.ensures c.if-field-digits_end.false c.digits-n.ensures.stopped

@@ -5,8 +5,8 @@ use Rattle.rewrite.specs.View.{marked, matcher, next_view}
 use Rattle.rewrite.proofs.Pass.{Going}
 use Rattle.rewrite.proofs.apply_peephole.Given as goal
 
-abbrev pub invariant-loop-index : goal.invariant-loop-index
-invariant-loop-index l = Going (sheet_in l.sheet) (matcher l.rules l.count l.pass) (marked l.marks) l.initial.code (length l.initial.moves) l.code l.moves l.at l.to (next_view l.next)
+abbrev pub invariant-loop-plan : goal.invariant-loop-plan
+invariant-loop-plan l = Going (sheet_in l.sheet) (matcher l.rules l.count l.pass) (marked l.marks) l.initial.code (length l.initial.moves) l.code l.moves l.at l.to (next_view l.next)
 
-abbrev pub decreases-loop-index : goal.decreases-loop-index
-decreases-loop-index l = length l.initial.code - l.at
+abbrev pub decreases-loop-plan : goal.decreases-loop-plan
+decreases-loop-plan l = length l.initial.code - l.at

@@ -5,4 +5,4 @@ use borrow.Author.Rules.{rules}
 use Rattle.rewrite.proofs.seen.Goals as goal
 
 pub returns : goal.returns
-returns c = saw _ _ c.byte_or-opcode.ensures (c.role_number-role.ensures ∙ table-number c.requires _ (search rules)) c.u16_operand-operand.ensures
+returns c = saw _ _ c.byte_or-opcode.ensures (c.role_number.ensures ∙ table-number c.requires _ (search rules)) c.u16_operand.ensures

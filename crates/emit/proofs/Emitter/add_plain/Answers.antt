@@ -6,7 +6,7 @@ use Rattle.emit.proofs.Instructions.{puts, add-stops, add_goes, pushed-one}
 use Rattle.emit.proofs.Emitter.add_plain.Goals as goal
 
 pub prepare-e-requires : goal.prepare-e-requires
-prepare-e-requires c = record { fine = c.requires.fine; book_len = c.requires.book_len; bytes_le_max_code = omega arith }
+prepare-e-requires c = record { fine = c.requires.fine; bytes_le_max_code = omega arith }
 
 pub returns-then-e-ne0 : goal.returns-then-e-ne0
 returns-then-e-ne0 c = add-stops _ _ [] Other 1 refl c.requires.code_len c.prepare-e.ensures c.if-e-ne0.true

@@ -6,7 +6,7 @@ pub returns-then-n-self : goal.returns-then-n-self
 returns-then-n-self c = bound-none _ _ _ c.wide-n.ensures c.if-n-self.true
 
 pub label_place-requires : goal.label_place-requires
-label_place-requires c = record { book_len = c.requires.book_len; n_lt_max_labels = omega (arith, c.requires.fine.labels) }
+label_place-requires c = record { n_lt_max_labels = omega (arith, c.requires.fine.labels) }
 
 pub returns : goal.returns
 returns c = bound_at _ _ _ c.wide-n.ensures c.if-n-self.false c.label_place.ensures

@@ -5,10 +5,10 @@ use Rattle.emit.proofs.Branches.{branch-done}
 use Rattle.emit.proofs.Emitter.emit_branch.Goals as goal
 
 pub add_u16-e-requires : goal.add_u16-e-requires
-add_u16-e-requires c = record { fine = c.requires.fine; code_len = c.requires.code_len; book_len = c.requires.book_len }
+add_u16-e-requires c = record { fine = c.requires.fine; code_len = c.requires.code_len }
 
 pub add_patch-requires : goal.add_patch-requires
-add_patch-requires c = record { fine = c.add_u16-e.ensures.coded.fine; book_len = c.add_u16-e.ensures.coded.slots; branched = c.add_u16-e.ensures.branched (two_bytes 0) }
+add_patch-requires c = record { fine = c.add_u16-e.ensures.coded.fine; branched = c.add_u16-e.ensures.branched (two_bytes 0) }
 
 pub returns : goal.returns
 returns c = branch-done _ _ [] (patch_view c.args.patch) c.requires.fine c.requires.code_len c.requires.instruction_offset_value c.add_u16-e.ensures c.add_patch.ensures

@@ -9,7 +9,7 @@ pub returns-then-i-ge-MAX_CONSTANTS : goal.returns-then-i-ge-MAX_CONSTANTS
 returns-then-i-ge-MAX_CONSTANTS c = constant-full _ _ 3 (loading _) _ (load-constant-is _ _) c.requires c.index_of-i.ensures.value c.index_of-i.ensures.upper_bound c.if-i-ge-MAX_CONSTANTS.true c.refuse.ensures
 
 pub prepare-e-requires : goal.prepare-e-requires
-prepare-e-requires c = record { fine = c.requires.fine; book_len = c.requires.slots; bytes_le_max_code = omega arith }
+prepare-e-requires c = record { fine = c.requires.fine; bytes_le_max_code = omega arith }
 
 pub returns-then-e-ne0 : goal.returns-then-e-ne0
 returns-then-e-ne0 c = constant-halts _ _ 3 (loading _) _ (load-constant-is _ _) c.requires c.index_of-i.ensures.value c.if-i-ge-MAX_CONSTANTS.false c.prepare-e.ensures c.if-e-ne0.true

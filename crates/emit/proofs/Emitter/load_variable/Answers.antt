@@ -22,4 +22,4 @@ returns-in-Dup c = load-answers _ _ Dup c.requires.fine c.requires.code_len (sym
 
 pub returns-in-Fold : goal.returns-in-Fold
 unfolding read_by
-returns-in-Fold c = load-answers _ _ Fold c.requires.fine c.requires.code_len (sym c.in-Fold.is ∙ c.form-form.ensures) c.done-in-Fold.ensures.emitter_value c.done-in-Fold.ensures.result_value c.done-in-Fold.ensures.result_value_2 (coded_by _ _ (λ pool. fold_is _ _ _) (written-coded c.requires.book_len c.fold_store-e.ensures))
+returns-in-Fold c = load-answers _ _ Fold c.requires.fine c.requires.code_len (sym c.in-Fold.is ∙ c.form-form.ensures) c.done-in-Fold.ensures.emitter_value c.done-in-Fold.ensures.result_value c.done-in-Fold.ensures.result_value_2 (coded_by _ _ (λ pool. fold_is _ _ _) (written-coded c.told-book c.fold_store-e.ensures))

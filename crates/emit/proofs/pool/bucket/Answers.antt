@@ -1,6 +1,6 @@
 use Rattle.emit.specs.Pool.{bucket_of}
 use Rattle.emit.proofs.pool.bucket.Goals as goal
 
-pub returns : goal.returns
+pub returns-clause-value : goal.returns-clause-value
 unfolding bucket_of
-returns c = rw c.wide_word.ensures
+returns-clause-value c = rw c.wide_word.ensures
