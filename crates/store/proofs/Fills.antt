@@ -5,9 +5,10 @@ use Prim.Native.Nat.{ℕ, zero, suc, ◌+◌, ◌-◌, ◌≤◌, ◌<◌, min}
 use native.Mathlib.Numerals.{add-one}
 use native.Mathlib.Omega.{arith, min_cases}
 use lib.ListN.{length, take, drop, set, get_or, replicate, length-set, length-append, length-drop}
-use lib.Seq.{take-suc-set, take-suc, take_all, take_at, drop_at, length-take-le}
+use lib.Seq.{take-suc-set, take_all, take_at, drop_at, length-take-le}
 use Rattle.definition.specs.Lent.{zeros, filled}
-use Rattle.store.specs.Fill.{set_from, zeroed_from, fitted}
+use Rattle.std.proofs.lemmas.List.{replicate_more}
+use Rattle.store.specs.Fill.{set_from, zeroed_from, fitted, fitted_with}
 
 -- ---- zeros
 
@@ -33,98 +34,69 @@ zeros-append (suc a) b = let e : suc a + b ≡ suc (a + b) = omega arith in rw e
 
 -- ---- the same element from a place up to the end
 
-replicate_more : (n x : ℕ) → replicate n x ++ (x ∷ []) ≡ replicate (suc n) x
-replicate_more zero x = refl
-replicate_more (suc n) x = ap (λ (l : List ℕ). x ∷ l) (replicate_more n x)
-
-pub record Setting (x : ℕ) (list₀ : List ℕ) (from : ℕ) (list : List ℕ) (i : ℕ) : Type 0 where
+pub record Setting {A : Type 0} (x : A) (list₀ : List A) (from : ℕ) (list : List A) (i : ℕ) : Type 0 where
   pub head : take i list ≡ take from list₀ ++ replicate (i - from) x
   pub room : length list ≡ length list₀
-  pub low : from ≤ i
-  pub high : i ≤ from + (length list - from)
+  pub high : i - from ≤ length list₀ - from
 
-module _ (x : ℕ) (list₀ : List ℕ) (from : ℕ) where
+module _ {A : Type 0} (x : A) (list₀ : List A) (from : ℕ) where
   pub set-begins : Setting x list₀ from list₀ from
   set-begins =
       let e : from - from ≡ 0 = omega arith in
-      record { head = rw (e, append-nil); room = refl; low = omega arith; high = omega arith }
+      record { head = rw (e, append-nil); room = refl; high = omega arith }
 
-  module _ (list : List ℕ) (i : ℕ) (z : Setting x list₀ from list i) where
+  module _ (list : List A) (i : ℕ) (z : Setting x list₀ from list i) (low : from ≤ i) where
     pub set-goes-on : i < length list → Setting x list₀ from (set list i x) (i + 1)
     set-goes-on h =
-        let e : i + 1 - from ≡ suc (i - from) = omega (arith, z.low) in
+        let e : i + 1 - from ≡ i - from + 1 = omega arith in
         record {
-          head = rw (e, add-one, take-suc-set list i x h, z.head, ← (replicate_more (i - from) x), append_assoc);
+          head = rw (e, add-one i, take-suc-set list i x h, z.head, ← (replicate_more (i - from) x), append_assoc);
           room = length-set list i x ∙ z.room;
-          low = omega (arith, z.low);
-          high = simp length-set (omega (arith, z.low));
+          high = omega (arith, z.room);
         }
 
     pub set-ends : length list ≤ i → list ≡ set_from from x list₀
     unfolding set_from
     set-ends h =
-        let e : i - from ≡ length list₀ - from = omega (arith, z.low, z.high, z.room) in
+        let e : i - from ≡ length list₀ - from = omega (arith, z.high, z.room) in
         sym (take_all i list h) ∙ z.head ∙ ap (λ (n : ℕ). take from list₀ ++ replicate n x) e
 
--- of 0
-pub zero_is : {out : List ℕ} (from : ℕ) (l : List ℕ) → out ≡ set_from from 0 l → out ≡ zeroed_from from l
-unfolding set_from zeroed_from
-zero_is from l e = e ∙ ap (λ (r : List ℕ). take from l ++ r) (zeros-replicate (length l - from))
+-- 0 behind a front
+pub zeroed-is : (from : ℕ) (l : List ℕ) → zeroed_from from l ≡ take from l ++ zeros (length l - from)
+unfolding set_from
+zeroed-is from l = ap (λ (r : List ℕ). take from l ++ r) (zeros-replicate (length l - from))
 
 -- all of it
 pub zero-all : {out : List ℕ} (l : List ℕ) → out ≡ zeroed_from 0 l → out ≡ zeros (length l)
-unfolding zeroed_from
-zero-all l e = let z : length l - 0 ≡ length l = omega arith in e ∙ rw z
+zero-all l e = let z : length l - 0 ≡ length l = omega arith in e ∙ zeroed-is 0 l ∙ rw z
 
 -- behind its first n, which l took the place of
 pub zeroed-behind : {out : List ℕ} (n : ℕ) (l t : List ℕ) → n ≤ length t → length l ≡ length (take n t) → out ≡ zeroed_from n (l ++ drop n t) → (length l ≡ n) × (out ≡ l ++ zeros (length t - n))
-unfolding zeroed_from
 zeroed-behind n l t h e z =
     let long : length l ≡ n = e ∙ length-take-le n t h in
     let k : length (l ++ drop n t) - n ≡ length t - n = omega (arith, long, length-append l (drop n t), length-drop n t) in
-    (long, z ∙ rw (take_at l (drop n t) n long, k))
+    (long, z ∙ zeroed-is n (l ++ drop n t) ∙ rw (take_at l (drop n t) n long, k))
 
 -- ---- filling
 
-pub take-least : (n : ℕ) (l : List ℕ) → take (min n (length l)) l ≡ take n l
-take-least n l = min_cases n (length l) (take (min n (length l)) l ≡ take n l)
+pub take-least : {A : Type 0} (n : ℕ) (l : List A) → take (min n (length l)) l ≡ take n l
+take-least {A = A} n l = min_cases n (length l) (take (min n (length l)) l ≡ take n l)
     (λ h e. ap (λ (k : ℕ). take k l) e)
     (λ h e. ap (λ (k : ℕ). take k l) e ∙ take_all (length l) l (omega arith) ∙ sym (take_all n l h))
 
-pub record Filling (from out₀ out : List ℕ) (n i : ℕ) : Type 0 where
-  pub head : take i out ≡ take i from
-  pub room : length out ≡ length out₀
-  pub within : i ≤ n
-
-module _ (from out₀ : List ℕ) {n : ℕ} (least : n ≡ min (length from) (length out₀)) where
-  pub fill_begins : Filling from out₀ out₀ n 0
-  fill_begins = record { head = refl; room = refl; within = omega arith }
-
-  module _ (out : List ℕ) (i : ℕ) (f : Filling from out₀ out n i) where
-    pub fill-goes-on : i < n → Filling from out₀ (set out i (get_or from i 0)) n (i + 1)
-    fill-goes-on h = record {
-      head = rw (add-one i, take-suc-set out i (get_or from i 0) (omega (arith, f.room)), take-suc from i 0 (omega arith), f.head);
-      room = length-set out i (get_or from i 0) ∙ f.room;
-      within = omega arith;
-    }
-
-    pub fill-ends : (out' : List ℕ) → n ≤ i → out' ≡ zeroed_from n out → out' ≡ fitted (length out₀) from
-    unfolding fitted zeroed_from
-    fill-ends out' h z =
-        let e : i ≡ n = omega (arith, f.within) in
-        let head : take n out ≡ take (length out₀) from = rw e at f.head ∙ ap (λ (k : ℕ). take k from) least ∙ front in
-        let rest : length out - n ≡ length out₀ - length from = omega (arith, f.room) in
-        z ∙ rw (head, rest)
-      where
-        front : take (min (length from) (length out₀)) from ≡ take (length out₀) from
-        front = min_cases (length from) (length out₀) (take (min (length from) (length out₀)) from ≡ take (length out₀) from)
-            (λ h e. ap (λ (k : ℕ). take k from) e ∙ take_all (length from) from (omega arith) ∙ sym (take_all (length out₀) from h))
-            (λ h e. ap (λ (k : ℕ). take k from) e)
+-- behind the elements that from has put into out
+pub set-behind : {A : Type 0} (x : A) (from out : List A) {n : ℕ} {l list : List A} → n ≡ min (length out) (length from) → l ≡ take n from → list ≡ set_from n x (l ++ drop n out) → list ≡ fitted_with x (length out) from
+unfolding set_from fitted_with
+set-behind x from out {n = n} {l = l} e is z =
+    let long : length l ≡ n = ap length is ∙ length-take-le n from (omega (arith, e)) in
+    let k : length (l ++ drop n out) - n ≡ length out - length from = omega (arith, e, long, length-append l (drop n out), length-drop n out) in
+    let front : l ≡ take (length out) from = is ∙ rw e (take-least (length out) from) in
+    z ∙ rw (take_at l (drop n out) n long, k, front)
 
 -- where it fits
 pub fitted-is : {out : List ℕ} (room : ℕ) (xs : List ℕ) → length xs ≤ room → out ≡ fitted room xs → out ≡ filled room xs
-unfolding fitted filled
-fitted-is room xs h e = e ∙ rw (take_all room xs h)
+unfolding fitted_with filled
+fitted-is room xs h e = e ∙ rw (take_all room xs h, zeros-replicate (room - length xs))
 
 -- ---- what was filled in
 
