@@ -12,8 +12,9 @@ use native.Mathlib.Omega.{arith}
 use Rattle.definition.specs.Opcode.{same}
 use Rattle.definition.specs.Runs.{target}
 use Rattle.field.proofs.Results.{never}
+use Rattle.field.specs.View.{option_of}
 use Rattle.image_check.specs.Graph.{Node, Table, marked, blank, meet_at}
-use Rattle.image_check.specs.View.{stack_of, table_of, view, blanks, Ready, flagged, is_place, met_if, Meets, option_of}
+use Rattle.image_check.specs.View.{stack_of, table_of, view, blanks, Ready, flagged, is_place, met_if, Meets}
 use Rattle.std.specs.Prelude as std
 use Rattle.std.specs.Prelude.{Some, None, SomeIff}
 use Rattle.image_check.specs.declared.Trip.{Trip}

@@ -23,11 +23,6 @@ use Rattle.image_check.specs.declared.Trip.{Trip}
 
 -- ---- answers
 
--- an Option of code, as the definition's
-abbrev pub option_of : {A : Type 0} → std.Option A → Option A
-option_of None = none
-option_of (Some x) = some x
-
 -- the number of a fault, or 0
 abbrev pub fault_of : Result (Unit {0}) Refusal → ℕ
 fault_of (Ok x) = 0

@@ -7,14 +7,14 @@ ghost use Rattle.definition.specs.Field.{has};
 ghost use Rattle.definition.specs.Runs.{target};
 ghost use Rattle.definition.specs.Check.{starts, listed, Answers, Checks};
 ghost use Rattle.definition.specs.Claims.{Either};
+ghost use Rattle.field.specs.View.{option_of};
 ghost use Rattle.opcode.specs.View.{flow_view};
 ghost use Rattle.opcode.specs.Table.{table_size, IsTable, sheet_in};
 ghost use Rattle.rewrite.specs.View.{Clear};
 ghost use Rattle.image_check.specs.Place.{halts};
-ghost use Rattle.image_check.specs.View.{option_of, fault_of, number_of, place_of, is_place, wrong_by, behind_by, blanks, Ready, Meets, TraitsAt, Looks, Image, Expands, Traverses, Admitted, Rejects};
+ghost use Rattle.image_check.specs.View.{fault_of, number_of, place_of, is_place, wrong_by, behind_by, blanks, Ready, Meets, TraitsAt, Looks, Image, Expands, Traverses, Admitted, Rejects};
 
 use definition::{MAX_CODE, Refusal, Refused};
-use opcode::sheet::SheetRead;
 use opcode::{Effect, Flow, Role, Traits, sheet};
 
 // Code with its sheet's table and a flag at each start.
@@ -233,18 +233,12 @@ pub fn mark_starts(sheet: &[u8], code: &[u8], flags: &mut [u8])
     ensures { Image sheet.now code.now flags.new }
 {
     let mut at = 0;
-    loop {
-        let i = rewrite::decode(sheet, code, at);
-        let size = i.len();
-        if size == 0 {
-            return;
-        }
-        let ok = is_listed(sheet, i);
-        if !ok {
+    while let Some(i) = rewrite::decode(sheet, code, at) {
+        if !is_listed(sheet, i) {
             return;
         }
         flags[at] = 1;
-        at += size;
+        at += i.len();
     }
 }
 
@@ -316,21 +310,14 @@ pub fn admit(sheet: &[u8], code: &[u8], table: &mut [u8]) -> Result<(), Refused>
     requires { length table.old ≡ table_size }
     ensures { MatchResult result (λ _. Admitted sheet.now code.now table.new) (λ e. Rejects sheet.now code.now e) }
 {
-    match sheet::read_sheet(sheet, table) {
-        SheetRead::Refused(_, place) => Err(Refused {
-            refusal: Refusal::BadSheet,
-            place: place as usize,
-        }),
-        SheetRead::Accepted => {
-            if code.len() > MAX_CODE {
-                return Err(Refused {
-                    refusal: Refusal::CodeFull,
-                    place: 0,
-                });
-            }
-            Ok(())
-        }
+    sheet::read_sheet(sheet, table)?;
+    if code.len() > MAX_CODE {
+        return Err(Refused {
+            refusal: Refusal::CodeFull,
+            place: 0,
+        });
     }
+    Ok(())
 }
 
 // Code of an image against a sheet and its declared depth, from any bytes.
@@ -339,8 +326,5 @@ pub fn check_image(sheet: &[u8], code: &[u8], depth: u64) -> Result<(), Refused>
 {
     let mut table = [0u8; sheet::TABLE_SIZE];
     admit(sheet, code, &mut table)?;
-    match check_table(&table, code, depth) {
-        Ok(()) => Ok(()),
-        Err(refusal) => Err(Refused { refusal, place: 0 }),
-    }
+    check_table(&table, code, depth).map_err(|refusal| Refused { refusal, place: 0 })
 }
