@@ -1,18 +1,23 @@
 // How a load is emitted, and what it did: known here and nowhere else.
 ghost use Rattle.std.specs.Prelude.{◌≡◌};
 ghost use Rattle.emit.specs.View.{last_view};
-ghost use Rattle.emit.specs.Load.{load_form, no_reading, reading_of};
+ghost use Rattle.emit.specs.Load.{load_form};
 
 use crate::{Emitter, Last};
 
-// What `load_variable` answers: the offset of the byte that carries the read, whether that is a DUP, and whether the store before it moved by one.
-// After a refusal 0 and false.
+// What a load did: the offset of the byte that carries the read, whether that is a DUP, and whether the store before it moved by one.
 #[derive(Clone, Copy)]
-pub struct Loaded {
-    pub emitter: Emitter,
+pub struct Read {
     pub offset: usize,
     pub dup: bool,
     pub moved: bool,
+}
+
+// What `load_variable` answers: nothing is read after a refusal.
+#[derive(Clone, Copy)]
+pub struct Loaded {
+    pub emitter: Emitter,
+    pub read: Option<Read>,
 }
 
 // How a load is emitted.
@@ -24,46 +29,27 @@ pub enum LoadForm {
 }
 
 // How a load of v is emitted, by the last instruction.
+#[tactic(auto, using(std::proofs::lemmas::Bool::Decides::nat_tests), unfolding(crate::specs::Load::load_form))]
 pub fn form(last: Last, v: u16) -> LoadForm
     ensures { result ≡ load_form (last_view last) v }
 {
     match last {
-        Last::Other => LoadForm::Load,
-        Last::Loaded(w) => {
-            if w == v {
-                LoadForm::Dup
-            } else {
-                LoadForm::Load
-            }
-        }
-        Last::Stored(w) => {
-            if w == v {
-                LoadForm::Fold
-            } else {
-                LoadForm::Load
-            }
-        }
+        Last::Loaded(w) if w == v => LoadForm::Dup,
+        Last::Stored(w) if w == v => LoadForm::Fold,
+        _ => LoadForm::Load,
     }
 }
 
 // What a load did, unless it is refused.
-pub fn done(emitter: Emitter, offset: usize, dup: bool, moved: bool) -> Loaded
+pub fn done(emitter: Emitter, read: Read) -> Loaded
     ensures emitter_value { result.emitter ≡ emitter }
-    ensures result_value { emitter.refused ≡ 0 → reading_of result ≡ record { offset = offset; dup = dup; moved = moved } }
-    ensures result_value_2 { (emitter.refused ≡ 0 → ⊥) → reading_of result ≡ no_reading }
+    ensures going { emitter.refused ≡ None → result.read ≡ Some read }
+    ensures refused { (emitter.refused ≡ None → ⊥) → result.read ≡ None }
 {
-    if emitter.refused != 0 {
-        return Loaded {
-            emitter: emitter,
-            offset: 0,
-            dup: false,
-            moved: false,
-        };
-    }
-    Loaded {
-        emitter: emitter,
-        offset: offset,
-        dup: dup,
-        moved: moved,
-    }
+    let read = if emitter.refused.is_some() {
+        None
+    } else {
+        Some(read)
+    };
+    Loaded { emitter, read }
 }
