@@ -6,13 +6,11 @@ use mathlib.Core.Bool.{true, false}
 use mathlib.Core.Option.{Option, some, none}
 use lib.ListN.{length, get_or, replicate, length-replicate}
 use native.Mathlib.Omega.{arith}
-use Rattle.definition.specs.Limits.{max_code, bad_sheet, code_full, astray, bad_height}
+use Rattle.definition.specs.Limits.{max_code, code_full, astray, bad_height}
 use Rattle.definition.specs.Check.{Answers, Checks, refuses_sheet, refuses_length, answers as answers_it}
 use Rattle.store.proofs.Fills.{replicate-none}
 use Rattle.rewrite.specs.View.{Clear}
-use Rattle.opcode.specs.Reading.{Reads, Accepts, Refuses, answer_of}
-use Rattle.opcode.specs.declared.sheet.SheetRead.{SheetRead}
-use Rattle.opcode.specs.declared.sheet.SheetRead.TheVariants as sheets
+use Rattle.opcode.specs.Reading.{Accepts, Refuses}
 use Rattle.opcode.specs.Table.{sheet_in}
 use Rattle.image_check.specs.Graph.{Node, Table, and_then, meet, one, blank, traverse, nothing, verdict, traversed}
 use Rattle.image_check.specs.View.{stack_of, table_of, view, blanks, Ready, Image, Meets, node_in, on_from, Traverses, Admitted}
@@ -86,15 +84,15 @@ cleared n {end = end} l = record { slots = subst (λ k. end < k) (sym (length-re
 
 -- ---- the call
 
-module _ (sheet table code : List ℕ) (f : SheetRead) (h : Reads sheet table (answer_of f)) where
-  pub admits-sheet : {n p : ℕ} → f ≡ sheets.Refused n p → (depth : ℕ) → Checks sheet code depth bad_sheet p
-  admits-sheet {n = n} {p = p} e depth = let d : Refuses sheet table n p = rw e at h in refuses_sheet d.is d.fault
+module _ (sheet table code : List ℕ) where
+  pub admits-sheet : {n p : ℕ} → Refuses sheet table n p → (depth : ℕ) → Checks sheet code depth n p
+  admits-sheet {p = p} d depth = subst (λ n. Checks sheet code depth n p) (sym d.number) (refuses_sheet d.is d.fault)
 
-  pub admits-length : f ≡ sheets.Accepted → max_code < length code → (depth : ℕ) → Checks sheet code depth code_full 0
-  admits-length e l depth = let d : Accepts sheet table = rw e at h in refuses_length d.is l
+  pub admits-length : Accepts sheet table → max_code < length code → (depth : ℕ) → Checks sheet code depth code_full 0
+  admits-length d l depth = refuses_length d.is l
 
-  pub admits-code : f ≡ sheets.Accepted → length code ≤ max_code → Admitted sheet code table
-  admits-code e l = let d : Accepts sheet table = rw e at h in record { ready = d.ready; read = d.is; small = l }
+  pub admits-code : Accepts sheet table → length code ≤ max_code → Admitted sheet code table
+  admits-code d l = record { ready = d.ready; read = d.is; small = l }
 
 pub checks-code : {sheet code table : List ℕ} {depth n : ℕ} → Admitted sheet code table → Answers (sheet_in table) code depth n → Checks sheet code depth n 0
 checks-code a x = answers_it a.read a.small x

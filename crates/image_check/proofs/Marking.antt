@@ -52,13 +52,13 @@ module _ (sheet code : List ℕ) (table : IsTable sheet) (small : length code �
     long : length i ≡ length (first_of (rest at))
     long = ap length is
 
-    pub mark-none : length i ≡ 0 → Image sheet code flags
+    pub mark-none : i ≡ [] → Image sheet code flags
     unfolding up_to_unlisted
-    mark-none z = marked flags at m (ap (λ x. up_to_unlisted s x) ((first s code at).none (sym long ∙ z)))
+    mark-none z = marked flags at m (ap (λ x. up_to_unlisted s x) ((first s code at).none (sym long ∙ ap length z)))
 
-    module _ (z : length i ≡ 0 → ⊥) where
+    module _ (z : 1 ≤ length i) where
       one : 1 ≤ length (first_of (rest at))
-      one = let l = long in omega (arith, z)
+      one = let l = long in omega arith
 
       pub inside : at + length i ≤ length code
       inside = let l = long in let w = (first s code at).within one in omega arith
@@ -84,5 +84,5 @@ module _ (sheet code : List ℕ) (table : IsTable sheet) (small : length code �
           more = starts_from (at + length i) (up_to_unlisted s (rest (at + length i)))
 
           by : (q : ℕ) (b : Bool) → eqb q at ≡ b → (flagged flags q || has (at ∷ more) q) ≡ (flagged (set flags at 1) q || has more q)
-          by q true k = let e = eqb-true q at k in ap (λ x. flagged flags q || x) (has_first at more q e) ∙ (or-any (flagged flags q) ∙ sym (ap (λ x. x || has more q) (flag-set flags at q (let a = m.room in let b = inside in omega (arith, z)) e)))
+          by q true k = let e = eqb-true q at k in ap (λ x. flagged flags q || x) (has_first at more q e) ∙ (or-any (flagged flags q) ∙ sym (ap (λ x. x || has more q) (flag-set flags at q (let a = m.room in let b = inside in omega arith) e)))
           by q false k = ap (λ x. flagged flags q || x) (has-past q at more (eqb-false q at k)) ∙ sym (ap (λ x. x || has more q) (flag-other flags at q (eqb-false q at k)))

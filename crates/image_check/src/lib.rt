@@ -326,5 +326,8 @@ pub fn check_image(sheet: &[u8], code: &[u8], depth: u64) -> Result<(), Refused>
 {
     let mut table = [0u8; sheet::TABLE_SIZE];
     admit(sheet, code, &mut table)?;
-    check_table(&table, code, depth).map_err(|refusal| Refused { refusal, place: 0 })
+    match check_table(&table, code, depth) {
+        Ok(()) => Ok(()),
+        Err(refusal) => Err(Refused { refusal, place: 0 }),
+    }
 }
