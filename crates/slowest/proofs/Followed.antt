@@ -15,7 +15,7 @@ use Rattle.definition.specs.Slowest as def
 use Rattle.store.specs.Store.{Store, at, contents, push_all}
 use Rattle.store.specs.Fill.{zeroed_from}
 use Rattle.store.proofs.Stores.{length-push_all, contents-room, used-room}
-use Rattle.store.proofs.Fills.{zero-all}
+use Rattle.store.proofs.Fills.{zero-all, zeroed-is}
 use Rattle.opcode.specs.Table.{sheet_in}
 use Rattle.field.proofs.Results.{never}
 use Rattle.image_check.specs.View.{Admitted, Rejects}
@@ -167,13 +167,14 @@ module _ (sheet code : List ℕ) (depth : ℕ) (outcomes : List ℕ) where
     fronts-unfit e a = fronts-refused e (def.refuses enough (a depth) (refused-number e.refusal))
 
     pub fronts-worked : {table : List ℕ} {r : Result Measured Refusal} → Admitted sheet code table → Works table code depth outcomes r → Fronts sheet code depth outcomes (placed r)
-    unfolding looping measured filled zeroed_from
+    unfolding looping measured filled
     fronts-worked a (refuses {r = r} x) = fronts-refused (record { refusal = r; place = 0 }) (def.refuses enough (checks-code a x) (refused-number r))
     fronts-worked a (loops x l) = subst (λ out. M (record { number = 0; place = 0; loops = 1; instruction_count = 0; outcome_count = 0; outcomes = out })) none-given (def.loops enough a.read (checks-code a x) l)
     fronts-worked a (measures {count = count} {n = n} {os = os} x straight run least f) =
         let e = ap (λ k. outcome_bytes os ++ zeros (room - k)) (length-bytes os ∙ sym f.many) ∙ ap (λ xs. xs ++ zeros (room - n)) (sym f.front) in
-        subst (λ k. M (record { number = 0; place = 0; loops = 0; instruction_count = count; outcome_count = k; outcomes = take n outcomes ++ zeros (room - n) })) (sym f.many)
-        (subst (λ out. M (record { number = 0; place = 0; loops = 0; instruction_count = count; outcome_count = length os; outcomes = out })) e (def.measures enough a.read (checks-code a x) straight run least))
+        subst (λ out. M (record { number = 0; place = 0; loops = 0; instruction_count = count; outcome_count = n; outcomes = out })) (sym (zeroed-is n outcomes))
+        (subst (λ k. M (record { number = 0; place = 0; loops = 0; instruction_count = count; outcome_count = k; outcomes = take n outcomes ++ zeros (room - n) })) (sym f.many)
+        (subst (λ out. M (record { number = 0; place = 0; loops = 0; instruction_count = count; outcome_count = length os; outcomes = out })) e (def.measures enough a.read (checks-code a x) straight run least)))
 
 -- what is zeroed behind the outcomes is all of it
 pub measures-zeroed : (sheet code : List ℕ) (depth : ℕ) (outcomes : List ℕ) (r : Result Measured Refused) {out : List ℕ} {room : ℕ} → Fronts sheet code depth outcomes r → out ≡ zeroed_from (used r) outcomes → length outcomes ≡ room → Measures room sheet code depth (answer_view r out)

@@ -22,7 +22,8 @@ use Rattle.opcode.specs.declared.Flow.{Flow}
 use Rattle.opcode.specs.declared.Flow.TheVariants.{Onward, Away, Either, Stop}
 use Rattle.opcode.specs.declared.Traits.{Traits}
 use Rattle.runs.proofs.Roles.{branch-size}
-use Rattle.image_check.specs.View.{Image, TraitsAt, option_of}
+use Rattle.field.specs.View.{option_of}
+use Rattle.image_check.specs.View.{Image, TraitsAt}
 use Rattle.slowest.specs.View.{place_or, count_in, ahead, longer, way_by, way_role, way_at}
 use Rattle.slowest.specs.declared.Way.{Way}
 use Rattle.slowest.specs.declared.Way.TheVariants.{Back, Ends, Onwards, Falls, Jumps}

@@ -75,10 +75,7 @@ fn way_at(image: Flagged, counts: &[u16], p: usize) -> Way
     ensures { result ≡ way_at (sheet_in image.entry.sheet.now) image.entry.code.now counts.now p }
 {
     let code = image.code;
-    if p >= code.len() {
-        return Way::Ends(0);
-    }
-    if image.flags[p] == 0 {
+    if p >= code.len() || image.flags[p] == 0 {
         return Way::Ends(0);
     }
     let seen = image_check::traits_at(image.sheet, code, p);
