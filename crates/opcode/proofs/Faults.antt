@@ -18,7 +18,7 @@ use Rattle.field.proofs.Numbers.{up-to-bound}
 use Rattle.opcode.specs.Table.{byte_count, Good, sheet_by}
 use Rattle.opcode.proofs.Roles.{seen_at}
 use Rattle.field.proofs.Tests.{and_left, and_right}
-use Rattle.field.proofs.Lists.{take-map, drop-map}
+use Rattle.std.proofs.lemmas.List.{take-map, drop-map}
 use Rattle.opcode.proofs.Sheets.{has-cons, distinct_cons}
 
 -- two constructors are never equal

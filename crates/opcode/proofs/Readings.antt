@@ -23,7 +23,8 @@ use Rattle.field.specs.View.{Ends, line_end, line_fields}
 use Rattle.field.proofs.Numbers.{up-to-bound}
 use Rattle.field.proofs.Parts.{parts_last, parts_more, line-part, line-is, line-ends, Some, some-part, split-some}
 use Rattle.field.proofs.Fields.{Whole}
-use Rattle.field.proofs.Lists.{drop-map, drop-take}
+use Rattle.std.proofs.lemmas.List.{drop-map}
+use Rattle.field.proofs.Lists.{drop-take}
 use Rattle.field.proofs.Results.{never}
 use Rattle.std.specs.List.{list_any}
 use Rattle.std.specs.Prelude.{Result, Ok, Err, is_ok}
