@@ -17,7 +17,6 @@ use Rattle.field.specs.View.{cap, is_digit, count, capped, spelt, signs, past, d
 use Rattle.field.proofs.Lists.{first-left, there}
 use Rattle.std.proofs.lemmas.List.{nil_from_length}
 use Rattle.field.proofs.Numbers.{digit_low, count-digit, count-other, natural-some, natural-none, up-to-is, below-is, value-plain, value-minus}
-use Rattle.field.proofs.Results.{never}
 use Rattle.field.proofs.Parts.{finds-start, finds-next, finds-rest, until-never, until-next, until-here, until_end, until-first, split-sep, split-other, Some, some-part, split-some}
 
 -- ---- the digits of a field, byte by byte
@@ -121,8 +120,8 @@ past-is false at = omega arith
 pub sign-there : (f : def.Field) (text : List ℕ) (at : ℕ) {s : Bool} → s ≡ signs f (get_or text at 0) → at + bool_byte s ≤ at + (length text - at)
 unfolding signs
 sign-there f text at {s = false} e = omega arith
-sign-there (up_to m) text at {s = true} e = never (cc)
-sign-there (below m) text at {s = true} e = never (cc)
+sign-there (up_to m) text at {s = true} e = absurd (cc)
+sign-there (below m) text at {s = true} e = absurd (cc)
 sign-there (value w) text at {s = true} e = omega (arith, there text at (λ z. omega (arith, z, eqb-true (get_or text at 0) minus (sym e))))
 
 -- ---- a field and its line
