@@ -2,6 +2,7 @@
 use Rattle.std.specs.Prelude.{ℕ, ◌+◌, ◌≤◌, ◌<◌, suc, ◌≡◌, Bool, true, false, not, List, [], ◌∷◌, ◌++◌, eqb, length, get_or, take, drop}
 use Rattle.std.specs.Prelude as std
 use Rattle.std.specs.Prelude.{Some, None}
+use Rattle.std.specs.Option.{option_map}
 use Rattle.std.specs.Borrow.{Bor}
 use Rattle.std.proofs.Math.Option.{Option, some, none}
 use Rattle.definition.specs.Limits.{max_code}
@@ -9,10 +10,11 @@ use Rattle.definition.specs.Opcode.{Sheet}
 use Rattle.definition.specs.Rules.{Action, keep, remove, rewrite_operand, matches}
 use Rattle.definition.specs.Rewrite.{Bytes, Matcher, OffsetMap, decode, actions, moved_to}
 use Rattle.definition.specs.Lent.{filled}
+use Rattle.field.specs.View.{option_of}
 use Rattle.opcode.specs.Table.{IsTable}
-use Rattle.rules.specs.View.{action_view, rules_in, IsRules, Inside, pair_at}
+use Rattle.rules.specs.View.{action_view, rules_in, Inside, pair_at}
 use Rattle.rules.specs.declared.Action as code
-use Rattle.rules.specs.declared.Found.{Found}
+use Rattle.rules.specs.declared.Matcher as lent
 use Rattle.rewrite.specs.declared.Plan.{Plan}
 
 -- the first of some instructions; no bytes where there is none
@@ -58,15 +60,18 @@ FittingNext (some x) i = Fitting x (length i)
 abbrev pub matcher : List ℕ → ℕ → ℕ → Matcher
 matcher table count pass = λ a b. matches pass (rules_in table count) a b
 
+-- the same in code
+abbrev pub matches_in : lent.Matcher → Matcher
+matches_in m = matcher m.rules.table.now m.rules.count m.pass
+
 -- the pair of actions that was asked for is that of a rule of the table
-pub record Looked (table : List ℕ) (count : ℕ) (result : Option (Action × Action)) (r : Found) : Type 0 where
+pub record Looked (table : List ℕ) (count : ℕ) (result : Option (Action × Action)) (r : std.Option ℕ) : Type 0 where
   pub is : pair_at table r ≡ result
   pub inside : Inside count r
 
 -- what is known of the next instruction's action
 abbrev pub next_view : std.Option code.Action → Option Action
-next_view None = none
-next_view (Some x) = some (action_view x)
+next_view o = option_of (option_map action_view o)
 
 -- the plan that keeps an instruction and knows nothing of the next
 pub record Kept (z : ℕ) (r : Plan) : Type 0 where
@@ -74,10 +79,9 @@ pub record Kept (z : ℕ) (r : Plan) : Type 0 where
   pub action : action_view r.action ≡ keep
   pub next : next_view r.next ≡ none
 
--- what is lent to a pass: the tables of a sheet and of rules, a mark for each offset, and code within its limit
-pub record Ready (sheet rules : List ℕ) (count : ℕ) (marks code : List ℕ) : Type 0 where
+-- what is lent to a pass beside its rules: the table of a sheet, a mark for each offset, and code within its limit
+pub record Ready (sheet marks code : List ℕ) : Type 0 where
   pub table : IsTable sheet
-  pub held : IsRules rules count
   pub slots : length code < length marks
   pub small : length code ≤ max_code
 
