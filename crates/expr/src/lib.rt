@@ -70,6 +70,7 @@ pub fn emit_expr(
         }
     };
     let cursor = program::next_line(text, c, next.end);
+    let below = left - 1;
     match next.line {
         ExprLine::Const(k) => {
             let emitter = e.load_constant(sheet, code, book, pool, k);
@@ -85,75 +86,30 @@ pub fn emit_expr(
         }
         ExprLine::Binary(o) => {
             let two = emit_two(
-                text,
-                sheet,
-                code,
-                book,
-                pool,
-                variables,
-                left - 1,
-                h,
-                e,
-                cursor,
+                text, sheet, code, book, pool, variables, below, h, e, cursor,
             );
             operate(two, sheet, code, book, o.role())
         }
         ExprLine::Unary(o) => {
             let one = emit_expr(
-                text,
-                sheet,
-                code,
-                book,
-                pool,
-                variables,
-                left - 1,
-                h,
-                e,
-                cursor,
+                text, sheet, code, book, pool, variables, below, h, e, cursor,
             );
             operate(one, sheet, code, book, o.role())
         }
         ExprLine::Compare(o) => {
             let two = emit_two(
-                text,
-                sheet,
-                code,
-                book,
-                pool,
-                variables,
-                left - 1,
-                h,
-                e,
-                cursor,
+                text, sheet, code, book, pool, variables, below, h, e, cursor,
             );
             operate(two, sheet, code, book, Role::Compare(o))
         }
         ExprLine::ShortCircuit(ShortCircuitOp::AndThen) => {
             emit_and_then(
-                text,
-                sheet,
-                code,
-                book,
-                pool,
-                variables,
-                left - 1,
-                h,
-                e,
-                cursor,
+                text, sheet, code, book, pool, variables, below, h, e, cursor,
             )
         }
         ExprLine::ShortCircuit(ShortCircuitOp::OrElse) => {
             emit_or_else(
-                text,
-                sheet,
-                code,
-                book,
-                pool,
-                variables,
-                left - 1,
-                h,
-                e,
-                cursor,
+                text, sheet, code, book, pool, variables, below, h, e, cursor,
             )
         }
     }

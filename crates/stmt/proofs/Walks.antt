@@ -6,7 +6,7 @@ use Prim.Native.Nat.{ℕ}
 use Rattle.definition.specs.Opcode.{Sheet}
 use Rattle.definition.specs.Tree.{Block, done, ◌then◌}
 use Rattle.definition.specs.Program as def
-use Rattle.definition.specs.Program.{is, StmtLine, line_at, stmt_forms}
+use Rattle.definition.specs.Program.{Line, is, StmtLine}
 use Rattle.definition.specs.Walk.{Calls}
 use Rattle.definition.specs.Walk as walk
 use Rattle.definition.specs.Stmt.{Loops, record_position, source_of, emit_stmt, emit_block, emit_stmts}
@@ -14,6 +14,7 @@ use Rattle.program_line.specs.declared.StmtLine as code
 use Rattle.program_line.specs.View.{stmt_line}
 use Rattle.program.specs.declared.Cursor.{Cursor}
 use Rattle.program.specs.Walk.{cursor_of, Near, Skipped}
+use Rattle.program.specs.declared.Ends.{Ends}
 use Rattle.program.specs.Ends.{Sound}
 use Rattle.emit.specs.View.{World}
 use Rattle.emit.specs.Steps.{run, Filled}
@@ -32,11 +33,11 @@ pub stands_here : {text : List ℕ} {c : Cursor} → Near text c.at c.row → Sk
 stands_here near = record { is = refl; near = near }
 
 -- what a line was read as
-pub reads : {text : List ℕ} {left v at : ℕ} {line x : code.StmtLine} → is (stmt_line line) ≡ line_at (stmt_forms v) left text at → line ≡ x → line_at (stmt_forms v) left text at ≡ is (stmt_line x)
-reads e told = sym e ∙ ap (λ (l : code.StmtLine). is {L = StmtLine} (stmt_line l)) told
+pub reads : {line x : code.StmtLine} {l : Line StmtLine} → is (stmt_line line) ≡ l → line ≡ x → l ≡ is (stmt_line x)
+reads e told = rw told at (sym e)
 
 -- what is noted is so for a statement's parts too
-pub inner-noted : (ctx : Context) {text : List ℕ} {k : Context} {ends : List ℕ} → k ≡ inner_of ctx → Sound text ctx.variables ends → Sound text k.variables ends
+pub inner-noted : (ctx : Context) {text : List ℕ} {k : Context} {ends : Ends} → k ≡ inner_of ctx → Sound text ctx.variables ends → Sound text k.variables ends
 inner-noted ctx e l = rw e l
 
 -- ---- open loops

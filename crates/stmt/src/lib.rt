@@ -27,7 +27,7 @@ use emit::{Book, Constant, Emitter, Label, NewLabel, Pool};
 use expr::Walked;
 use line_map::Pos;
 use opcode::Role;
-use program::{Cursor, ENDS_SIZE};
+use program::{Cursor, Ends};
 use program_line::{ArmLine, StmtLine};
 use program_shape::Shape;
 use stmt_parts::loops::{OpenLoop, OpenLoops};
@@ -37,7 +37,7 @@ use stmt_parts::{Context, conditions, labels, loops};
 #[derive(Clone, Copy)]
 struct Lent {
     loops: OpenLoops,
-    ends: [u16; ENDS_SIZE],
+    ends: Ends,
 }
 
 // Where a statement stands in its source.
@@ -751,7 +751,7 @@ pub fn emit_stmts(
 {
     let mut lent = Lent {
         loops: [OpenLoop::NONE; MAX_NESTING],
-        ends: [0; ENDS_SIZE],
+        ends: Ends::new(),
     };
     let ctx = Context {
         variables,

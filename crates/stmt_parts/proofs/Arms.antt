@@ -8,11 +8,13 @@ use Rattle.definition.specs.Opcode.{Sheet, CompareOp, Eq, Ge, Le, dup}
 use Rattle.definition.specs.Opcode as role
 use Rattle.definition.specs.Tree.{CaseLabel, value, range}
 use Rattle.definition.specs.Program as def
-use Rattle.definition.specs.Program.{is, not, line_at, next_line, fault_at, label_forms, label_by, labels_at}
+use Rattle.definition.specs.Program.{Line, is, not, line_at, next_line, fault_at, label_forms, label_by, labels_at}
 use Rattle.definition.specs.Emit.{bind_label, load_constant, emit_opcode, emit_jmp, emit_jmp_if_not, reset_stack_depth, refused}
 use Rattle.definition.specs.Walk.{Calls, say, new_label}
 use Rattle.definition.specs.Walk as walk
 use Rattle.definition.specs.Stmt.{test_against, test_label, test_labels}
+use Rattle.program_line.specs.declared.LabelLine as code
+use Rattle.program_line.specs.View.{label_line}
 use Rattle.program.specs.declared.Cursor.{Cursor}
 use Rattle.program.specs.Walk.{cursor_of, Near, Skipped}
 use Rattle.emit.specs.declared.Emitter.{Emitter}
@@ -26,6 +28,10 @@ use Rattle.stmt_parts.specs.Parts.{Leads, label_here, test_jump, test_all, arm_t
 use Rattle.stmt_parts.proofs.Walks.{bare-on, booked-on, created-on, coded-on}
 
 -- ---- labels
+
+-- what a line was read as
+pub reads : {line x : code.LabelLine} {l : Line CaseLabel} → is (label_line line) ≡ l → line ≡ x → l ≡ is (label_line x)
+reads e told = rw told at (sym e)
 
 module _ (s : Sheet) where
   pub against : (op : CompareOp) (k fail : ℕ) {e e₁ e₃ r : Emitter} {code book pool k₁ b₁ k₃ b₃ k₄ b₄ : List ℕ} {w₂ : World} → Ready (world e code book pool) → Coded (call s (emit_opcode dup)) e code book e₁ k₁ b₁ → Filled (call s (load_constant k)) (world e₁ k₁ b₁ pool) w₂

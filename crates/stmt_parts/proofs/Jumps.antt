@@ -8,13 +8,12 @@ use lib.ListN.{length, get_or, set}
 use Rattle.definition.specs.Limits.{max_code, no_loop}
 use Rattle.definition.specs.Opcode.{Sheet}
 use Rattle.definition.specs.Program as def
-use Rattle.definition.specs.Program.{Form, not, line_at, next_line}
+use Rattle.definition.specs.Program.{next_line}
 use Rattle.definition.specs.Emit.{Call, bind_label, emit_jmp, refused}
 use Rattle.definition.specs.Walk.{say, when}
 use Rattle.definition.specs.Stmt.{labels, exit_of, next_of}
 use Rattle.program.specs.declared.Cursor.{Cursor}
 use Rattle.program.specs.Walk.{Skipped}
-use Rattle.program.proofs.Laws.{line-some}
 use Rattle.emit.specs.declared.Emitter.{Emitter}
 use Rattle.emit.specs.Book.{book_size}
 use Rattle.emit.specs.Steps.{run, call, Fine, Bare, Booked, Coded}
@@ -26,14 +25,6 @@ use Rattle.stmt_parts.specs.Parts.{jump_row, Stepped, Continued, BindsNext}
 use Rattle.stmt_parts.proofs.Opens.{open-other, open-here, led-nowhere, led-there}
 use Rattle.stmt_parts.proofs.Marks.{labels-none, labels-found, marks-none, marks-found}
 use Rattle.stmt_parts.proofs.Walks.{booked-on}
-
--- a line's refusal is some number
-pub bad-line : {P : Type 0} (forms : List (Form P)) (left : ℕ) (text : List ℕ) (at n : ℕ) → line_at forms left text at ≡ not n → 0 < n
-bad-line forms left text at n e = go n (line-some forms left text at n e)
-  where
-    go : (n : ℕ) → (n ≡ 0 → ⊥) → 0 < n
-    go zero h = absurd (h refl)
-    go (suc n) h = omega arith
 
 -- ---- EXIT and CONTINUE
 

@@ -1,5 +1,7 @@
 use mathlib.Core.Path.{sym}
 use native.Mathlib.Omega.{arith}
+use borrow.Author.Rules.{rules}
+use Rattle.opcode.specs.declared.ShortCircuitOp.TheVariants.{AndThen, OrElse}
 use Rattle.program.proofs.Laws.{line-there}
 use Rattle.emit.proofs.Steps.{coded-filled}
 use Rattle.expr.proofs.Lines.{passed-fewer, read-most}
@@ -12,20 +14,8 @@ emit_expr-returns-in-Err t c = went-bad _ _ _ _ _ _ _ c.requires.near c.requires
 pub emit_expr-next_line-cursor-requires-clause-at_in_bounds : goal.emit_expr-next_line-cursor-requires-clause-at_in_bounds
 emit_expr-next_line-cursor-requires-clause-at_in_bounds t c = (line-there _ _ _ _ _ (sym c.in-Ok.ensures.is)).0
 
-pub emit_expr-overflow_sub-left : goal.emit_expr-overflow_sub-left
-emit_expr-overflow_sub-left t c = (line-there _ _ _ _ _ (sym c.in-Ok.ensures.is)).1
-
-pub emit_expr-overflow_sub-left-in-Unary : goal.emit_expr-overflow_sub-left-in-Unary
-emit_expr-overflow_sub-left-in-Unary t c = (line-there _ _ _ _ _ (sym c.in-Ok.ensures.is)).1
-
-pub emit_expr-overflow_sub-left-in-Compare : goal.emit_expr-overflow_sub-left-in-Compare
-emit_expr-overflow_sub-left-in-Compare t c = (line-there _ _ _ _ _ (sym c.in-Ok.ensures.is)).1
-
-pub emit_expr-overflow_sub-left-in-ShortCircuit-AndThen : goal.emit_expr-overflow_sub-left-in-ShortCircuit-AndThen
-emit_expr-overflow_sub-left-in-ShortCircuit-AndThen t c = (line-there _ _ _ _ _ (sym c.in-Ok.ensures.is)).1
-
-pub emit_expr-overflow_sub-left-in-ShortCircuit-OrElse : goal.emit_expr-overflow_sub-left-in-ShortCircuit-OrElse
-emit_expr-overflow_sub-left-in-ShortCircuit-OrElse t c = (line-there _ _ _ _ _ (sym c.in-Ok.ensures.is)).1
+pub emit_expr-overflow_sub-below : goal.emit_expr-overflow_sub-below
+emit_expr-overflow_sub-below t c = (line-there _ _ _ _ _ (sym c.in-Ok.ensures.is)).1
 
 pub emit_expr-emit_two-two-requires : goal.emit_expr-emit_two-two-requires
 emit_expr-emit_two-two-requires t c = (omega (arith, c.decreases, passed-fewer _ _ c.next_line-cursor.ensures (line-there _ _ _ _ _ (sym c.in-Ok.ensures.is)).0), (c.next_line-cursor.ensures.near, (c.requires.ready, omega (arith, c.requires.left_bound, (line-there _ _ _ _ _ (sym c.in-Ok.ensures.is)).1))))
@@ -61,10 +51,10 @@ pub emit_expr-returns-in-Compare : goal.emit_expr-returns-in-Compare
 emit_expr-returns-in-Compare t c = went-compare _ _ _ _ _ _ c.next_line-cursor.ensures _ (reads c.in-Ok.ensures.is c.in-Compare.is) c.emit_two-two-in-Compare.ensures c.operate-in-Compare.ensures
 
 pub emit_expr-returns-in-ShortCircuit-AndThen : goal.emit_expr-returns-in-ShortCircuit-AndThen
-emit_expr-returns-in-ShortCircuit-AndThen t c = went-short _ _ _ _ _ _ c.next_line-cursor.ensures _ (reads-short c.in-Ok.ensures.is c.in-ShortCircuit-AndThen.is c.in-ShortCircuit-AndThen.field-0-is) c.emit_and_then.ensures
+emit_expr-returns-in-ShortCircuit-AndThen t c = went-short _ _ _ _ _ _ c.next_line-cursor.ensures _ (reads-short {x = AndThen} c.in-Ok.ensures.is c.in-ShortCircuit-AndThen.is (search rules)) c.emit_and_then.ensures
 
 pub emit_expr-returns-in-ShortCircuit-OrElse : goal.emit_expr-returns-in-ShortCircuit-OrElse
-emit_expr-returns-in-ShortCircuit-OrElse t c = went-short _ _ _ _ _ _ c.next_line-cursor.ensures _ (reads-short c.in-Ok.ensures.is c.in-ShortCircuit-OrElse.is c.in-ShortCircuit-OrElse.field-0-is) c.emit_or_else.ensures
+emit_expr-returns-in-ShortCircuit-OrElse t c = went-short _ _ _ _ _ _ c.next_line-cursor.ensures _ (reads-short {x = OrElse} c.in-Ok.ensures.is c.in-ShortCircuit-OrElse.is (search rules)) c.emit_or_else.ensures
 
 pub emit_two-returns : goal.emit_two-returns
 emit_two-returns t c = two-done _ _ _ _ _ _ c.emit_expr.ensures c.emit_expr-2.ensures

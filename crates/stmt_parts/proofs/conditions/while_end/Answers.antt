@@ -1,8 +1,8 @@
 use Rattle.stmt_parts.proofs.Tests.{back-fused, back-jumps}
 use Rattle.stmt_parts.proofs.conditions.while_end.Goals as goal
 
-pub returns-in-Fused : goal.returns-in-Fused
-returns-in-Fused c = back-fused _ _ _ _ c.in-Fused.ensures c.emit_classified_cmp_br.ensures
+pub returns-in-Some : goal.returns-in-Some
+returns-in-Some c = back-fused _ _ _ _ c.in-Some.ensures c.emit_classified_cmp_br.ensures
 
-pub returns-in-Other : goal.returns-in-Other
-returns-in-Other c = back-jumps _ _ _ c.in-Other.ensures c.requires.ready c.emit_jmp.ensures
+pub returns-in-None : goal.returns-in-None
+returns-in-None c = back-jumps _ _ _ c.in-None.ensures c.requires.ready c.emit_jmp.ensures
