@@ -1,3 +1,4 @@
+use mathlib.Core.Path.{sym}
 use native.Mathlib.Omega.{arith}
 use Rattle.program.proofs.Laws.{line-there}
 use Rattle.stmt_parts.proofs.Walks.{inner-left, inner-inside}
@@ -7,12 +8,13 @@ use Rattle.stmt.proofs.Laws.{begins, goes_on, stays, ends, ran-if, ran-loop, ran
 use Rattle.stmt.proofs.Looping.{body-done, plain_done, while-done, repeat-done, while-places, repeat-places, is-while, is-repeat, is_plain}
 use Rattle.stmt.proofs.Cases.{arm-none, arm-some, arms-begin, arms-on, arms-bad, arms_end_lem, case-done, ran-case}
 use Rattle.stmt.proofs.+stmts.Goals as goal
+use Rattle.stmt.proofs.+stmts.Goals.{sequence-in-Ok, sequence-in-Err}
 
 pub arm-returns-then-n-eq0 : goal.arm-returns-then-n-eq0
-arm-returns-then-n-eq0 t c = arm-none _ _ _ _ _ _ _ c.if-n-eq0.true c.requires.ready c.skip_block-cursor.ensures.skipped c.skip_block-cursor.ensures.sound_2
+arm-returns-then-n-eq0 t c = rw (← c.from-n.ensures, ← c.from-m.ensures) (arm-none _ _ _ _ _ _ _ c.if-n-eq0.true c.requires.ready c.skip_block-cursor.ensures.skipped c.skip_block-cursor.ensures.sound_2)
 
 pub arm-returns : goal.arm-returns
-arm-returns t c = arm-some _ _ _ _ _ _ _ c.requires.ready c.if-n-eq0.false c.create_label.ensures c.open_arm.ensures c.emit_opcode-e.ensures (nested _ c.sequence.ensures) c.close_arm-emitter.ensures
+arm-returns t c = rw (← c.from-n.ensures, ← c.from-m.ensures) (arm-some _ _ _ _ _ _ _ c.requires.ready c.if-n-eq0.false c.create_label.ensures c.open_arm.ensures c.emit_opcode-e.ensures (nested _ c.sequence.ensures) c.close_arm-emitter.ensures)
 
 pub arms-loop-init : goal.arms-loop-init
 arms-loop-init t c = arms-begin _ _ _ _ _ _ _ _ c.requires.noted c.requires.near c.requires.ready (omega arith)
@@ -99,10 +101,20 @@ pub stmt-loop_-requires : goal.stmt-loop_-requires
 stmt-loop_-requires t c = (omega (arith, c.decreases, (line-there _ _ _ _ _ (reads c.requires.line_value c.in-Loop.is)).1, inner-left _ c.inner-ctx.ensures), (inner-noted _ c.inner-ctx.ensures c.requires.noted, (c.requires.skipped.near, (c.requires.ready, omega (arith, c.requires.left_bound, (line-there _ _ _ _ _ (reads c.requires.line_value c.in-Loop.is)).1, inner-left _ c.inner-ctx.ensures, inner-inside _ c.inner-ctx.ensures)))))
 
 pub arms-returns-in-Err : goal.arms-returns-in-Err
-arms-returns-in-Err t c = arms-bad c.loop.invariant _ c.in-Err.ensures.is (omega (arith, c.loop-test.true)) c.refuse-emitter.ensures
+arms-returns-in-Err t c = arms-bad c.loop.invariant _ (sym c.in-Err.ensures.is) (omega (arith, c.loop-test.true)) c.refuse-emitter.ensures
 
 pub arms-loop-preserved : goal.arms-loop-preserved
-arms-loop-preserved t c = arms-on c.loop.invariant _ _ c.in-Ok.ensures.is c.next_line-to.ensures c.arm-done.ensures (omega (arith, c.loop-test.true)) (omega arith)
+arms-loop-preserved t c = arms-on c.loop.invariant _ _ (sym c.in-Ok.ensures.is) c.next_line-to.ensures c.arm-done.ensures (omega (arith, c.loop-test.true)) (omega arith)
 
 pub sequence-loop-preserved : goal.sequence-loop-preserved
-sequence-loop-preserved t c = ?
+sequence-loop-preserved t c =
+    elim c.match-next_stmt.branch [
+      sequence-in-Ok w ↦ rw (w.on-is, w.code-is, w.book-is, w.pool-is, w.lent-is, w.here-is) (goes_on c.loop.invariant _ w.in-Ok.ensures.is w.record_position-on.ensures w.stmt-done.ensures (omega (arith, c.loop-test.true)) (omega arith))
+    | sequence-in-Err w ↦ rw (w.on-is, w.code-is, w.book-is, w.pool-is, w.lent-is, w.here-is) (stays c.loop.invariant _ (sym w.in-Err.ensures.is) w.refuse-on.ensures (omega (arith, c.loop-test.true)) (omega arith))
+    ]
+
+pub arms-next_line-to-requires-clause-at_in_bounds : goal.arms-next_line-to-requires-clause-at_in_bounds
+arms-next_line-to-requires-clause-at_in_bounds t c = (line-there _ _ _ _ _ (sym c.in-Ok.ensures.is)).0
+
+pub sequence-next_line-to-requires-clause-at_in_bounds : goal.sequence-next_line-to-requires-clause-at_in_bounds
+sequence-next_line-to-requires-clause-at_in_bounds t c = (line-there _ _ _ _ _ (sym c.in-Ok.ensures.is)).0
