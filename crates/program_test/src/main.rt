@@ -74,7 +74,7 @@ fn answer<W: Write>(out: &mut W, text: &[u8]) -> io::Result<()> {
         }) => {
             print(out, 0, b',')?;
             print(out, u64::from(variables), b',')?;
-            print(out, statements as u64, b',')?;
+            print(out, u64::from(statements), b',')?;
             print(out, u64::from(pos.line), b',')?;
             print(out, u64::from(pos.column), b',')?;
             print(out, next as u64, b'\n')
