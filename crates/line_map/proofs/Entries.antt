@@ -47,6 +47,15 @@ entries-more ns h =
     let e : length ns / entry_size ≡ suc (length (drop entry_size ns) / entry_size) = simp length-drop (omega arith) in
     ap (λ (k : ℕ). first_entries k ns) e
 
+-- of a list cut into entries
+pub entries-chunk : (x r : List ℕ) → length x ≡ entry_size → entries_of (x ++ r) ≡ entry_in x ∷ entries_of r
+unfolding entry_in pos_of
+entries-chunk [] r h = absurd (omega arith)
+entries-chunk (a ∷ []) r h = absurd (omega arith)
+entries-chunk (a ∷ b ∷ []) r h = absurd (omega arith)
+entries-chunk (a ∷ b ∷ c ∷ []) r h = entries-more (a ∷ b ∷ c ∷ r) (omega arith)
+entries-chunk (a ∷ b ∷ c ∷ d ∷ x) r h = absurd (omega arith)
+
 pub entries-few : (ns : List ℕ) → length ns < entry_size → entries_of ns ≡ []
 unfolding entries_of first_entries
 entries-few ns h =

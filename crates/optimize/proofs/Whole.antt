@@ -19,8 +19,7 @@ use Rattle.definition.specs.Res.{Res, ok, refuse, ◌>>◌, demand}
 use Rattle.definition.specs.Lent.{entries_of}
 use Rattle.definition.specs.Alone as def-alone
 use Rattle.definition.specs.Alone.{Given, Room, checked, rewritten, answer}
-use Rattle.optimize.specs.declared.Offset.{Offset}
-use Rattle.optimize.specs.declared.Offset.TheVariants.{Fine, Bad}
+use Rattle.std.specs.Prelude.{Ok, Err}
 use Rattle.optimize.specs.View.{pipeline, passes, map_in, given, room, answer_view, Passed, Rewrote, Remaps, Roomy, Within, over_limit, after_limits, after_rules}
 use Rattle.store.specs.Fill.{zeroed_from}
 use Rattle.store.proofs.Fills.{zero-all}
@@ -89,22 +88,22 @@ unfolding answer
 refused number place bytes offsets entries eb eo ee = rw (zero-all bytes eb, zero-all offsets eo, zero-all entries ee)
 
 -- 8
-pub refused-8 : (s : Sheet) (rs : List Rule) (g : Given) {table : List ℕ} {o : Offset} {x p : ℕ} {a : def-alone.Answer} (r : Room) → Passed s g table o → o ≡ Bad x → p ≡ x
+pub refused-8 : (s : Sheet) (rs : List Rule) (g : Given) {table : List ℕ} {x p : ℕ} {a : def-alone.Answer} (r : Room) → Passed s g table (Err x) → p ≡ x
     → a ≡ answer r (refuse 8 p) → a ≡ answer r (after_limits s rs g)
 unfolding after_limits ◌>>◌
-refused-8 s rs g {x = x} {p = p} r pass q e is =
-    let c : refuse bad_code x ≡ checked s g = rw q at pass.is in
+refused-8 s rs g {x = x} {p = p} r pass e is =
+    let c : refuse bad_code x ≡ checked s g = pass.is in
     is ∙ rw (e, ← c)
 
-pub finished : (s : Sheet) (rs : List Rule) (code protected lines total bytes offsets entries : List ℕ) {t b o e : List ℕ} {f : Offset} {n k : ℕ}
-    → Passed s (given code protected lines) total f → f ≡ Fine
+pub finished : (s : Sheet) (rs : List Rule) (code protected lines total bytes offsets entries : List ℕ) {t b o e : List ℕ} {n k : ℕ}
+    → Passed s (given code protected lines) total (Ok tt)
     → Rewrote (passes s rs (pipeline code protected total)) bytes offsets b o t n
     → Remaps (remap_line_map (map_in t) n none (entries_of lines)) entries e k
     → answer_view (record { number = 0; place = 0; bytes = n; protected = length protected; entries = k }) b o e
     ≡ answer (room bytes offsets entries) (after_limits s rs (given code protected lines))
 unfolding after_limits ◌>>◌ answer rewritten passes optimize run
-finished s rs code protected lines total bytes offsets entries {t = t} {n = n} {k = k} pass q w m =
-    let c : ok tt ≡ checked s (given code protected lines) = rw q at pass.is in
+finished s rs code protected lines total bytes offsets entries {t = t} {n = n} {k = k} pass w m =
+    let c : ok tt ≡ checked s (given code protected lines) = pass.is in
     let q₃ = passes s rs (pipeline code protected total) in
     let same : remap_line_map (map_in t) n none (entries_of lines) ≡ remap_line_map (optimize s rs code protected).map (length q₃.bytecode) none (entries_of lines)
     = rw (w.map, w.end) (same-remap q₃.map (optimize s rs code protected).map (length q₃.bytecode) none (entries_of lines)

@@ -1,6 +1,7 @@
 -- What this crate's functions give, said of the definition.
 use Rattle.std.specs.Prelude.{ℕ, ◌*◌, ◌/◌, ◌≤◌, ◌<◌, suc, ◌≡◌, true, false, List, [], ◌∷◌, map, eqb, leb, length, get_or}
-use Rattle.std.proofs.Math.Option.{Option, some, none}
+use Rattle.std.specs.Prelude as std
+use Rattle.std.specs.Prelude.{Some, None, Result, Ok, Err}
 use Rattle.definition.specs.Limits.{max_code, max_protected, max_lines, entry_size, bad_code, code_full, labels_full, lines_full}
 use Rattle.definition.specs.Res.{Res, ok, refuse, ◌>>=◌, ◌>>◌, demand}
 use Rattle.definition.specs.Field.{has}
@@ -17,12 +18,7 @@ use Rattle.definition.specs.Alone.{Given, Rewritten, Room, checked, rewritten}
 use Rattle.optimize.specs.declared.alone.Answer.{Answer}
 use Rattle.line_map.specs.View.{entry_view}
 use Rattle.rewrite.specs.View.{offsets_where, marked}
-use Rattle.optimize.specs.declared.Kept.{Kept}
-use Rattle.optimize.specs.declared.Kept.TheVariants.{None, At}
-use Rattle.optimize.specs.declared.Remapped.{Remapped}
-use Rattle.optimize.specs.declared.Remapped.TheVariants.{Gone, Moved}
-use Rattle.optimize.specs.declared.Offset.{Offset}
-use Rattle.optimize.specs.declared.Offset.TheVariants.{Fine, Bad}
+use Rattle.line_map.specs.declared.LineEntry.{LineEntry}
 
 -- ---- tables by offset
 
@@ -87,32 +83,34 @@ pub record Rewrote (p : Pipeline) (bytes offsets bytes' offsets' total' : List �
 
 -- ---- the types of this crate
 
-abbrev pub kept_view : Kept → Option ℕ
-kept_view None = none
-kept_view (At x) = some x
-
-abbrev pub remapped_view : Remapped → List def.LineEntry
-remapped_view Gone = []
-remapped_view (Moved e) = entry_view e ∷ []
+-- an entry that is kept, or none
+abbrev pub remapped_view : std.Option LineEntry → List def.LineEntry
+remapped_view None = []
+remapped_view (Some e) = entry_view e ∷ []
 
 -- the last kept entry's offset, after one entry more
-abbrev pub last_after : Remapped → Kept → Kept
-last_after Gone last = last
-last_after (Moved e) last = At e.offset
+abbrev pub last_after : std.Option LineEntry → std.Option ℕ → std.Option ℕ
+last_after None last = last
+last_after (Some e) last = Some e.offset
+
+-- one offset's check, by the offsets that are fine
+abbrev pub CheckedOffset : List ℕ → ℕ → Result (Unit {0}) ℕ → Type 0
+CheckedOffset fine x (Ok u) = has fine x ≡ true
+CheckedOffset fine x (Err y) = (y ≡ x) × (has fine x ≡ false)
 
 -- what the check of a list of offsets comes to
-abbrev pub offset_view : Offset → Res (Unit {0})
-offset_view Fine = ok tt
-offset_view (Bad x) = refuse bad_code x
+abbrev pub offset_view : Result (Unit {0}) ℕ → Res (Unit {0})
+offset_view (Ok u) = ok tt
+offset_view (Err x) = refuse bad_code x
 
 -- the offsets of a line list's entries
 abbrev pub entry_offsets : List ℕ → List ℕ
 entry_offsets lines = map (λ (x : def.LineEntry). x.offset) (entries_of lines)
 
 -- where nothing is bad, every offset has a place in a table of k elements
-pub record Checks (result : Res (Unit {0})) (k : ℕ) (list : List ℕ) (r : Offset) : Type 0 where
+pub record Checks (result : Res (Unit {0})) (k : ℕ) (list : List ℕ) (r : Result (Unit {0}) ℕ) : Type 0 where
   pub is : offset_view r ≡ result
-  pub small : r ≡ Fine → Small k list
+  pub small : r ≡ Ok tt → Small k list
 
 -- the entries kept from the start of an output of numbers, and 0 up to its end
 pub record Remaps (kept : List def.LineEntry) (out out' : List ℕ) (r : ℕ) : Type 0 where
@@ -125,11 +123,11 @@ abbrev pub given : List ℕ → List ℕ → List ℕ → Given
 given code protected lines = record { code = code; protected = protected; lines = lines }
 
 -- the check of code, protected offsets and line offsets, and the table of boundaries that it leaves
-pub record Passed (s : Sheet) (g : Given) (table : List ℕ) (r : Offset) : Type 0 where
+pub record Passed (s : Sheet) (g : Given) (table : List ℕ) (r : Result (Unit {0}) ℕ) : Type 0 where
   pub is : offset_view r ≡ checked s g
   pub end : ℕ
   pub bounds : Bounds s g.code table end
-  pub small : r ≡ Fine → Small (suc (length g.code)) g.protected
+  pub small : r ≡ Ok tt → Small (suc (length g.code)) g.protected
 
 abbrev pub room_of : ℕ → ℕ → ℕ → Room
 room_of bytes offsets entries = record { code = bytes; protected = offsets; lines = entries }

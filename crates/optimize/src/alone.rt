@@ -7,7 +7,6 @@ ghost use Rattle.opcode.specs.Table.{IsTable, sheet_in};
 ghost use Rattle.rules.specs.View.{rules_in};
 ghost use Rattle.optimize.specs.View.{given, room, room_of, over_limit, answer_view, Tables, Within, Roomy, after_limits, after_rules, after_sheet};
 
-use crate::Offset;
 use definition::{
     BAD_CODE, CODE_FULL, ENTRY_SIZE, LABELS_FULL, LINES_FULL, MAX_CODE, MAX_LINES, MAX_PROTECTED,
     OUTPUT_SHORT,
@@ -101,11 +100,11 @@ fn rewrite_checked(
     ensures { answer_view result bytes.new offsets.new entries.new ≡ answer (room bytes.old offsets.old entries.old) (after_limits (sheet_in sheet.now) (rules_in rules.now count) (given code.now protected.now lines.now)) }
 {
     match crate::check(sheet, code, protected, lines, total) {
-        Offset::Bad(x) => {
-            let place = numbers::word(x);
+        Err(x) => {
+            let place = u32::from(x);
             refuse(BAD_CODE, place, bytes, offsets, entries)
         }
-        Offset::Fine => {
+        Ok(()) => {
             let k = protected.len();
             let n = crate::rewrite_into(
                 sheet, rules, count, code, protected, bytes, offsets, total, marks, moves,

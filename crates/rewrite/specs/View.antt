@@ -2,6 +2,7 @@
 use Rattle.std.specs.Prelude.{ℕ, ◌+◌, ◌≤◌, ◌<◌, suc, ◌≡◌, Bool, true, false, not, List, [], ◌∷◌, ◌++◌, eqb, length, get_or, take, drop}
 use Rattle.std.specs.Prelude as std
 use Rattle.std.specs.Prelude.{Some, None}
+use Rattle.std.specs.Option.{option_map}
 use Rattle.std.specs.Borrow.{Bor}
 use Rattle.std.proofs.Math.Option.{Option, some, none}
 use Rattle.definition.specs.Limits.{max_code}
@@ -9,6 +10,7 @@ use Rattle.definition.specs.Opcode.{Sheet}
 use Rattle.definition.specs.Rules.{Action, keep, remove, rewrite_operand, matches}
 use Rattle.definition.specs.Rewrite.{Bytes, Matcher, OffsetMap, decode, actions, moved_to}
 use Rattle.definition.specs.Lent.{filled}
+use Rattle.field.specs.View.{option_of}
 use Rattle.opcode.specs.Table.{IsTable}
 use Rattle.rules.specs.View.{action_view, rules_in, IsRules, Inside, pair_at}
 use Rattle.rules.specs.declared.Action as code
@@ -65,8 +67,7 @@ pub record Looked (table : List ℕ) (count : ℕ) (result : Option (Action × A
 
 -- what is known of the next instruction's action
 abbrev pub next_view : std.Option code.Action → Option Action
-next_view None = none
-next_view (Some x) = some (action_view x)
+next_view o = option_of (option_map action_view o)
 
 -- the plan that keeps an instruction and knows nothing of the next
 pub record Kept (z : ℕ) (r : Plan) : Type 0 where
