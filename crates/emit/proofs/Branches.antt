@@ -1,4 +1,5 @@
 -- Patches and branches.
+use Rattle.std.proofs.Common.{None}
 use mathlib.Core.Path.{◌≡◌, refl, ◌∙◌}
 use mathlib.Core.List.{List, [], ◌∷◌, ◌++◌}
 use Prim.Native.Nat.{ℕ, suc, ◌+◌, ◌*◌, ◌<◌}
@@ -25,14 +26,14 @@ use Rattle.emit.proofs.Steps.{stays, goes, by-step, then, once-then, size_of}
 -- ---- a patch more
 
 -- where there is room for it
-pub patch-fits : {e : Emitter} → Fine e → Branched e → e.refused ≡ 0 → e.patches < max_branches
+pub patch-fits : {e : Emitter} → Fine e → Branched e → e.refused ≡ None → e.patches < max_branches
 patch-fits h more on = let q = more on in omega (arith, h.size)
 
 module _ (p : def.PendingPatch) {e : Emitter} {book : List ℕ} (h : Fine e) (slots : length book ≡ book_size) where
-  pub patch-stays : (e.refused ≡ 0 → ⊥) → Noted (once (patching p)) e book e book
+  pub patch-stays : (e.refused ≡ None → ⊥) → Noted (once (patching p)) e book e book
   patch-stays off = record { fine = h; slots = slots; kept = λ code pool. kept_self (world e code book pool); did = λ code pool room. stays (once (patching p)) off }
 
-  pub patch-goes : {book' : List ℕ} → e.refused ≡ 0 → Branched e → book' ≡ sets book (patch_base + patch_size * e.patches) (patch_numbers p) → Noted (once (patching p)) e book (counted e e.labels (e.patches + 1) e.lines e.constants) book'
+  pub patch-goes : {book' : List ℕ} → e.refused ≡ None → Branched e → book' ≡ sets book (patch_base + patch_size * e.patches) (patch_numbers p) → Noted (once (patching p)) e book (counted e e.labels (e.patches + 1) e.lines e.constants) book'
   unfolding patched
   patch-goes on more put =
       let few = patch-fits h more on in
@@ -40,7 +41,7 @@ module _ (p : def.PendingPatch) {e : Emitter} {book : List ℕ} (h : Fine e) (sl
       let j = patch_base + patch_size * e.patches in
       let ns = patch_numbers p in
       rw put (record {
-        fine = record { size = h.size; labels = h.labels; patches = omega arith; lines = h.lines; constants = h.constants; last = h.last; depth = h.depth; deepest = h.deepest; place = h.place };
+        fine = record { size = h.size; labels = h.labels; patches = omega arith; lines = h.lines; constants = h.constants; last = h.last; depth = h.depth; deepest = h.deepest };
         slots = length-sets book j ns ∙ slots;
         kept = λ code pool. record {
           grown = record { size = omega arith; labels = omega arith; patches = omega arith; lines = omega arith; constants = omega arith };

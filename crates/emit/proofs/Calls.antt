@@ -1,8 +1,10 @@
 -- Calls one after another: what a `do` of the definition's walks does, one call at a time.
+use Rattle.std.proofs.Common.{Option, Some, None}
+use Rattle.definition.specs.declared.Refused.{Refused}
 use mathlib.Core.Path.{◌≡◌, refl, ap, sym, ◌∙◌}
 use mathlib.Core.Bool.{Bool, true, false}
 use mathlib.Core.List.{List, [], ◌∷◌, ◌++◌}
-use Prim.Native.Nat.{ℕ, zero, suc}
+use Prim.Native.Nat.{ℕ, suc}
 use native.Mathlib.Omega.{arith}
 use lib.ListN.{length, length-set, length-append}
 use lib.Dec.{eqb, ltb}
@@ -127,9 +129,9 @@ view-is : (w : World) → view w ≡ answer_of (stage w)
 unfolding standing stage_of answer_of
 view-is w = go w.e.refused
   where
-    go : (n : ℕ) → standing n w.e.place (state w) ≡ answer_of (stage_of n w.e.place (state w))
-    go zero = refl
-    go (suc n) = refl
+    go : (o : Option Refused) → standing o (state w) ≡ answer_of (stage_of o (state w))
+    go None = refl
+    go (Some r) = refl
 
 answer-then : (m : Stage) (f : Emitter → Stage) → answer_of (m >-> f) ≡ answer_of m >>= λ x. answer_of (f x)
 unfolding ◌>->◌ ◌>>=◌ answer_of

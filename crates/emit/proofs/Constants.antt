@@ -1,11 +1,15 @@
 -- The pool.
+use Rattle.std.proofs.Common.{Option, Some, None, cond, position, unwrap_or}
+use Rattle.std.specs.List.{position_or_len}
+use Rattle.std.proofs.lemmas.List.Recursion.{is_position_or_len}
+use Rattle.definition.specs.declared.Refused.{Refused}
 use mathlib.Core.Path.{◌≡◌, refl, ap, sym, subst, ◌∙◌}
 use mathlib.Core.Bool.{Bool, true, false}
 use mathlib.Core.List.{List, [], ◌∷◌, ◌++◌}
 use Prim.Native.Nat.{ℕ, zero, suc, ◌+◌, ◌≤◌, ◌<◌}
 use native.Mathlib.Numerals.{add-one}
 use native.Mathlib.Omega.{arith}
-use borrow.Author.Tests.{le-ltb, lt-ltb, ltb-true, ltb-false, eq-eqb, ne_eqb, eqb-true, eqb-false}
+use borrow.Author.Tests.{le-ltb, lt-ltb, ltb-true, ltb-false, eq-eqb, ne_eqb}
 use lib.Dec.{eqb, ltb, leb}
 use lib.ListN.{length, take, get_or}
 use lib.Seq.{length-take-le, get_or-take, take-take, take-suc-set, drop_at}
@@ -67,48 +71,46 @@ first_found pool n k i long h before e =
 pub first-none : (pool : List ℕ) (n k : ℕ) → n ≤ length pool → ((j : ℕ) → j < n → get_or pool j 0 ≡ k → ⊥) → n ≡ index_of k (take n pool)
 first-none pool n k long before = none_in (take n pool) k n (λ j l q. before j l (sym (get_or-take n pool j 0 l) ∙ q)) (length-take-le n pool long)
 
--- none of the first i is k
-pub record Before (pool : List ℕ) (k i n : ℕ) : Type 0 where
-  pub none : (j : ℕ) → j < i → get_or pool j 0 ≡ k → ⊥
-  pub most : i ≤ n
+index-is : (k : ℕ) (xs : List ℕ) → index_of k xs ≡ position_or_len (λ x. eqb x k) xs
+unfolding index_of
+index-is k xs = is_position_or_len (index_of k) (λ x. eqb x k) refl (λ x l. go (eqb x k) (index_of k l)) xs
+  where
+    go : (b : Bool) (n : ℕ) → elim b [ true ↦ 0 | false ↦ suc n ] ≡ cond b 0 (1 + n)
+    go true n = refl
+    go false n = omega arith
 
-module _ (pool : List ℕ) (n k : ℕ) where
-  pub index-begins : Before pool k 0 n
-  index-begins = record { none = λ j h e. omega arith; most = omega arith }
+-- where a test finds it, or n
+pub scanned : (k n : ℕ) (pool : List ℕ) {o : Option ℕ} → n ≤ length pool → o ≡ position (λ x. eqb x k) (take n pool) → unwrap_or o n ≡ index_of k (take n pool)
+scanned k n pool long e = rw (e, ← index-is k (take n pool)) (go (ltb (index_of k (take n pool)) (length (take n pool))) refl)
+  where
+    go : (b : Bool) → ltb (index_of k (take n pool)) (length (take n pool)) ≡ b → unwrap_or (cond b (Some (index_of k (take n pool))) None) n ≡ index_of k (take n pool)
+    go true q = refl
+    go false q = let far = ltb-false _ _ q in omega (arith, far, index-most (take n pool) k, length-take-le n pool long)
 
-  pub index_on : {i : ℕ} → Before pool k i n → i < n → (get_or pool i 0 ≡ k → ⊥) → Before pool k (i + 1) n
-  index_on {i} b h off = record { none = λ j l e. go j l e (eqb j i) refl; most = omega arith }
-    where
-      go : (j : ℕ) → j < i + 1 → get_or pool j 0 ≡ k → (t : Bool) → eqb j i ≡ t → ⊥
-      go j l e true q = off (rw (eqb-true j i q) at e)
-      go j l e false q = let z = eqb-false j i q in b.none j (omega arith) e
-
-  pub index-found : {i : ℕ} → Before pool k i n → i < n → n ≤ length pool → get_or pool i 0 ≡ k → (i ≡ index_of k (take n pool)) × (i ≤ n)
-  index-found {i} b h long e = (first_found pool n k i long h b.none e, omega arith)
-
-  pub index-none : {i : ℕ} → Before pool k i n → n ≤ i → n ≤ length pool → (n ≡ index_of k (take n pool)) × (n ≤ n)
-  index-none {i} b h long = (first-none pool n k long (λ j l q. b.none j (omega arith) q), omega arith)
+pub index-within : (k n : ℕ) (pool : List ℕ) → n ≤ length pool → index_of k (take n pool) ≤ n
+index-within k n pool long = omega (arith, index-most (take n pool) k, length-take-le n pool long)
 
 -- ---- a constant in the pool
 
 module _ (k : ℕ) {e : Emitter} {pool : List ℕ} (h : Fine e) (long : Held pool) where
-  pub pool-stays : (e.refused ≡ 0 → ⊥) → Pooled (add_constant k) e pool e pool
+  pub pool-stays : (e.refused ≡ None → ⊥) → Pooled (add_constant k) e pool e pool
   pool-stays off = record { fine = h; held = long; kept = λ code book. kept_self (world e code book pool); did = λ s code book. stays (call s (add_constant k)) off }
 
   module _ {i : ℕ} (is : i ≡ index_of k (take e.constants pool)) where
     -- there is no room for it (13)
-    pool-refuses : (code book : List ℕ) → i ≤ e.constants → max_constants ≤ i → pooled k (state (world e code book pool)) ≡ refuse constants_full 0
+    pool-refuses : (code book : List ℕ) → max_constants ≤ i → pooled k (state (world e code book pool)) ≡ refuse constants_full 0
     unfolding pooled pooled_if demand ◌>>◌
-    pool-refuses code book most full =
+    pool-refuses code book full =
+        let most : i ≤ e.constants = omega (arith, is, index-most (take e.constants pool) k, count_of pool h long) in
         let absent : e.constants ≤ i = omega (arith, h.constants) in
         let none_left : max_constants ≤ e.constants = omega arith in
         rw (count_of pool h long, ← is, le-ltb _ _ absent, count_of pool h long, le-ltb _ _ none_left)
 
-    pub pool-full : {r : Emitter} → i ≤ e.constants → max_constants ≤ i → Bare (refused (record { number = constants_full; place = 0 })) e r → Pooled (add_constant k) e pool r pool
+    pub pool-full : {r : Emitter} → max_constants ≤ i → Bare (refused (record { number = constants_full; place = 0 })) e r → Pooled (add_constant k) e pool r pool
     unfolding act
-    pool-full most full b = record { fine = b.fine; held = long; kept = λ code book. b.kept code book pool; did = λ s code book. stops (act s (add_constant k)) constants_full 0 code book pool b (pool-refuses code book most full) }
+    pool-full full b = record { fine = b.fine; held = long; kept = λ code book. b.kept code book pool; did = λ s code book. stops (act s (add_constant k)) constants_full 0 code book pool b (pool-refuses code book full) }
 
-    module _ (on : e.refused ≡ 0) where
+    module _ (on : e.refused ≡ None) where
       pool-has : i < e.constants → Pooled (add_constant k) e pool e pool
       unfolding act pooled pooled_if
       pool-has few = record {
@@ -127,7 +129,7 @@ module _ (k : ℕ) {e : Emitter} {pool : List ℕ} (h : Fine e) (long : Held poo
           let more : take (e.constants + 1) pool' ≡ take e.constants pool ++ (k ∷ [])
           = sym (take-take (e.constants + 1) max_constants pool' (omega arith)) ∙ rw (a.is, add-one, take-suc-set (take max_constants pool) e.constants k here, take-take e.constants max_constants pool (omega arith)) in
           record {
-            fine = record { size = h.size; labels = h.labels; patches = h.patches; lines = h.lines; constants = omega arith; last = h.last; depth = h.depth; deepest = h.deepest; place = h.place };
+            fine = record { size = h.size; labels = h.labels; patches = h.patches; lines = h.lines; constants = omega arith; last = h.last; depth = h.depth; deepest = h.deepest };
             held = a.held;
             kept = λ code book. record {
               grown = record { size = omega arith; labels = omega arith; patches = omega arith; lines = omega arith; constants = omega arith };
@@ -181,7 +183,7 @@ prepared-keeps n x y e = go (demand (leb (length x.bytecode + n) max_code) code_
     go (ok a) (refuse n p) e = absurd (let z : ◌≡◌ {A = ℕ} 0 1 = cc in omega arith)
     go (refuse n p) q e = absurd (let z : ◌≡◌ {A = ℕ} 0 1 = cc in omega arith)
 
-same-constants : (n : ℕ) {e u : Emitter} {code book pool code' book' : List ℕ} → Did (once (prepared n)) (world e code book pool) (world u code' book' pool) → u.refused ≡ 0 → take u.constants pool ≡ take e.constants pool
+same-constants : (n : ℕ) {e u : Emitter} {code book pool code' book' : List ℕ} → Did (once (prepared n)) (world e code book pool) (world u code' book' pool) → u.refused ≡ None → take u.constants pool ≡ take e.constants pool
 unfolding stage_of ◌>->◌ once met_at
 same-constants n {e} {u} {code} {book} {pool} {code'} {book'} d on = go e.refused (rw on at d.is)
   where
@@ -195,12 +197,12 @@ same-constants n {e} {u} {code} {book} {pool} {code'} {book'} d on = go e.refuse
     same (ok y) e h = let q : v ≡ y = cc in ap (λ (z : def.Emitter). z.constants) q ∙ prepared-keeps n w y e
     same (refuse a b) e h = absurd (let z : ◌≡◌ {A = ℕ} 0 1 = cc in omega arith)
 
-    go : (r : ℕ) → going v ≡ stage_of r e.place w >-> once (prepared n) → v.constants ≡ w.constants
-    go zero h = same (prepared n w) refl h
-    go (suc r) h = absurd (let z : ◌≡◌ {A = ℕ} 0 1 = cc in omega arith)
+    go : (o : Option Refused) → going v ≡ stage_of o w >-> once (prepared n) → v.constants ≡ w.constants
+    go None h = same (prepared n w) refl h
+    go (Some r) h = cc
 
 -- so that the place that was found is still the constant's
-pub constant-kept : (k n : ℕ) {e p : Emitter} {code book pool book' pool' : List ℕ} {i m : ℕ} → Ready (world e code book pool) → i ≡ index_of k (take e.constants pool) → i < max_constants → Prepared n e book p book' → p.refused ≡ 0
+pub constant-kept : (k n : ℕ) {e p : Emitter} {code book pool book' pool' : List ℕ} {i m : ℕ} → Ready (world e code book pool) → i ≡ index_of k (take e.constants pool) → i < max_constants → Prepared n e book p book' → p.refused ≡ None
     → Keeps p.constants i k pool m pool' → Pooled (add_constant k) p pool (counted p p.labels p.patches p.lines m) pool'
 constant-kept k n {code = code} {pool = pool} w is few prep on q = pool-keeps k prep.noted.fine w.held (is ∙ ap (index_of k) (sym (same-constants n (prep.noted.did code pool w.room) on))) on few q
 
@@ -243,12 +245,12 @@ module _ (s : Sheet) (k n : ℕ) (g : ℕ → def.Emitter → def.Emitter) where
 
   module _ (c : Call) (says : (x : def.Emitter) → act s c x ≡ pooled k x >>= λ y. prepared n y >>= λ z. ok (g (index_of k y.constants) z)) {e : Emitter} {code book pool : List ℕ} (w : Ready (world e code book pool)) {i : ℕ} (is : i ≡ index_of k (take e.constants pool)) where
     -- there is no room for it (13)
-    pub constant-full : {r : Emitter} → i ≤ e.constants → max_constants ≤ i → Bare (refused (record { number = constants_full; place = 0 })) e r → Filled (call s c) (world e code book pool) (world r code book pool)
+    pub constant-full : {r : Emitter} → max_constants ≤ i → Bare (refused (record { number = constants_full; place = 0 })) e r → Filled (call s c) (world e code book pool) (world r code book pool)
     unfolding ◌>>=◌
-    constant-full most full b = record {
+    constant-full full b = record {
       ready = record { fine = b.fine; room = w.room; slots = w.slots; held = w.held };
       kept = b.kept code book pool;
-      did = stops (act s c) constants_full 0 code book pool b (says _ ∙ rw (pool-refuses k w.fine w.held is code book most full));
+      did = stops (act s c) constants_full 0 code book pool b (says _ ∙ rw (pool-refuses k w.fine w.held is code book full));
     }
 
     module _ (few : i < max_constants) {p : Emitter} {book' : List ℕ} (prep : Prepared n e book p book') where
@@ -261,7 +263,7 @@ module _ (s : Sheet) (k n : ℕ) (g : ℕ → def.Emitter → def.Emitter) where
       }
 
       -- the instruction is refused (10, 12), or the emitter was
-      pub constant-halts : (p.refused ≡ 0 → ⊥) → Filled (call s c) (world e code book pool) (world p code book' pool)
+      pub constant-halts : (p.refused ≡ None → ⊥) → Filled (call s c) (world e code book pool) (world p code book' pool)
       constant-halts off = constant-done refl (pool-stays k prep.noted.fine w.held off)
           (record { fine = prep.noted.fine; room = w.room; slots = prep.noted.slots; kept = λ pool. kept_self (world p code book' pool); did = λ pool. stays (once (λ z. ok (g i z))) off })
 

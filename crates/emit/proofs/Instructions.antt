@@ -1,5 +1,6 @@
 -- An instruction more: room, its line entry, its bytes.
-use mathlib.Core.Path.{◌≡◌, refl, ap, subst, ◌∙◌}
+use Rattle.std.proofs.Common.{None, Ok}
+use mathlib.Core.Path.{◌≡◌, refl, ap, ◌∙◌}
 use mathlib.Core.Bool.{Bool, true, false}
 use mathlib.Core.List.{List, [], ◌∷◌, ◌++◌}
 use Prim.Native.Nat.{ℕ, suc, ◌+◌, ◌-◌, ◌*◌, ◌/◌, ◌%◌, ◌≤◌, ◌<◌, max}
@@ -46,7 +47,7 @@ module _ (book : List ℕ) (n : ℕ) (p : Pos) where
 -- ---- room and line entry
 
 module _ (n : ℕ) {e : Emitter} {book : List ℕ} (h : Fine e) (slots : length book ≡ book_size) where
-  pub prepare-stays : (e.refused ≡ 0 → ⊥) → Prepared n e book e book
+  pub prepare-stays : (e.refused ≡ None → ⊥) → Prepared n e book e book
   prepare-stays off = record { noted = record { fine = h; slots = slots; kept = λ code pool. kept_self (world e code book pool); did = λ code pool room. stays (once (prepared n)) off }; fits = λ z. absurd (off z) }
 
   pub prepare-full : {r : Emitter} → max_code < e.size + n → Bare (refused (record { number = code_full; place = 0 })) e r → Prepared n e book r book
@@ -57,12 +58,12 @@ module _ (n : ℕ) {e : Emitter} {book : List ℕ} (h : Fine e) (slots : length 
   }
 
   module _ (fits : e.size + n ≤ max_code) where
-    pub prepare-here : e.refused ≡ 0 → true ≡ stands_at (pos_view e.position) (last_entry (lines_in book e.lines)) → Prepared n e book (readied e 0 e.lines) book
+    pub prepare-here : e.refused ≡ None → true ≡ stands_at (pos_view e.position) (last_entry (lines_in book e.lines)) → Prepared n e book e book
     unfolding prepared demand ◌>>◌ ◌>>=◌ recorded lined
-    prepare-here on here = subst (λ (x : ℕ). Prepared n e book (readied e x e.lines) book) on (record {
+    prepare-here on here = record {
       noted = record { fine = h; slots = slots; kept = λ code pool. kept_self (world e code book pool); did = λ code pool room. goes (prepared n) (world e code book pool) (world e code book pool) on on (rw (size_of code h room, le-leb _ _ fits, recorded, ← here)) };
       fits = λ z. fits;
-    })
+    }
 
     module _ (off : false ≡ stands_at (pos_view e.position) (last_entry (lines_in book e.lines))) where
       pub prepare-lines : {r : Emitter} → max_lines ≤ e.lines → Bare (refused (record { number = lines_full; place = 0 })) e r → Prepared n e book r book
@@ -78,17 +79,17 @@ module _ (n : ℕ) {e : Emitter} {book : List ℕ} (h : Fine e) (slots : length 
         fits = λ z. absurd (is-refused b z);
       }
 
-      pub prepare-noted : {book' : List ℕ} {offset : ℕ} → offset ≡ e.size → e.refused ≡ 0 → e.lines < max_lines
-          → book' ≡ sets book (line_base + entry_size * e.lines) (one_entry (record { offset = offset; pos = pos_view e.position })) → Prepared n e book (readied e 0 (e.lines + 1)) book'
+      pub prepare-noted : {book' : List ℕ} {offset : ℕ} → offset ≡ e.size → e.refused ≡ None → e.lines < max_lines
+          → book' ≡ sets book (line_base + entry_size * e.lines) (one_entry (record { offset = offset; pos = pos_view e.position })) → Prepared n e book (readied e (Ok (e.lines + 1))) book'
       unfolding prepared demand ◌>>◌ ◌>>=◌ recorded lined
       prepare-noted here on few put =
           let x : LineEntry = record { offset = e.size; pos = pos_view e.position } in
           let ns = one_entry x in
           let j = line_base + entry_size * e.lines in
           let put' = rw here at put in
-          rw put' (subst (λ (z : ℕ). Prepared n e book (readied e z (e.lines + 1)) (sets book j ns)) on (record {
+          rw put' (record {
             noted = record {
-              fine = record { size = h.size; labels = h.labels; patches = h.patches; lines = omega arith; constants = h.constants; last = h.last; depth = h.depth; deepest = h.deepest; place = h.place };
+              fine = record { size = h.size; labels = h.labels; patches = h.patches; lines = omega arith; constants = h.constants; last = h.last; depth = h.depth; deepest = h.deepest };
               slots = length-sets book j ns ∙ slots;
               kept = λ code pool. record {
                 grown = record { size = omega arith; labels = omega arith; patches = omega arith; lines = omega arith; constants = omega arith };
@@ -113,7 +114,7 @@ module _ (n : ℕ) {e : Emitter} {book : List ℕ} (h : Fine e) (slots : length 
                   ));
             };
             fits = λ z. fits;
-          }))
+          })
 
 -- ---- the bytes
 
@@ -148,7 +149,7 @@ pushed-tail : (xs code code' : List ℕ) (n m : ℕ) → at code' m ≡ push_all
 pushed-tail xs code code' n m e h = ap (λ (t : Store). drop (n + length xs) t.cells) e ∙ ap (drop (n + length xs)) (pushed-sets xs code n h) ∙ sets-tail xs code n h
 
 module _ (s : Sheet) (r : Role) (operand : List ℕ) (l : Last) (n : ℕ) (is-n : n ≡ suc (length operand)) {p : Emitter} {code : List ℕ} (room : length code ≡ max_code) where
-  pub puts : {u : Emitter} {code' : List ℕ} {m : ℕ} → Fine p → p.refused ≡ 0 → p.size + n ≤ max_code → at code' m ≡ push_all (at code p.size) (opcode s r ∷ operand) → Fine u
+  pub puts : {u : Emitter} {code' : List ℕ} {m : ℕ} → Fine p → p.refused ≡ None → p.size + n ≤ max_code → at code' m ≡ push_all (at code p.size) (opcode s r ∷ operand) → Fine u
       → u ≡ altered p (p.size + n) l (shift (effect r) p.depth) (max p.deepest (shift (effect r) p.depth)) → Put s r operand l p code u code'
   unfolding added
   puts {u} {code'} h on few put fine is =
@@ -178,7 +179,7 @@ module _ (s : Sheet) (r : Role) (operand : List ℕ) (l : Last) (n : ℕ) (is-n 
       }
 
   module _ {e : Emitter} {book book' : List ℕ} (prep : Prepared n e book p book') where
-    pub add-stops : (p.refused ≡ 0 → ⊥) → Added s r operand l e code book p code book'
+    pub add-stops : (p.refused ≡ None → ⊥) → Added s r operand l e code book p code book'
     add-stops off =
         let prep' = rw is-n at prep in
         record {

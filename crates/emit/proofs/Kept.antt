@@ -1,4 +1,5 @@
 -- What no state shows: it stays through steps in turn.
+use Rattle.std.proofs.Common.{None}
 use mathlib.Core.Path.{◌≡◌, refl, ap, sym, ◌∙◌}
 use mathlib.Core.Bool.{Bool, true, false}
 use mathlib.Core.List.{List, [], ◌∷◌, ◌++◌}
@@ -97,7 +98,7 @@ pub kept_self : (w : World) → Kept w w
 kept_self w = record { grown = grown-self w.e; code = refl; book = tails-self w.e w.book; pool = λ few long. pool-self w.e.constants w.pool; sticky = λ off. refl }
 
 -- the struct alone changes, but for the count of constants, in a state that is not refused
-pub kept-bare : {e r : Emitter} → Grown e r → r.constants ≡ e.constants → e.refused ≡ 0 → (code book pool : List ℕ) → Kept (world e code book pool) (world r code book pool)
+pub kept-bare : {e r : Emitter} → Grown e r → r.constants ≡ e.constants → e.refused ≡ None → (code book pool : List ℕ) → Kept (world e code book pool) (world r code book pool)
 kept-bare {e} {r} g same on code book pool = record { grown = g; code = refl; book = tails-self r book; pool = λ few long. rw same (pool-self e.constants pool); sticky = λ off. absurd (off on) }
 
 -- ---- in turn

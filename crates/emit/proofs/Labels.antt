@@ -1,4 +1,5 @@
 -- Labels created and bound.
+use Rattle.std.proofs.Common.{None}
 use mathlib.Core.Path.{◌≡◌, refl, ◌∙◌}
 use mathlib.Core.Option.{some, none}
 use mathlib.Core.List.{List, [], ◌∷◌}
@@ -34,7 +35,7 @@ fine-bound : {e : Emitter} → Fine e → Fine (altered e e.size Other e.depth e
 fine-bound {e} h = fine-altered e.size Other e.depth e.deepest h (omega arith) h.size tt h.depth h.deepest
 
 module _ {e : Emitter} {book : List ℕ} {l : ℕ} (h : Fine e) (slots : length book ≡ book_size) where
-  pub create-stays : l ≡ e.labels → (e.refused ≡ 0 → ⊥) → Created e book e book l
+  pub create-stays : l ≡ e.labels → (e.refused ≡ None → ⊥) → Created e book e book l
   create-stays is off = record { fine = h; slots = slots; label = is; kept = λ code pool. kept_self (world e code book pool); did = λ s x code pool. stays (call s (create_label x)) off }
 
   pub create-full : {r : Emitter} → l ≡ e.labels → max_labels ≤ e.labels → Bare (refused (record { number = labels_full; place = 0 })) e r → Created e book r book l
@@ -47,11 +48,11 @@ module _ {e : Emitter} {book : List ℕ} {l : ℕ} (h : Fine e) (slots : length 
     did = λ s x code pool. stops (act s (create_label x)) labels_full 0 code book pool b (rw (length-rows label_in label_base label_size book e.labels, le-ltb _ _ full));
   }
 
-  pub create-goes : {book' : List ℕ} (ns : List ℕ) → length ns ≡ label_size → label_in ns ≡ none → l ≡ e.labels → e.refused ≡ 0 → e.labels < max_labels
+  pub create-goes : {book' : List ℕ} (ns : List ℕ) → length ns ≡ label_size → label_in ns ≡ none → l ≡ e.labels → e.refused ≡ None → e.labels < max_labels
       → book' ≡ sets book (label_base + label_size * e.labels) ns → Created e book (counted e (e.labels + 1) e.patches e.lines e.constants) book' l
   unfolding act demand ◌>>◌ labelled
   create-goes ns long free is on few put = rw put (record {
-    fine = record { size = h.size; labels = omega arith; patches = h.patches; lines = h.lines; constants = h.constants; last = h.last; depth = h.depth; deepest = h.deepest; place = h.place };
+    fine = record { size = h.size; labels = omega arith; patches = h.patches; lines = h.lines; constants = h.constants; last = h.last; depth = h.depth; deepest = h.deepest };
     slots = length-sets book (label_base + label_size * e.labels) ns ∙ slots;
     label = is;
     kept = λ code pool. record {
@@ -73,10 +74,10 @@ module _ {e : Emitter} {book : List ℕ} {l : ℕ} (h : Fine e) (slots : length 
         ));
   })
 
-  pub bind-stays : (e.refused ≡ 0 → ⊥) → Booked (bind_label l) e book e book
+  pub bind-stays : (e.refused ≡ None → ⊥) → Booked (bind_label l) e book e book
   bind-stays off = record { fine = h; slots = slots; kept = λ code pool. kept_self (world e code book pool); did = λ s code pool room. stays (call s (bind_label l)) off }
 
-  pub bind-nowhere : {r : Emitter} {m : ℕ} → m ≡ l → r ≡ altered e e.size Other e.depth e.deepest → e.refused ≡ 0 → e.labels ≤ m → Booked (bind_label l) e book r book
+  pub bind-nowhere : {r : Emitter} {m : ℕ} → m ≡ l → r ≡ altered e e.size Other e.depth e.deepest → e.refused ≡ None → e.labels ≤ m → Booked (bind_label l) e book r book
   unfolding act labelled
   bind-nowhere same is on few = let many : e.labels ≤ l = omega arith in rw is (record {
     fine = fine-bound h;
@@ -86,7 +87,7 @@ module _ {e : Emitter} {book : List ℕ} {l : ℕ} (h : Fine e) (slots : length 
         (rw (set_out (labels_in book e.labels) l (some (length (take e.size code))) (rw (length-rows label_in label_base label_size book e.labels) many)));
   })
 
-  pub bind_goes : {r : Emitter} {book' : List ℕ} {m : ℕ} (ns : List ℕ) → length ns ≡ label_size → label_in ns ≡ some e.size → r ≡ altered e e.size Other e.depth e.deepest → e.refused ≡ 0 → m ≡ l → m < e.labels
+  pub bind_goes : {r : Emitter} {book' : List ℕ} {m : ℕ} (ns : List ℕ) → length ns ≡ label_size → label_in ns ≡ some e.size → r ≡ altered e e.size Other e.depth e.deepest → e.refused ≡ None → m ≡ l → m < e.labels
       → book' ≡ sets book (label_base + label_size * m) ns → Booked (bind_label l) e book r book'
   unfolding act labelled
   bind_goes ns long is-here is on same below put' =

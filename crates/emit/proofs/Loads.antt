@@ -1,4 +1,6 @@
 -- Loads with their two foldings, and stores.
+use Rattle.std.proofs.Common.{Option, Some, None}
+use Rattle.definition.specs.declared.Refused.{Refused}
 use mathlib.Core.Path.{◌≡◌, refl, ap, ◌∙◌}
 use mathlib.Core.Bool.{Bool, true, false}
 use mathlib.Core.List.{List, [], ◌∷◌, ◌++◌}
@@ -55,14 +57,14 @@ inserts l i x h = rw (three-there l i (omega arith)) (four-stores l i x (get_or 
 -- ---- the store folding
 
 module _ (s : Sheet) {e : Emitter} {code : List ℕ} (h : Fine e) (room : length code ≡ max_code) where
-  pub fold_stays : (e.refused ≡ 0 → ⊥) → Written (once (fold_store s)) e code e code
+  pub fold_stays : (e.refused ≡ None → ⊥) → Written (once (fold_store s)) e code e code
   fold_stays off = record { fine = h; room = room; kept = λ book pool. kept_self (world e code book pool); did = λ book pool. stays (once (fold_store s)) off }
 
   pub fold-full : {r : Emitter} → max_code ≤ e.size → Bare (refused (record { number = code_full; place = 0 })) e r → Written (once (fold_store s)) e code r code
   unfolding fold_store demand ◌>>◌
   fold-full full b = record { fine = b.fine; room = room; kept = λ book pool. b.kept code book pool; did = λ book pool. stops (fold_store s) code_full 0 code book pool b (rw (size_of code h room, le-ltb _ _ full)) }
 
-  pub fold-goes : {r : Emitter} {code' : List ℕ} {b m : ℕ} → b ≡ opcode s dup → m ≡ max e.deepest (e.depth + 2) → e.refused ≡ 0 → e.size < max_code → 3 ≤ e.size
+  pub fold-goes : {r : Emitter} {code' : List ℕ} {b m : ℕ} → b ≡ opcode s dup → m ≡ max e.deepest (e.depth + 2) → e.refused ≡ None → e.size < max_code → 3 ≤ e.size
       → code' ≡ sets code (e.size - 3) (b ∷ take 3 (drop (e.size - 3) code)) → r ≡ altered e (e.size + 1) Other (e.depth + 1) m → Written (once (fold_store s)) e code r code'
   unfolding fold_store demand ◌>>◌ folded
   fold-goes {b = b} {m = m} is_b is_m on fits more put is =
@@ -143,25 +145,25 @@ folds-three {e} v h is = go e.last h.last is
 
 -- what was read, from what was done
 read_is : (s : Sheet) (v : ℕ) {w u : World} {q x : Reading} → Did (call s (load_variable v)) w u → x ≡ read_by (load_form (last_view w.e.last) v) (length (take w.e.size w.code))
-    → (u.e.refused ≡ 0 → q ≡ x) → ((u.e.refused ≡ 0 → ⊥) → q ≡ no_reading) → q ≡ read_or (view w >>= reading s v)
+    → (u.e.refused ≡ None → q ≡ x) → ((u.e.refused ≡ None → ⊥) → q ≡ no_reading) → q ≡ read_or (view w >>= reading s v)
 unfolding standing stage_of ◌>->◌ once ◌>>=◌ reading read_or met_at ◌>>◌
 read_is s v {w} {u} {q} {x} d is a b = go w.e.refused u.e.refused d.is a b
   where
-    answers : (m : ℕ) (r : Res def.Emitter) → stage_of m u.e.place (state u) ≡ met_at (state w) r → (m ≡ 0 → q ≡ x) → ((m ≡ 0 → ⊥) → q ≡ no_reading) → q ≡ read_or (r >> ok x)
-    answers zero (ok y) h a b = a refl
-    answers zero (refuse n p) h a b = absurd (let z : ◌≡◌ {A = ℕ} 0 1 = cc in omega arith)
-    answers (suc m) (ok y) h a b = absurd (let z : ◌≡◌ {A = ℕ} 0 1 = cc in omega arith)
-    answers (suc m) (refuse n p) h a b = b (λ z. omega arith)
+    answers : (m : Option Refused) (r : Res def.Emitter) → stage_of m (state u) ≡ met_at (state w) r → (m ≡ None → q ≡ x) → ((m ≡ None → ⊥) → q ≡ no_reading) → q ≡ read_or (r >> ok x)
+    answers None (ok y) h a b = a refl
+    answers None (refuse n p) h a b = cc
+    answers (Some m) (ok y) h a b = cc
+    answers (Some m) (refuse n p) h a b = b (λ z. cc)
 
-    go : (k m : ℕ) → stage_of m u.e.place (state u) ≡ stage_of k w.e.place (state w) >-> call s (load_variable v) → (m ≡ 0 → q ≡ x) → ((m ≡ 0 → ⊥) → q ≡ no_reading)
-        → q ≡ read_or (standing k w.e.place (state w) >>= reading s v)
-    go zero m h a b = rw (reading, ← is) (answers m (act s (load_variable v) (state w)) h a b)
-    go (suc k) zero h a b = absurd (let z : ◌≡◌ {A = ℕ} 0 1 = cc in omega arith)
-    go (suc k) (suc m) h a b = b (λ z. omega arith)
+    go : (k m : Option Refused) → stage_of m (state u) ≡ stage_of k (state w) >-> call s (load_variable v) → (m ≡ None → q ≡ x) → ((m ≡ None → ⊥) → q ≡ no_reading)
+        → q ≡ read_or (standing k (state w) >>= reading s v)
+    go None m h a b = rw (reading, ← is) (answers m (act s (load_variable v) (state w)) h a b)
+    go (Some k) None h a b = cc
+    go (Some k) (Some m) h a b = b (λ z. cc)
 
 -- what a load answers, by its form
 module _ (s : Sheet) (v : ℕ) (form : LoadForm) {e u : Emitter} {code book code' book' : List ℕ} {r : answer.Loaded} (h : Fine e) (room : length code ≡ max_code) (is : form ≡ load_form (last_view e.last) v)
-    (same : r.emitter ≡ u) (good : u.refused ≡ 0 → reading_of r ≡ read_by form e.size) (bad : (u.refused ≡ 0 → ⊥) → reading_of r ≡ no_reading) where
+    (same : r.emitter ≡ u) (good : u.refused ≡ None → reading_of r ≡ read_by form e.size) (bad : (u.refused ≡ None → ⊥) → reading_of r ≡ no_reading) where
   pub load-answers : Coded (once (load_by form s v)) e code book u code' book' → Loads s v e code book r code' book'
   load-answers c =
       let d : Coded (call s (load_variable v)) e code book u code' book' = coded_by _ _ (λ pool. load-by s v (state (world e code book pool)) ∙ rw (← is)) c in

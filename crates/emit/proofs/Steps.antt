@@ -1,7 +1,8 @@
 -- Steps one after another; what is ready for the next one.
+use Rattle.std.proofs.Common.{Bool, true, false, Option, Some, None, is_some}
 use mathlib.Core.Path.{◌≡◌, refl, ap, sym, ◌∙◌}
 use mathlib.Core.List.{List, []}
-use Prim.Native.Nat.{ℕ, zero, suc, ◌^◌, ◌≤◌, ◌<◌}
+use Prim.Native.Nat.{ℕ, ◌^◌, ◌≤◌, ◌<◌}
 use native.Mathlib.Omega.{arith}
 use lib.ListN.{length, take}
 use lib.Seq.{length-take-le}
@@ -9,6 +10,7 @@ use Rattle.definition.specs.Limits.{max_code, max_branches}
 use Rattle.definition.specs.Res.{Res, ok, refuse, ◌>>=◌}
 use Rattle.definition.specs.Opcode.{Sheet}
 use Rattle.definition.specs.Tree.{Pos}
+use Rattle.definition.specs.declared.Refused.{Refused}
 use Rattle.definition.specs.Emit as def
 use Rattle.definition.specs.Emit.{Call, create_label, refused, act, emitter_at}
 use Rattle.emit.specs.declared.Emitter.{Emitter}
@@ -22,30 +24,40 @@ unfolding ◌>->◌
 bind_assoc (going x) f g = refl
 bind_assoc (halted n p x) f g = refl
 
+-- ---- whether there is a refusal, as code tests it
+
+pub none-is : {A : Type 0} (o : Option A) {b : Bool} → b ≡ is_some o → b ≡ false → o ≡ None
+none-is None is off = refl
+none-is (Some x) is off = cc
+
+pub some-is : {A : Type 0} (o : Option A) {b : Bool} → b ≡ is_some o → b ≡ true → o ≡ None → ⊥
+some-is None is on z = cc
+some-is (Some x) is on z = cc
+
 -- ---- one step
 
 -- refused before: nothing changes
-pub stays : (f : Step) {w : World} → (w.e.refused ≡ 0 → ⊥) → Did f w w
+pub stays : (f : Step) {w : World} → (w.e.refused ≡ None → ⊥) → Did f w w
 unfolding stage_of ◌>->◌
 stays f {w} h = record { is = go w.e.refused h }
   where
-    go : (n : ℕ) → (n ≡ 0 → ⊥) → stage_of n w.e.place (state w) ≡ stage_of n w.e.place (state w) >-> f
-    go zero h = absurd (h refl)
-    go (suc n) h = refl
+    go : (o : Option Refused) → (o ≡ None → ⊥) → stage_of o (state w) ≡ stage_of o (state w) >-> f
+    go None h = absurd (h refl)
+    go (Some r) h = refl
 
 -- its tests hold: what is left is the state
-pub goes : (f : def.Emitter → Res def.Emitter) (w v : World) → w.e.refused ≡ 0 → v.e.refused ≡ 0 → f (state w) ≡ ok (state v) → Did (once f) w v
+pub goes : (f : def.Emitter → Res def.Emitter) (w v : World) → w.e.refused ≡ None → v.e.refused ≡ None → f (state w) ≡ ok (state v) → Did (once f) w v
 unfolding stage_of ◌>->◌ once met_at
 goes f w v on on' e = record { is = rw (on, on', e) }
 
 -- it is another step at this state
-pub by-step : {f g : Step} {w v : World} → (w.e.refused ≡ 0 → f (state w) ≡ g (state w)) → Did g w v → Did f w v
+pub by-step : {f g : Step} {w v : World} → (w.e.refused ≡ None → f (state w) ≡ g (state w)) → Did g w v → Did f w v
 unfolding stage_of ◌>->◌
 by-step {f} {g} {w} e d = record { is = d.is ∙ go w.e.refused e }
   where
-    go : (n : ℕ) → (n ≡ 0 → f (state w) ≡ g (state w)) → stage_of n w.e.place (state w) >-> g ≡ stage_of n w.e.place (state w) >-> f
-    go zero e = sym (e refl)
-    go (suc n) e = refl
+    go : (o : Option Refused) → (o ≡ None → f (state w) ≡ g (state w)) → stage_of o (state w) >-> g ≡ stage_of o (state w) >-> f
+    go None e = sym (e refl)
+    go (Some r) e = refl
 
 -- one of its tests fails
 no_sheet : Sheet
@@ -56,16 +68,16 @@ unfolding act once
 stops f n p code book pool b h = by-step (λ on. rw h) (b.did no_sheet code book pool)
 
 -- and then it is refused
-pub is-refused : {n p : ℕ} {e r : Emitter} → Bare (refused (record { number = n; place = p })) e r → r.refused ≡ 0 → ⊥
+pub is-refused : {n p : ℕ} {e r : Emitter} → Bare (refused (record { number = n; place = p })) e r → r.refused ≡ None → ⊥
 unfolding act stage_of ◌>->◌ once met_at
 is-refused {n} {p} {e} {r} b z = go e.refused (rw z at (b.did no_sheet [] [] []).is)
   where
     w : World
     w = world e [] [] []
 
-    go : (k : ℕ) → going (state (world r [] [] [])) ≡ stage_of k e.place (state w) >-> call no_sheet (refused (record { number = n; place = p })) → ⊥
-    go zero h = let q : ◌≡◌ {A = ℕ} 0 1 = cc in omega arith
-    go (suc k) h = let q : ◌≡◌ {A = ℕ} 0 1 = cc in omega arith
+    go : (o : Option Refused) → going (state (world r [] [] [])) ≡ stage_of o (state w) >-> call no_sheet (refused (record { number = n; place = p })) → ⊥
+    go None h = cc
+    go (Some k) h = cc
 
 -- ---- steps in turn
 
@@ -81,7 +93,7 @@ once-then f g x = go (f x)
     go (ok z) = refl
     go (refuse n p) = refl
 
-pub filled-by : {f g : Step} {w v : World} → (w.e.refused ≡ 0 → f (state w) ≡ g (state w)) → Filled g w v → Filled f w v
+pub filled-by : {f g : Step} {w v : World} → (w.e.refused ≡ None → f (state w) ≡ g (state w)) → Filled g w v → Filled f w v
 filled-by e a = record { ready = a.ready; kept = a.kept; did = by-step e a.did }
 
 -- ---- what a method did, with all that is lent

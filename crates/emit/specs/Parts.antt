@@ -1,9 +1,11 @@
 -- Parts of a step, for the functions inside this crate.
-use Rattle.std.specs.Prelude.{ℕ, ◌+◌, ◌*◌, ◌≤◌, ◌≡◌, List, ◌∷◌, ◌++◌, leb, length}
+use Rattle.std.specs.Prelude.{ℕ, ◌+◌, ◌*◌, ◌≤◌, ◌≡◌, List, ◌∷◌, ◌++◌, leb, length, Some, None, Result, Ok, Err}
 use Rattle.definition.specs.Limits.{max_code, code_full}
 use Rattle.definition.specs.Res.{Res, ok, ◌>>=◌, ◌>>◌, demand}
 use Rattle.definition.specs.Opcode.{Sheet, Role, CompareOp, comparison_byte}
 use Rattle.definition.specs.Emit as def
+use Rattle.definition.specs.declared.Refusal.{Refusal}
+use Rattle.definition.specs.declared.Refused.{Refused}
 use Rattle.definition.specs.Emit.{LineEntry, PendingPatch, add, added, recorded, patched, le16}
 use Rattle.line_map.specs.declared.Pos.{Pos}
 use Rattle.emit.specs.declared.Emitter.{Emitter}
@@ -14,83 +16,24 @@ use Rattle.emit.specs.Steps.{Step, Did, once, Fine, Kept, Coded}
 
 -- the struct with other size, last instruction and depths
 abbrev pub altered : Emitter → ℕ → Last → ℕ → ℕ → Emitter
-altered e size last depth deepest = record {
-  size = size;
-  labels = e.labels;
-  patches = e.patches;
-  lines = e.lines;
-  constants = e.constants;
-  last = last;
-  depth = depth;
-  deepest = deepest;
-  position = e.position;
-  refused = e.refused;
-  place = e.place;
-}
+altered e size last depth deepest = record e { size = size; last = last; depth = depth; deepest = deepest }
 
 -- with other counts of labels, patches, line entries and constants
 abbrev pub counted : Emitter → ℕ → ℕ → ℕ → ℕ → Emitter
-counted e labels patches lines constants = record {
-  size = e.size;
-  labels = labels;
-  patches = patches;
-  lines = lines;
-  constants = constants;
-  last = e.last;
-  depth = e.depth;
-  deepest = e.deepest;
-  position = e.position;
-  refused = e.refused;
-  place = e.place;
-}
+counted e labels patches lines constants = record e { labels = labels; patches = patches; lines = lines; constants = constants }
 
 -- at another position
 abbrev pub placed : Emitter → Pos → Emitter
-placed e p = record {
-  size = e.size;
-  labels = e.labels;
-  patches = e.patches;
-  lines = e.lines;
-  constants = e.constants;
-  last = e.last;
-  depth = e.depth;
-  deepest = e.deepest;
-  position = p;
-  refused = e.refused;
-  place = e.place;
-}
+placed e p = record e { position = p }
 
 -- refused
-abbrev pub stopped : Emitter → ℕ → ℕ → Emitter
-stopped e number place = record {
-  size = e.size;
-  labels = e.labels;
-  patches = e.patches;
-  lines = e.lines;
-  constants = e.constants;
-  last = e.last;
-  depth = e.depth;
-  deepest = e.deepest;
-  position = e.position;
-  refused = number;
-  place = place;
-}
+abbrev pub stopped : Emitter → Refused → Emitter
+stopped e r = record e { refused = Some r }
 
--- refused or not, and with another count of line entries
-abbrev pub readied : Emitter → ℕ → ℕ → Emitter
-readied e number lines = record {
-  size = e.size;
-  labels = e.labels;
-  patches = e.patches;
-  lines = lines;
-  constants = e.constants;
-  last = e.last;
-  depth = e.depth;
-  deepest = e.deepest;
-  position = e.position;
-  refused = number;
-  place = e.place;
-}
+-- with so many line entries, or refused with no place
+abbrev pub readied : Emitter → Result ℕ Refusal → Emitter
+readied e (Ok lines) = record e { lines = lines }
+readied e (Err refusal) = stopped e (record { refusal = refusal; place = 0 })
 
 -- an emitter with other line entries
 unfoldable pub lined : List LineEntry → def.Emitter → def.Emitter
@@ -119,7 +62,7 @@ pub record Noted (f : Step) (e : Emitter) (book : List ℕ) (r : Emitter) (book'
 
 pub record Prepared (n : ℕ) (e : Emitter) (book : List ℕ) (r : Emitter) (book' : List ℕ) : Type 0 where
   pub noted : Noted (once (prepared n)) e book r book'
-  pub fits : r.refused ≡ 0 → r.size + n ≤ max_code
+  pub fits : r.refused ≡ None → r.size + n ≤ max_code
 
 -- a step that changes the code alone
 pub record Written (f : Step) (e : Emitter) (code : List ℕ) (r : Emitter) (code' : List ℕ) : Type 0 where
@@ -130,7 +73,7 @@ pub record Written (f : Step) (e : Emitter) (code : List ℕ) (r : Emitter) (cod
 
 -- there is a byte for a patch more
 abbrev pub Branched : Emitter → Type 0
-Branched e = e.refused ≡ 0 → 3 * e.patches + 3 ≤ e.size
+Branched e = e.refused ≡ None → 3 * e.patches + 3 ≤ e.size
 
 -- the bytes of an instruction that is prepared
 abbrev pub putting : Sheet → Role → List ℕ → def.Last → def.Emitter → Res def.Emitter

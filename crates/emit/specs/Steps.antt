@@ -1,5 +1,5 @@
 -- What the contracts of emission say. A step takes one state of the definition's emitter to the next, or halts at one: a call, or the calls of a walk.
-use Rattle.std.specs.Prelude.{ℕ, ◌+◌, ◌*◌, ◌≤◌, ◌<◌, ◌≡◌, List, [], ◌∷◌, length, take, drop}
+use Rattle.std.specs.Prelude.{ℕ, ◌+◌, ◌*◌, ◌≤◌, ◌<◌, ◌≡◌, List, [], ◌∷◌, length, take, drop, None}
 use Rattle.definition.specs.Limits.{max_code, max_labels, max_branches, max_lines, max_constants, entry_size}
 use Rattle.definition.specs.Res.{Res, ok, refuse}
 use Rattle.definition.specs.Opcode.{Sheet}
@@ -71,8 +71,6 @@ pub record Fine (e : Emitter) : Type 0 where
   -- an instruction adds a byte and at most one value; folding a store adds a byte and passes the depth that it leaves by one
   pub depth : e.depth ≤ max_height + e.size
   pub deepest : e.deepest ≤ max_height + e.size + 1
-  -- a place comes with a refusal
-  pub place : e.refused ≡ 0 → e.place ≡ 0
 
 -- what is lent is exactly as long as its limit, and what the pool's table says is so
 pub record Ready (w : World) : Type 0 where
@@ -106,7 +104,7 @@ pub record Kept (w v : World) : Type 0 where
   pub code : drop v.e.size v.code ≡ drop v.e.size w.code
   pub book : Tails v.e w.book v.book
   pub pool : v.e.constants ≤ max_constants → length v.pool ≡ pool_size → v.pool ≡ entered_all (drop w.e.constants (take v.e.constants v.pool)) w.e.constants w.pool
-  pub sticky : (w.e.refused ≡ 0 → ⊥) → v ≡ w
+  pub sticky : (w.e.refused ≡ None → ⊥) → v ≡ w
 
 -- ---- what a method does, by what is lent to it: whatever is not lent stays as it is, whatever that is
 

@@ -1,7 +1,9 @@
 -- The definition's emitter, as the struct and three lent lists hold it.
-use Rattle.std.specs.Prelude.{ℕ, zero, suc, List, take}
+use Rattle.std.specs.Prelude.{ℕ, List, take, Option, Some, None}
 use Rattle.definition.specs.Res.{Res, ok, refuse}
 use Rattle.definition.specs.Emit as def
+use Rattle.definition.specs.View.{refusal_number}
+use Rattle.definition.specs.declared.Refused.{Refused}
 use Rattle.line_map.specs.View.{pos_view}
 use Rattle.emit.specs.declared.Emitter.{Emitter}
 use Rattle.emit.specs.declared.patch.PendingPatch.{PendingPatch}
@@ -41,23 +43,23 @@ state w = record {
   position = pos_view w.e.position;
 }
 
--- the refusal of this number and place; 0 is none
-unfoldable pub standing : {A : Type 0} → ℕ → ℕ → A → Res A
-standing zero p a = ok a
-standing (suc n) p a = refuse (suc n) p
+-- the refusal, by number and place, if there is one
+unfoldable pub standing : {A : Type 0} → Option Refused → A → Res A
+standing None a = ok a
+standing (Some r) a = refuse (refusal_number r.refusal) r.place
 
 -- the emitter, or its refusal
 abbrev pub view : World → Res def.Emitter
-view w = standing w.e.refused w.e.place (state w)
+view w = standing w.e.refused (state w)
 
 -- the same with the state of either: where emission stands, or which state the refused call met
 pub data Stage : Type 0 where
   going : def.Emitter → Stage
   halted : ℕ → ℕ → def.Emitter → Stage
 
-unfoldable pub stage_of : ℕ → ℕ → def.Emitter → Stage
-stage_of zero p x = going x
-stage_of (suc n) p x = halted (suc n) p x
+unfoldable pub stage_of : Option Refused → def.Emitter → Stage
+stage_of None x = going x
+stage_of (Some r) x = halted (refusal_number r.refusal) r.place x
 
 abbrev pub stage : World → Stage
-stage w = stage_of w.e.refused w.e.place (state w)
+stage w = stage_of w.e.refused (state w)

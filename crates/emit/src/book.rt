@@ -46,7 +46,7 @@ pub fn label_place(book: &Book, n: usize) -> usize
     if book[at] == 0 {
         return 0;
     }
-    numbers::wide(book[at + 1])
+    usize::from(book[at + 1])
 }
 
 pub fn put_patch(book: &mut Book, n: usize, patch: PendingPatch)
@@ -54,10 +54,9 @@ pub fn put_patch(book: &mut Book, n: usize, patch: PendingPatch)
     ensures { book.new ≡ sets book.old (patch_base + patch_size * n) (patch_numbers (patch_view patch)) }
 {
     let at = PATCH_BASE + PATCH_SIZE * n;
-    let label = patch.label;
     book[at] = patch.instruction_offset;
     book[at + 1] = patch.operand_delta;
-    book[at + 2] = label.0;
+    book[at + 2] = patch.label.0;
 }
 
 // The n-th patch, in the order of emission.
@@ -66,13 +65,10 @@ pub fn patch_at(book: &Book, n: usize) -> PendingPatch
     ensures { patch_view result ≡ patch_in (row patch_base patch_size book.now n) }
 {
     let at = PATCH_BASE + PATCH_SIZE * n;
-    let offset = book[at];
-    let delta = book[at + 1];
-    let label = book[at + 2];
     PendingPatch {
-        instruction_offset: offset,
-        operand_delta: delta,
-        label: Label(label),
+        instruction_offset: book[at],
+        operand_delta: book[at + 1],
+        label: Label(book[at + 2]),
     }
 }
 

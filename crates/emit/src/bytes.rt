@@ -8,10 +8,9 @@ ghost use Rattle.store.specs.Store.{at, push_all};
 pub fn push_u16(code: &mut [u8], used: usize, x: u16) -> usize
     ensures { at code.new result ≡ push_all (at code.old used) (le16 x) }
 {
-    let low = x % 256;
-    let high = x / 256;
-    let one = store::push_byte(code, used, low as u8);
-    store::push_byte(code, one, high as u8)
+    let [low, high] = x.to_le_bytes();
+    let one = store::push(code, used, low);
+    store::push(code, one, high)
 }
 
 // A CMP_BR whose branch operand is 0.
@@ -25,8 +24,8 @@ pub fn push_cmp_br(
 ) -> usize
     ensures { at code.new result ≡ push_all (at code.old used) (opcode ∷ (comparison ∷ le16 v ++ le16 index) ++ le16 0) }
 {
-    let one = store::push_byte(code, used, opcode);
-    let two = store::push_byte(code, one, comparison);
+    let one = store::push(code, used, opcode);
+    let two = store::push(code, one, comparison);
     let four = push_u16(code, two, v);
     let six = push_u16(code, four, index);
     push_u16(code, six, 0)

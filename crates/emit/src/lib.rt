@@ -10,6 +10,7 @@ ghost use Rattle.definition.specs.Limits.{max_code};
 ghost use Rattle.definition.specs.Opcode.{shift, effect, cmp_br};
 ghost use Rattle.definition.specs.Emit.{branch, fold_store, stands_at, last_entry, le16, bind_label, store_variable, load_constant, add_constant, emit_opcode, emit_jmp, emit_jmp_if_not, emit_cmp_br, reset_stack_depth, set_position, refused};
 ghost use Rattle.definition.specs.Compile.{bound_label};
+ghost use Rattle.definition.specs.View.{refusal_number};
 ghost use Rattle.opcode.specs.View.{role_view, compare_view};
 ghost use Rattle.opcode.specs.Table.{sheet_in};
 ghost use Rattle.line_map.specs.View.{pos_view};
@@ -23,10 +24,7 @@ ghost use Rattle.emit.specs.Parts.{altered, readied, Noted, Prepared, Written, B
 use crate::book::BOOK_SIZE;
 use crate::load::{LoadForm, Loaded};
 use crate::patch::PendingPatch;
-use definition::{
-    CODE_FULL, CONSTANTS_FULL, LABELS_FULL, LINES_FULL, MAX_CODE, MAX_CONSTANTS, MAX_LABELS,
-    MAX_LINES,
-};
+use definition::{MAX_CODE, MAX_LABELS, MAX_LINES, Refusal, Refused};
 use line_map::{LineEntry, Pos};
 use opcode::{CompareOp, Role, sheet};
 
@@ -76,16 +74,7 @@ pub struct Emitter {
     pub depth: usize,
     pub deepest: usize,
     pub position: Pos,
-    // The refusal's number, 0 while there is none, and its place.
-    pub refused: u8,
-    pub place: usize,
-}
-
-// What `note` answers: the refusal's number, 0 if there is none, and how many line entries there are.
-#[derive(Clone, Copy)]
-struct Note {
-    refused: u8,
-    lines: usize,
+    pub refused: Option<Refused>,
 }
 
 // What `create_label` answers.
@@ -111,9 +100,8 @@ impl Emitter {
             last: Last::Other,
             depth: 0,
             deepest: 0,
-            position: position,
-            refused: 0,
-            place: 0,
+            position,
+            refused: None,
         }
     }
 
@@ -121,35 +109,27 @@ impl Emitter {
     fn with(self, size: usize, last: Last, depth: usize, deepest: usize) -> Emitter
         ensures { result ≡ altered self size last depth deepest }
     {
-        let position = self.position;
         Emitter {
-            size: size,
-            labels: self.labels,
-            patches: self.patches,
-            lines: self.lines,
-            constants: self.constants,
-            last: last,
-            depth: depth,
-            deepest: deepest,
-            position: position,
-            refused: self.refused,
-            place: self.place,
+            size,
+            last,
+            depth,
+            deepest,
+            ..self
         }
     }
 
     // Refused for good, unless it was before.
-    pub fn refuse(self, number: u8, place: usize) -> Emitter
-        requires fine { Fine self }
-        requires number_nonzero { 0 < number }
-        ensures { Bare (refused (record { number = number; place = place })) self result }
+    pub fn refuse(self, refusal: Refusal, place: usize) -> Emitter
+        requires { Fine self }
+        ensures { Bare (refused (record { number = refusal_number refusal; place = place })) self result }
     {
-        if self.refused != 0 {
+        if self.refused.is_some() {
             return self;
         }
-        let mut e = self;
-        e.refused = number;
-        e.place = place;
-        e
+        Emitter {
+            refused: Some(Refused { refusal, place }),
+            ..self
+        }
     }
 
     // The position of what is emitted from here on (`set_source_position`).
@@ -157,24 +137,23 @@ impl Emitter {
         requires { Fine self }
         ensures { Bare (set_position (pos_view position)) self result }
     {
-        if self.refused != 0 {
+        if self.refused.is_some() {
             return self;
         }
-        let mut e = self;
-        e.position = position;
-        e
+        Emitter { position, ..self }
     }
 
     pub fn reset_stack_depth(self, depth: u16) -> Emitter
         requires { Fine self }
         ensures { Bare (reset_stack_depth depth) self result }
     {
-        if self.refused != 0 {
+        if self.refused.is_some() {
             return self;
         }
-        let mut e = self;
-        e.depth = numbers::wide(depth);
-        e
+        Emitter {
+            depth: usize::from(depth),
+            ..self
+        }
     }
 }
 
@@ -187,25 +166,26 @@ impl Emitter {
         ensures { Created self book.old result.emitter book.new result.label.0 }
     {
         let n = self.labels;
-        let label = Label(numbers::narrow(n));
-        if self.refused != 0 {
+        let label = Label(n as u16);
+        if self.refused.is_some() {
             return NewLabel {
                 emitter: self,
-                label: label,
+                label,
             };
         }
         if n >= MAX_LABELS {
             return NewLabel {
-                emitter: self.refuse(LABELS_FULL, 0),
-                label: label,
+                emitter: self.refuse(Refusal::LabelsFull, 0),
+                label,
             };
         }
         book::put_label(book, n, 0, 0);
-        let mut e = self;
-        e.labels = n + 1;
         NewLabel {
-            emitter: e,
-            label: label,
+            emitter: Emitter {
+                labels: n + 1,
+                ..self
+            },
+            label,
         }
     }
 
@@ -214,16 +194,17 @@ impl Emitter {
         requires fine { Fine self }
         ensures { Booked (bind_label label.0) self book.old result book.new }
     {
-        if self.refused != 0 {
+        if self.refused.is_some() {
             return self;
         }
-        let n = numbers::wide(label.0);
-        if n >= self.labels {
-            return self.with(self.size, Last::Other, self.depth, self.deepest);
+        let n = usize::from(label.0);
+        if n < self.labels {
+            book::put_label(book, n, 1, self.size as u16);
         }
-        let place = numbers::narrow(self.size);
-        book::put_label(book, n, 1, place);
-        self.with(self.size, Last::Other, self.depth, self.deepest)
+        Emitter {
+            last: Last::Other,
+            ..self
+        }
     }
 
     // Where a label is bound; 0 where it is not (`bound_label`).
@@ -231,7 +212,7 @@ impl Emitter {
         requires fine { Fine self }
         ensures { result ≡ bound_label (labels_in book.now self.labels) label.0 }
     {
-        let n = numbers::wide(label.0);
+        let n = usize::from(label.0);
         if n >= self.labels {
             return 0;
         }
@@ -247,58 +228,33 @@ impl Emitter {
         requires fine { Fine self }
         ensures { result ≡ stands_at (pos_view self.position) (last_entry (lines_in book.now self.lines)) }
     {
-        if self.lines == 0 {
-            return false;
-        }
-        let last = book::line_at(book, self.lines - 1);
-        let there = last.pos;
-        let here = self.position;
-        there.same(here)
+        self.lines > 0 && book::line_at(book, self.lines - 1).pos.same(self.position)
     }
 
-    // Room for an instruction of so many bytes (10), and its line entry unless the last one is of this position (`record_position_for_next_opcode`, 12). What
-    // changes is given back without the emitter, which would be copied for every instruction.
-    fn note(self, book: &mut Book, bytes: usize) -> Note
+    // Room for an instruction of so many bytes (10), and its line entry unless the last one is of this position (`record_position_for_next_opcode`, 12): how
+    // many line entries there are then. The emitter is not given back: it would be copied for every instruction.
+    fn note(self, book: &mut Book, bytes: usize) -> Result<usize, Refusal>
         requires fine { Fine self }
+        requires going { self.refused ≡ None }
         requires bytes_le_max_code { bytes ≤ max_code }
-        ensures { Prepared bytes self book.old (readied self result.refused result.lines) book.new }
+        ensures { Prepared bytes self book.old (readied self result) book.new }
     {
         let n = self.lines;
-        if self.refused != 0 {
-            return Note {
-                refused: self.refused,
-                lines: n,
-            };
-        }
         if self.size + bytes > MAX_CODE {
-            return Note {
-                refused: CODE_FULL,
-                lines: n,
-            };
+            return Err(Refusal::CodeFull);
         }
-        let here = self.stands_here(book);
-        if here {
-            return Note {
-                refused: 0,
-                lines: n,
-            };
+        if self.stands_here(book) {
+            return Ok(n);
         }
         if n >= MAX_LINES {
-            return Note {
-                refused: LINES_FULL,
-                lines: n,
-            };
+            return Err(Refusal::LinesFull);
         }
-        let position = self.position;
         let entry = LineEntry {
-            offset: numbers::narrow(self.size),
-            pos: position,
+            offset: self.size as u16,
+            pos: self.position,
         };
         book::put_line(book, n, entry);
-        Note {
-            refused: 0,
-            lines: n + 1,
-        }
+        Ok(n + 1)
     }
 
     // An instruction of so many bytes is about to be added (10, 12).
@@ -307,11 +263,16 @@ impl Emitter {
         requires bytes_le_max_code { bytes ≤ max_code }
         ensures { Prepared bytes self book.old result book.new }
     {
-        let note = self.note(book, bytes);
-        let mut e = self;
-        e.lines = note.lines;
-        e.refused = note.refused;
-        e
+        if self.refused.is_some() {
+            return self;
+        }
+        match self.note(book, bytes) {
+            Ok(lines) => Emitter { lines, ..self },
+            Err(refusal) => Emitter {
+                refused: Some(Refused { refusal, place: 0 }),
+                ..self
+            },
+        }
     }
 
     // Size, last instruction and depths once an instruction of so many bytes stands.
@@ -322,10 +283,8 @@ impl Emitter {
         ensures fine_2 { Fine result }
         ensures value { result ≡ altered self (self.size + bytes) last (shift (effect (role_view role)) self.depth) (max self.deepest (shift (effect (role_view role)) self.depth)) }
     {
-        let traits = role.traits();
-        let effect = traits.effect;
-        let depth = effect.shift(self.depth as u32) as usize;
-        let deepest = numbers::greatest(self.deepest, depth);
+        let depth = role.traits().effect.shift(self.depth as u32) as usize;
+        let deepest = self.deepest.max(depth);
         self.with(self.size + bytes, last, depth, deepest)
     }
 
@@ -335,11 +294,11 @@ impl Emitter {
         ensures { Added (sheet_in sheet.now) (role_view role) [] Last.Other self code.old book.old result code.new book.new }
     {
         let e = self.prepare(book, 1);
-        if e.refused != 0 {
+        if e.refused.is_some() {
             return e;
         }
         let opcode = sheet::opcode_of(sheet, role);
-        store::push_byte(code, e.size, opcode);
+        store::push(code, e.size, opcode);
         e.grow(1, role, Last::Other)
     }
 
@@ -347,11 +306,11 @@ impl Emitter {
     fn put_u16(self, sheet: &[u8], code: &mut [u8], role: Role, x: u16, last: Last) -> Emitter
         requires fine { Fine self }
         requires code_len { length code.old ≡ max_code }
-        requires refused_value { (self.refused ≡ 0) × (self.size + 3 ≤ max_code) }
+        requires refused_value { (self.refused ≡ None) × (self.size + 3 ≤ max_code) }
         ensures { Put (sheet_in sheet.now) (role_view role) (le16 x) last self code.old result code.new }
     {
         let opcode = sheet::opcode_of(sheet, role);
-        let at = store::push_byte(code, self.size, opcode);
+        let at = store::push(code, self.size, opcode);
         bytes::push_u16(code, at, x);
         self.grow(3, role, last)
     }
@@ -371,7 +330,7 @@ impl Emitter {
         ensures { Added (sheet_in sheet.now) (role_view role) (le16 x) last self code.old book.old result code.new book.new }
     {
         let e = self.prepare(book, 3);
-        if e.refused != 0 {
+        if e.refused.is_some() {
             return e;
         }
         e.put_u16(sheet, code, role, x, last)
@@ -381,7 +340,7 @@ impl Emitter {
     fn put_cmp_br(self, sheet: &[u8], code: &mut [u8], op: CompareOp, v: u16, index: u16) -> Emitter
         requires fine { Fine self }
         requires code_len { length code.old ≡ max_code }
-        requires refused_value { (self.refused ≡ 0) × (self.size + 8 ≤ max_code) }
+        requires refused_value { (self.refused ≡ None) × (self.size + 8 ≤ max_code) }
         ensures { Put (sheet_in sheet.now) cmp_br (cmp_operand (sheet_in sheet.now) (compare_view op) v index) Last.Other self code.old result code.new }
     {
         let opcode = sheet::opcode_of(sheet, Role::CmpBr);
@@ -410,15 +369,15 @@ impl Emitter {
         requires le_size { 3 ≤ self.size }
         ensures { Written (once (fold_store (sheet_in sheet.now))) self code.old result code.new }
     {
-        if self.refused != 0 {
+        if self.refused.is_some() {
             return self;
         }
         if self.size >= MAX_CODE {
-            return self.refuse(CODE_FULL, 0);
+            return self.refuse(Refusal::CodeFull, 0);
         }
         let opcode = sheet::opcode_of(sheet, Role::Dup);
         bytes::insert_before_three(code, self.size - STORE_SIZE, opcode);
-        let deepest = numbers::greatest(self.deepest, self.depth + 2);
+        let deepest = self.deepest.max(self.depth + 2);
         self.with(self.size + 1, Last::Other, self.depth + 1, deepest)
     }
 
@@ -429,9 +388,7 @@ impl Emitter {
         ensures { Loads (sheet_in sheet.now) v self code.old book.old result code.new book.new }
     {
         let size = self.size;
-        let last = self.last;
-        let form = load::form(last, v);
-        match form {
+        match load::form(self.last, v) {
             LoadForm::Load => {
                 let e = self.add_u16(sheet, code, book, Role::LoadVar, v, Last::Loaded(v));
                 load::done(e, size, false, false)
@@ -467,16 +424,16 @@ impl Emitter {
         requires held { Held pool.old }
         ensures { Pooled (add_constant k) self pool.old result pool.new }
     {
-        if self.refused != 0 {
+        if self.refused.is_some() {
             return self;
         }
-        let i = pool::index_of(pool, self.constants, k);
-        if i >= MAX_CONSTANTS { // a new one, and there is no room
-            return self.refuse(CONSTANTS_FULL, 0);
+        let Some(i) = pool::place_of(pool, self.constants, k) else {
+            return self.refuse(Refusal::ConstantsFull, 0);
+        };
+        Emitter {
+            constants: pool::keep(pool, self.constants, i, k),
+            ..self
         }
-        let mut e = self;
-        e.constants = pool::keep(pool, e.constants, i, k);
-        e
     }
 
     pub fn load_constant(
@@ -490,22 +447,15 @@ impl Emitter {
         requires { Ready (world self code.old book.old pool.old) }
         ensures { Filled (call (sheet_in sheet.now) (load_constant k)) (world self code.old book.old pool.old) (world result code.new book.new pool.new) }
     {
-        let i = pool::index_of(pool, self.constants, k);
-        if i >= MAX_CONSTANTS {
-            return self.refuse(CONSTANTS_FULL, 0);
-        }
+        let Some(i) = pool::place_of(pool, self.constants, k) else {
+            return self.refuse(Refusal::ConstantsFull, 0);
+        };
         let mut e = self.prepare(book, 3);
-        if e.refused != 0 { // by 10 or 12, or before: nothing is appended
+        if e.refused.is_some() { // by 10 or 12, or before: nothing is appended
             return e;
         }
         e.constants = pool::keep(pool, e.constants, i, k);
-        e.put_u16(
-            sheet,
-            code,
-            Role::LoadConst,
-            numbers::narrow(i),
-            Last::Other,
-        )
+        e.put_u16(sheet, code, Role::LoadConst, i as u16, Last::Other)
     }
 }
 
@@ -518,14 +468,14 @@ impl Emitter {
         requires branched { Branched self }
         ensures { Noted (once (patching (patch_view patch))) self book.old result book.new }
     {
-        if self.refused != 0 {
+        if self.refused.is_some() {
             return self;
         }
-        let n = self.patches;
-        book::put_patch(book, n, patch);
-        let mut e = self;
-        e.patches = n + 1;
-        e
+        book::put_patch(book, self.patches, patch);
+        Emitter {
+            patches: self.patches + 1,
+            ..self
+        }
     }
 
     // A JMP or JMP_IF_NOT whose offset is 0 until it is patched.
@@ -551,7 +501,7 @@ impl Emitter {
         requires code_len { length code.old ≡ max_code }
         ensures { Coded (call (sheet_in sheet.now) (emit_jmp label.0)) self code.old book.old result code.new book.new }
     {
-        let patch = PendingPatch::jmp(numbers::narrow(self.size), label);
+        let patch = PendingPatch::jmp(self.size as u16, label);
         self.emit_branch(sheet, code, book, Role::Jmp, patch)
     }
 
@@ -566,7 +516,7 @@ impl Emitter {
         requires code_len { length code.old ≡ max_code }
         ensures { Coded (call (sheet_in sheet.now) (emit_jmp_if_not label.0)) self code.old book.old result code.new book.new }
     {
-        let patch = PendingPatch::jmp_if_not(numbers::narrow(self.size), label);
+        let patch = PendingPatch::jmp_if_not(self.size as u16, label);
         self.emit_branch(sheet, code, book, Role::JmpIfNot, patch)
     }
 
@@ -585,17 +535,16 @@ impl Emitter {
         requires { Ready (world self code.old book.old pool.old) }
         ensures { Filled (call (sheet_in sheet.now) (emit_cmp_br (compare_view op) v k label.0)) (world self code.old book.old pool.old) (world result code.new book.new pool.new) }
     {
-        let i = pool::index_of(pool, self.constants, k);
-        if i >= MAX_CONSTANTS {
-            return self.refuse(CONSTANTS_FULL, 0);
-        }
+        let Some(i) = pool::place_of(pool, self.constants, k) else {
+            return self.refuse(Refusal::ConstantsFull, 0);
+        };
         let mut e = self.prepare(book, 8);
-        if e.refused != 0 {
+        if e.refused.is_some() {
             return e;
         }
         e.constants = pool::keep(pool, e.constants, i, k);
-        let patch = PendingPatch::cmp_br(numbers::narrow(e.size), label);
-        let b = e.put_cmp_br(sheet, code, op, v, numbers::narrow(i));
+        let patch = PendingPatch::cmp_br(e.size as u16, label);
+        let b = e.put_cmp_br(sheet, code, op, v, i as u16);
         b.add_patch(book, patch)
     }
 }

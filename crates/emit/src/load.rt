@@ -24,46 +24,35 @@ pub enum LoadForm {
 }
 
 // How a load of v is emitted, by the last instruction.
+#[tactic(auto, using(std::proofs::lemmas::Bool::Decides::nat_tests), unfolding(crate::specs::Load::load_form))]
 pub fn form(last: Last, v: u16) -> LoadForm
     ensures { result ≡ load_form (last_view last) v }
 {
     match last {
-        Last::Other => LoadForm::Load,
-        Last::Loaded(w) => {
-            if w == v {
-                LoadForm::Dup
-            } else {
-                LoadForm::Load
-            }
-        }
-        Last::Stored(w) => {
-            if w == v {
-                LoadForm::Fold
-            } else {
-                LoadForm::Load
-            }
-        }
+        Last::Loaded(w) if w == v => LoadForm::Dup,
+        Last::Stored(w) if w == v => LoadForm::Fold,
+        _ => LoadForm::Load,
     }
 }
 
 // What a load did, unless it is refused.
 pub fn done(emitter: Emitter, offset: usize, dup: bool, moved: bool) -> Loaded
     ensures emitter_value { result.emitter ≡ emitter }
-    ensures result_value { emitter.refused ≡ 0 → reading_of result ≡ record { offset = offset; dup = dup; moved = moved } }
-    ensures result_value_2 { (emitter.refused ≡ 0 → ⊥) → reading_of result ≡ no_reading }
+    ensures result_value { emitter.refused ≡ None → reading_of result ≡ record { offset = offset; dup = dup; moved = moved } }
+    ensures result_value_2 { (emitter.refused ≡ None → ⊥) → reading_of result ≡ no_reading }
 {
-    if emitter.refused != 0 {
+    if emitter.refused.is_some() {
         return Loaded {
-            emitter: emitter,
+            emitter,
             offset: 0,
             dup: false,
             moved: false,
         };
     }
     Loaded {
-        emitter: emitter,
-        offset: offset,
-        dup: dup,
-        moved: moved,
+        emitter,
+        offset,
+        dup,
+        moved,
     }
 }

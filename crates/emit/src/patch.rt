@@ -23,9 +23,9 @@ impl PendingPatch {
         ensures { patch_view result ≡ record { instruction_offset = instruction_offset; operand_delta = jmp_operand_delta; label = label.0 } }
     {
         PendingPatch {
-            instruction_offset: instruction_offset,
+            instruction_offset,
             operand_delta: PendingPatch::JMP_OPERAND_DELTA,
-            label: label,
+            label,
         }
     }
 
@@ -39,9 +39,9 @@ impl PendingPatch {
         ensures { patch_view result ≡ record { instruction_offset = instruction_offset; operand_delta = cmp_br_operand_delta; label = label.0 } }
     {
         PendingPatch {
-            instruction_offset: instruction_offset,
+            instruction_offset,
             operand_delta: PendingPatch::CMP_BR_OPERAND_DELTA,
-            label: label,
+            label,
         }
     }
 }

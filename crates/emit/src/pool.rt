@@ -1,5 +1,5 @@
 // The pool's lookup. Behind the constants lies a table by value, which only saves time: where it does not hold the constants so far, they are searched one by one.
-ghost use Rattle.std.specs.Prelude.{◌≡◌, ◌≤◌, ◌<◌, length, take};
+ghost use Rattle.std.specs.Prelude.{◌≡◌, ◌≤◌, ◌<◌, length, take, MatchOption};
 ghost use Rattle.definition.specs.Limits.{max_constants};
 ghost use Rattle.definition.specs.Emit.{index_of};
 ghost use Rattle.emit.specs.Pool.{bucket_count, bucket_of, covers, nearer, Chained, Held, Appended, Keeps};
@@ -25,17 +25,15 @@ fn bucket(k: Constant) -> usize
     ensures value { result ≡ bucket_of k }
     ensures below { result < bucket_count }
 {
-    numbers::wide_word(k) % BUCKETS
+    k as usize % BUCKETS
 }
 
 // Is the table that of the first n constants?
+#[tactic(auto, using(std::proofs::lemmas::Bool::Decides::nat_tests), unfolding(crate::specs::Pool::covers))]
 fn covers(pool: &Pool, n: usize) -> bool
     ensures { result ≡ covers pool.now n }
 {
-    if pool[STALE_AT] != 0 {
-        return false;
-    }
-    numbers::wide_word(pool[COUNT_AT]) == n
+    pool[STALE_AT] == 0 && pool[COUNT_AT] as usize == n
 }
 
 // Where a constant stands first among the first n, one by one.
@@ -44,14 +42,7 @@ fn scan(pool: &Pool, n: usize, k: Constant) -> usize
     ensures value { result ≡ index_of k (take n pool.now) }
     ensures upper_bound { result ≤ n }
 {
-    let mut i = 0;
-    while i < n {
-        if pool[i] == k {
-            return i;
-        }
-        i += 1;
-    }
-    n
+    pool[..n].iter().position(|x| *x == k).unwrap_or(n)
 }
 
 // Index i if the constant there is k.
@@ -68,11 +59,11 @@ fn search(pool: &Pool, n: usize, k: Constant) -> usize
     ensures upper_bound { result ≤ n }
 {
     let mut found = n;
-    let mut left = numbers::wide_word(pool[HEAD_BASE + bucket(k)]);
+    let mut left = pool[HEAD_BASE + bucket(k)] as usize;
     while left > 0 {
         let i = left - 1;
         found = nearer(pool[i], k, i, found);
-        left = numbers::wide_word(pool[LINK_BASE + i]);
+        left = pool[LINK_BASE + i] as usize;
     }
     found
 }
@@ -84,11 +75,21 @@ pub fn index_of(pool: &Pool, n: usize, k: Constant) -> usize
     ensures value { result ≡ index_of k (take n pool.now) }
     ensures upper_bound { result ≤ n }
 {
-    let known = covers(pool, n);
-    if known {
-        return search(pool, n, k);
+    if covers(pool, n) {
+        search(pool, n, k)
+    } else {
+        scan(pool, n, k)
     }
-    scan(pool, n, k)
+}
+
+// The same where it is a constant's place, or that of the next one; none where there is no room for it.
+pub fn place_of(pool: &Pool, n: usize, k: Constant) -> Option<usize>
+    requires held { Held pool.now }
+    requires n_le_max_constants { n ≤ max_constants }
+    ensures { MatchOption result (max_constants ≤ index_of k (take n pool.now)) (λ i. (i ≡ index_of k (take n pool.now)) × (i < max_constants)) }
+{
+    let i = index_of(pool, n, k);
+    if i < MAX_CONSTANTS { Some(i) } else { None }
 }
 
 // Constant n, into the pool and into its table. A table of other constants goes out of use.
@@ -101,8 +102,7 @@ pub fn append(pool: &mut Pool, n: usize, k: Constant)
     pool[n] = k;
     if known {
         let head = HEAD_BASE + bucket(k);
-        let last = pool[head];
-        pool[LINK_BASE + n] = last;
+        pool[LINK_BASE + n] = pool[head];
         pool[head] = (n + 1) as Constant;
         pool[COUNT_AT] = (n + 1) as Constant;
     } else {

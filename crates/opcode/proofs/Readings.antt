@@ -11,39 +11,39 @@ use borrow.Author.Tests.{eq-eqb, ne_eqb, lt-ltb, le-ltb, le-leb, ltb-true, ltb-f
 use lib.Dec.{eqb, ltb}
 use lib.ListN.{length, get_or, take, drop, set, length-take, length-drop, length-set, length-map, length-append, drop_of_length-le, take-append-drop}
 use lib.Seq.{drop-cons, get_or-drop, get_or-take, take-suc, take-suc-set, take-take, take-append-le, take_all, length-take-le, split_at, drop-append-le, take_at, drop_at}
-use Rattle.definition.specs.Limits.{bad_sheet, output_short}
+use Rattle.definition.specs.Limits.{bad_sheet}
 use Rattle.definition.specs.Res.{Res, ok, refuse}
 use Rattle.definition.specs.Lent.{zeros}
 use Rattle.definition.specs.Field.{lf, onto, split, first_line, Read, malformed, outside, is, field, has}
 use Rattle.definition.specs.Opcode.{role_count}
 use Rattle.definition.specs.Sheet.{field_count, opcodes_of, comparisons_of, max_byte, byte, only_line, counted, sheet_fields, distinct, times, read_at_fault, group_of, field_at_fault, fault_at, sheet_fault, read_sheet}
 use Rattle.store.specs.Fill.{zeroed_from}
-use Rattle.store.proofs.Fills.{zeroed-behind}
+use Rattle.store.proofs.Fills.{length-zeros, zeros-append, zero-all, zeroed-is}
 use Rattle.field.specs.View.{Ends, line_end, line_fields}
 use Rattle.field.proofs.Numbers.{up-to-bound}
 use Rattle.field.proofs.Parts.{parts_last, parts_more, line-part, line-is, line-ends, Some, some-part, split-some}
 use Rattle.field.proofs.Fields.{Whole}
 use Rattle.field.proofs.Lists.{drop-map, drop-take}
+use Rattle.field.proofs.Results.{never}
+use Rattle.std.specs.List.{list_any}
+use Rattle.std.specs.Prelude.{Result, Ok, Err, is_ok}
+use Rattle.definition.specs.declared.Refused.{Refused}
+use Rattle.definition.specs.View.{res_of}
 use Rattle.opcode.specs.Table.{table_size, sheet_in, Listed, group_start}
-use Rattle.opcode.specs.Reading.{byte_or, Takes, faulty, no_byte_lem, repeats, put, Reads, Answers}
+use Rattle.opcode.specs.Reading.{Takes, no_byte, repeats, put, Accepts, Reads, Answers, Found, Tabled}
 use Rattle.opcode.proofs.Roles.{seen_at}
 use Rattle.opcode.proofs.Sheets.{has-cons, distinct_cons}
 use Rattle.opcode.proofs.Faults.{spelled, fault-refused, times-same, times-has}
 
 -- ---- is a byte one of these?
 
-module _ (bs : List ℕ) (b i : ℕ) where
-  pub has_here : i < length bs → get_or bs i 0 ≡ b → has (drop i bs) b ≡ true
-  unfolding has
-  has_here h e = rw (drop-cons bs i 0 h, has, eq-eqb b (get_or bs i 0) (sym e))
-
-  pub has-next : i < length bs → (get_or bs i 0 ≡ b → ⊥) → has (drop i bs) b ≡ has (drop (i + 1) bs) b
-  unfolding has
-  has-next h e = rw (add-one, drop-cons bs i 0 h, has, ne_eqb b (get_or bs i 0) (λ q. e (sym q)))
-
-  pub has_end : length bs ≤ i → has (drop i bs) b ≡ false
-  unfolding has
-  has_end h = rw (drop_of_length-le bs h)
+pub has-any : (xs : List ℕ) (x : ℕ) → list_any (λ y. eqb y x) xs ≡ has xs x
+unfolding has
+has-any [] x = refl
+has-any (y ∷ xs) x = elim (ℕ_discrete y x) [
+  | yes e ↦ rw (has, eq-eqb y x e, eq-eqb x y (sym e))
+  | no n ↦ rw (has, ne_eqb y x n, ne_eqb x y (λ e. n (sym e))) (has-any xs x)
+]
 
 -- ---- one line
 
@@ -167,44 +167,48 @@ twice n j g xs h front here e =
 
 -- ---- a field's byte
 
-byte-is : (r : Read) (n : ℕ) → n ≡ byte_or r → n ≤ max_byte → r ≡ is n
-unfolding byte_or
-byte-is malformed n e h = absurd (omega arith)
-byte-is outside n e h = absurd (omega arith)
-byte-is (is m) n e h = cc
-
-byte-none : (bs : List ℕ) (g : List Read) → max_byte < byte_or (field byte bs) → read_at_fault g (field byte bs) ≡ true
-unfolding byte_or read_at_fault
+byte-none : (bs : List ℕ) (g : List Read) → ((n : ℕ) → field byte bs ≡ is n → max_byte < n) → read_at_fault g (field byte bs) ≡ true
+unfolding read_at_fault
 byte-none bs g = go (field byte bs) refl
   where
-    go : (r : Read) → field byte bs ≡ r → max_byte < byte_or r → read_at_fault g r ≡ true
+    go : (r : Read) → field byte bs ≡ r → ((n : ℕ) → r ≡ is n → max_byte < n) → read_at_fault g r ≡ true
     go malformed e h = refl
     go outside e h = refl
-    go (is n) e h = absurd (omega (arith, up-to-bound bs max_byte e))
+    go (is n) e h = absurd (omega (arith, up-to-bound bs max_byte e, h n refl))
 
 -- ---- taking the fields of a line into the table
 
 -- what was asked of the group so far
-pub so_far : (i start n : ℕ) (t : List ℕ) {r b : Bool} → start ≡ group_start i → r ≡ has (take (i - start) (drop start t)) n → r ≡ b → has (drop (group_start i) (take i t)) n ≡ b
-so_far i start n t es f q = rw (← es, drop-take start i t) (sym f ∙ q)
+pub so_far : (i start n : ℕ) (t : List ℕ) {r b : Bool} → start ≡ group_start i → r ≡ list_any (λ y. eqb y n) (take (i - start) (drop start t)) → r ≡ b → has (drop (group_start i) (take i t)) n ≡ b
+so_far i start n t es f q = rw (← es, drop-take start i t) (sym (f ∙ has-any _ n) ∙ q)
 
 -- what the fields of a text's first line are read as
 abbrev reads_of : List ℕ → List Read
 reads_of text = map (field byte) (line_fields text 0)
 
--- i fields are taken into the table: they are bytes, distinct in their groups, or one of them is at fault
-pub record Taking (text t : List ℕ) (i fault : ℕ) : Type 0 where
+-- i fields are looked at: they are bytes in the table, distinct in their groups, or one of them is at fault
+pub record Taking (text t : List ℕ) (i : ℕ) (r : Res (Unit {0})) : Type 0 where
   pub room : length t ≡ table_size
-  pub reads : fault ≡ 0 → take i (reads_of text) ≡ map is (take i t)
-  pub opcodes : fault ≡ 0 → distinct (opcodes_of (take i t)) ≡ true
-  pub comparisons : fault ≡ 0 → distinct (comparisons_of (take i t)) ≡ true
-  pub bad : 0 < fault → fault_at fault (some (line_fields text 0)) ≡ true
+  pub reads : r ≡ ok tt → take i (reads_of text) ≡ map is (take i t)
+  pub opcodes : r ≡ ok tt → distinct (opcodes_of (take i t)) ≡ true
+  pub comparisons : r ≡ ok tt → distinct (comparisons_of (take i t)) ≡ true
+  pub bad : (n p : ℕ) → r ≡ refuse n p → (n ≡ bad_sheet) × (fault_at p (some (line_fields text 0)) ≡ true)
 
-pub taking-starts : (text t : List ℕ) → length t ≡ table_size → Taking text t 0 0
+pub taking-starts : (text t : List ℕ) → length t ≡ table_size → Taking text t 0 (ok tt)
 unfolding distinct
-taking-starts text t l = record { room = l; reads = λ z. refl; opcodes = λ z. refl; comparisons = λ z. refl; bad = λ h. absurd (omega arith) }
+taking-starts text t l = record { room = l; reads = λ z. refl; opcodes = λ z. refl; comparisons = λ z. refl; bad = λ n p e. never (cc) }
 
-module _ {text t : List ℕ} {i fault : ℕ} (p : Taking text t i fault) (h : i < field_count) (inside : i < length (line_fields text 0)) {x : Read} (ex : x ≡ field byte (get_or (line_fields text 0) i [])) where
+-- what code answered: that all is well, or that it is not
+pub all-well : (r : Result (Unit {0}) Refused) → is_ok r ≡ true → res_of (λ u. u) r ≡ ok tt
+all-well (Ok u) e = refl
+all-well (Err e) q = never (cc)
+
+-- once a field is at fault, no other is taken
+pub taking-kept : {text t : List ℕ} {i : ℕ} (r : Result (Unit {0}) Refused) → is_ok r ≡ false → Taking text t i (res_of (λ u. u) r) → Taking text t (i + 1) (res_of (λ u. u) r)
+taking-kept (Ok u) e k = never (cc)
+taking-kept (Err e) q k = record { room = k.room; reads = λ z. never (cc); opcodes = λ z. never (cc); comparisons = λ z. never (cc); bad = k.bad }
+
+module _ {text t : List ℕ} {i : ℕ} (p : Taking text t i (ok tt)) (h : i < field_count) (inside : i < length (line_fields text 0)) {x : Read} (ex : x ≡ field byte (get_or (line_fields text 0) i [])) where
   long : i < length (reads_of text)
   long = omega (arith, length-map (line_fields text 0) (field byte))
 
@@ -216,105 +220,97 @@ module _ {text t : List ℕ} {i fault : ℕ} (p : Taking text t i fault) (h : i 
   at-fault f = rw (add-one i, field_at_fault, lt-ltb i field_count h, read_here) f
 
   -- the byte that was read stands before it in its group
-  module _ (fine : fault ≡ 0) (here : x ≡ is (byte_or x)) where
-    group-twice : has (drop (group_start i) (take i t)) (byte_or x) ≡ true → 2 ≤ times (byte_or x) (group_of i (reads_of text))
+  module _ {n : ℕ} (here : x ≡ is n) where
+    group-twice : has (drop (group_start i) (take i t)) n ≡ true → 2 ≤ times n (group_of i (reads_of text))
     unfolding group_start group_of
     group-twice = go (ltb i role_count) refl
       where
-        go : (b : Bool) → ltb i role_count ≡ b → has (drop (elim b [ true ↦ 0 | false ↦ role_count ]) (take i t)) (byte_or x) ≡ true
-            → 2 ≤ times (byte_or x) (elim b [ true ↦ opcodes_of (reads_of text) | false ↦ comparisons_of (reads_of text) ])
+        go : (b : Bool) → ltb i role_count ≡ b → has (drop (elim b [ true ↦ 0 | false ↦ role_count ]) (take i t)) n ≡ true
+            → 2 ≤ times n (elim b [ true ↦ opcodes_of (reads_of text) | false ↦ comparisons_of (reads_of text) ])
         go true q f =
             let l = ltb-true i role_count q in
-            twice (byte_or x) i (opcodes_of (reads_of text)) (take i t)
+            twice n i (opcodes_of (reads_of text)) (take i t)
             (omega (arith, length-take role_count (reads_of text), long))
-            (take-take i role_count (reads_of text) (omega arith) ∙ p.reads fine)
+            (take-take i role_count (reads_of text) (omega arith) ∙ p.reads refl)
             (get_or-take role_count (reads_of text) i malformed l ∙ read_here ∙ here) f
         go false q f =
             let l = ltb-false i role_count q in
             let z : role_count + (i - role_count) ≡ i = omega arith in
-            twice (byte_or x) (i - role_count) (comparisons_of (reads_of text)) (comparisons_of (take i t))
+            twice n (i - role_count) (comparisons_of (reads_of text)) (comparisons_of (take i t))
             (omega (arith, length-drop role_count (reads_of text), long))
-            (sym (drop-take role_count i (reads_of text)) ∙ ap comparisons_of (p.reads fine) ∙ drop-map is role_count (take i t))
+            (sym (drop-take role_count i (reads_of text)) ∙ ap comparisons_of (p.reads refl) ∙ drop-map is role_count (take i t))
             (get_or-drop role_count (reads_of text) (i - role_count) malformed ∙ rw z (read_here ∙ here)) f
 
-    taken : has (drop (group_start i) (take i t)) (byte_or x) ≡ false → Taking text (set t i (byte_or x)) (i + 1) 0
+    taken : has (drop (group_start i) (take i t)) n ≡ false → Taking text (set t i n) (i + 1) (ok tt)
     taken f =
-        let w : take (i + 1) (set t i (byte_or x)) ≡ take i t ++ byte_or x ∷ [] = rw (add-one i) (take-suc-set t i (byte_or x) (omega (arith, p.room))) in
-        let g = grown (take i t) (byte_or x) (p.opcodes fine) (p.comparisons fine) i (length-take-le i t (omega (arith, p.room))) f in
+        let w : take (i + 1) (set t i n) ≡ take i t ++ n ∷ [] = rw (add-one i) (take-suc-set t i n (omega (arith, p.room))) in
+        let g = grown (take i t) n (p.opcodes refl) (p.comparisons refl) i (length-take-le i t (omega (arith, p.room))) f in
         record {
-          room = length-set t i (byte_or x) ∙ p.room;
-          reads = λ z. rw (w, add-one i, take-suc (reads_of text) i malformed long, read_here, p.reads fine) (ap (λ (y : Read). map is (take i t) ++ y ∷ []) here ∙ sym (map-append is (take i t) (byte_or x ∷ [])));
+          room = length-set t i n ∙ p.room;
+          reads = λ z. rw (w, add-one i, take-suc (reads_of text) i malformed long, read_here, p.reads refl) (ap (λ (y : Read). map is (take i t) ++ y ∷ []) here ∙ sym (map-append is (take i t) (n ∷ [])));
           opcodes = λ z. rw w g.0;
           comparisons = λ z. rw w g.1;
-          bad = λ z. absurd (omega arith);
+          bad = λ n p e. never (cc);
         }
 
-  faulty-now : {r : ℕ} → r ≡ i + 1 → read_at_fault (group_of i (reads_of text)) x ≡ true → Taking text t (i + 1) r
-  faulty-now e f = record {
+  faulty-now : {r : Res (Unit {0})} → r ≡ refuse bad_sheet (i + 1) → read_at_fault (group_of i (reads_of text)) x ≡ true → Taking text t (i + 1) r
+  faulty-now e f = rw e (record {
     room = p.room;
-    reads = λ z. absurd (omega (arith, e));
-    opcodes = λ z. absurd (omega (arith, e));
-    comparisons = λ z. absurd (omega (arith, e));
-    bad = λ z. rw e (at-fault f);
-  }
-
-  pub taking-next : {u : List ℕ} {r : ℕ} → Takes i x t fault u r → Taking text u (i + 1) r
-  unfolding read_at_fault
-  taking-next (faulty f eu er) = rw (eu, er) (record {
-    room = p.room;
-    reads = λ z. absurd (omega arith);
-    opcodes = λ z. absurd (omega arith);
-    comparisons = λ z. absurd (omega arith);
-    bad = p.bad;
+    reads = λ z. never (cc);
+    opcodes = λ z. never (cc);
+    comparisons = λ z. never (cc);
+    bad = λ n q z. let same : q ≡ i + 1 = cc in (cc, rw same (at-fault f));
   })
-  taking-next (no_byte_lem z b eu er) = rw eu (faulty-now er (rw ex (byte-none (get_or (line_fields text 0) i []) (group_of i (reads_of text)) (rw ex at b))))
-  taking-next (repeats z b f eu er) =
-      let here = byte-is x (byte_or x) refl b in
-      rw eu (faulty-now er (ap (read_at_fault (group_of i (reads_of text))) here ∙ le-leb 2 (times (byte_or x) (group_of i (reads_of text))) (group-twice z here f)))
-  taking-next (put z b f eu er) = rw (eu, er) (taken z (byte-is x (byte_or x) refl b) f)
+
+  pub taking-next : {u : List ℕ} {r : Res (Unit {0})} → Takes i x t u r → Taking text u (i + 1) r
+  unfolding read_at_fault
+  taking-next (no_byte b eu er) = rw eu (faulty-now er (rw ex (byte-none (get_or (line_fields text 0) i []) (group_of i (reads_of text)) (rw ex at b))))
+  taking-next (repeats {n = n} here f eu er) = rw eu (faulty-now er (ap (read_at_fault (group_of i (reads_of text))) here ∙ le-leb 2 (times n (group_of i (reads_of text))) (group-twice here f)))
+  taking-next (put here b f eu er) = rw (eu, er) (taken here f)
 
 -- ---- all fields are taken
-module _ {text t : List ℕ} {i fault : ℕ} (p : Taking text t i fault) (whole : Whole text 0 field_count) (only : length text ≡ line_end text 0 + 1) where
-  pub taking-bad : 0 < fault → sheet_fault text fault ≡ true
-  unfolding sheet_fault
-  taking-bad h = ap (fault_at fault) (fields-found text whole only) ∙ p.bad h
-
-  pub taking-ends : i ≡ field_count → fault ≡ 0 → read_sheet text ≡ some (sheet_in t)
-  taking-ends e z =
-      let all : take field_count (reads_of text) ≡ reads_of text = take_all field_count (reads_of text) (omega (arith, length-map (line_fields text 0) (field byte), whole.many)) in
-      spelled {ns = take field_count t} (record {
-        fields = line_fields text 0;
-        found = fields-found text whole only;
-        reads = sym all ∙ rw e at (p.reads z);
-        long = length-take-le field_count t (omega (arith, p.room));
-        opcodes = rw e at (p.opcodes z);
-        comparisons = rw e at (p.comparisons z);
-      })
+pub taking-ends : {text t : List ℕ} {i : ℕ} (r : Res (Unit {0})) → Taking text t i r → i ≡ field_count → Whole text 0 field_count → length text ≡ line_end text 0 + 1 → Found text t r
+unfolding sheet_fault
+taking-ends {text} (refuse n q) p e whole only = let b = p.bad n q refl in (b.0, ap (fault_at q) (fields-found text whole only) ∙ b.1)
+taking-ends {text} {t} (ok u) p e whole only =
+    let all : take field_count (reads_of text) ≡ reads_of text = take_all field_count (reads_of text) (omega (arith, length-map (line_fields text 0) (field byte), whole.many)) in
+    spelled {ns = take field_count t} (record {
+      fields = line_fields text 0;
+      found = fields-found text whole only;
+      reads = sym all ∙ rw e at (p.reads refl);
+      long = length-take-le field_count t (omega (arith, p.room));
+      opcodes = rw e at (p.opcodes refl);
+      comparisons = rw e at (p.comparisons refl);
+    })
 
 -- ---- what reading a sheet answers
 
-pub refused : (text : List ℕ) {k n : ℕ} {table : List ℕ} {r : Res (Unit {0})} (place : ℕ) → (r ≡ refuse n place) × (table ≡ zeros k) → k ≡ table_size → n ≡ bad_sheet → sheet_fault text place ≡ true → Reads text table r
-refused text place e q b f = rw e.0 (record { is = fault-refused text place f; number = b; fault = f; cleared = e.1 ∙ ap zeros q })
+pub accepted : (text rest : List ℕ) {u table : List ℕ} → read_sheet text ≡ some (sheet_in u) → Listed u table → Accepts text (take table_size (table ++ rest))
+accepted text rest {u} {table} e l = rw (take_at table rest table_size l.table.long) (record { is = rw l.front e; ready = l.table })
 
-pub accepted : (text : List ℕ) {u table : List ℕ} → read_sheet text ≡ some (sheet_in u) → Listed u table → Reads text table (ok tt)
-accepted text e l = record { is = rw l.front e; ready = l.table }
+-- what a lent list holds that is zeroed from its table's end on, or all of it
+zeros-parted : (n room : ℕ) → n ≤ room → zeros room ≡ zeros n ++ zeros (room - n)
+zeros-parted n room h = let e : n + (room - n) ≡ room = omega arith in ap zeros (sym e) ∙ sym (zeros-append n (room - n))
 
--- a shorter table
-pub unfit : {room : ℕ} {text table : List ℕ} {r : Res (Unit {0})} → room < table_size → (r ≡ refuse output_short 0) × (table ≡ zeros room) → Answers room text table r
-unfit h e = record { fit = λ q. absurd (omega arith); unfit = λ _. record { is = e.0; cleared = e.1 } }
-
--- a table l that stands first in what is lent
-pub fit : (text t l : List ℕ) {u : List ℕ} {a : Res (Unit {0})} → table_size ≤ length t → length l ≡ length (take table_size t) → Reads text l a → u ≡ zeroed_from table_size (l ++ drop table_size t) → Answers (length t) text u a
-fit text t l {u} {a} h k d e = record {
-  fit = λ _. record {
-    reads = subst (λ (x : List ℕ). Reads text x a) (sym (ap (take table_size) is.1 ∙ take_at l (zeros (length t - table_size)) table_size is.0)) d;
-    behind = ap (drop table_size) is.1 ∙ drop_at l (zeros (length t - table_size)) table_size is.0;
-  };
-  unfit = λ q. absurd (omega arith);
-}
-  where
-    is : (length l ≡ table_size) × (u ≡ l ++ zeros (length t - table_size))
-    is = zeroed-behind table_size l t h k e
+pub answers : (text old mid : List ℕ) {new : List ℕ} {n : ℕ} → length mid ≡ length old → new ≡ zeroed_from n mid → (r : Result (Unit {0}) Refused) → Tabled text old mid (res_of (λ u. u) r) → (is_ok r ≡ true → n ≡ table_size) → (is_ok r ≡ false → n ≡ 0)
+    → Answers (length old) text new (res_of (λ u. u) r)
+answers text old mid {new} {n} same z (Ok u) t y x =
+    let parts : new ≡ take table_size mid ++ zeros (length old - table_size) = z ∙ zeroed-is n mid ∙ rw (y refl, same) in
+    let long : length (take table_size mid) ≡ table_size = length-take-le table_size mid (omega (arith, t.0)) in
+    record {
+      fit = λ _. record { reads = rw (parts, take_at (take table_size mid) (zeros (length old - table_size)) table_size long) t.1; behind = rw (parts, drop_at (take table_size mid) (zeros (length old - table_size)) table_size long) };
+      unfit = λ q. absurd (omega (arith, t.0));
+    }
+answers text old mid {new} {n} same z (Err e) t y x =
+    let cleared : new ≡ zeros (length old) = zero-all mid (rw (x refl) at z) ∙ ap zeros same in
+    let parts : table_size ≤ length old → new ≡ zeros table_size ++ zeros (length old - table_size) = λ h. cleared ∙ zeros-parted table_size (length old) h in
+    record {
+      fit = λ h. record {
+        reads = record { is = fault-refused text e.place (t.1 h).1; number = (t.1 h).0; fault = (t.1 h).1; cleared = rw (parts h, take_at (zeros table_size) (zeros (length old - table_size)) table_size (length-zeros table_size)) };
+        behind = rw (parts h, drop_at (zeros table_size) (zeros (length old - table_size)) table_size (length-zeros table_size));
+      };
+      unfit = λ h. record { is = ap₂ refuse (t.0 h).0 (t.0 h).1; cleared = cleared };
+    }
 
 -- what was read into a table that is no longer
 pub read_whole : {room : ℕ} {text table : List ℕ} {r : Res (Unit {0})} → room ≡ table_size → Answers room text table r → Reads text table r

@@ -1,15 +1,13 @@
 -- A table: what it holds of its sheet, and how the role numbers come into it.
 use mathlib.Core.Path.{◌≡◌, refl, ap, sym, ◌∙◌}
-use mathlib.Core.Bool.{false}
-use mathlib.Core.List.{List, ◌∷◌, ◌++◌, map}
-use Prim.Native.Nat.{ℕ, zero, suc, ◌+◌, ◌-◌, ◌<◌, ◌≤◌}
-use native.Mathlib.Omega.{arith}
+use mathlib.Core.List.{List, [], ◌∷◌, ◌++◌, map}
+use Prim.Native.Nat.{ℕ, zero, suc, ◌+◌, ◌-◌, ◌<◌, ◌≤◌, min}
+use native.Mathlib.Omega.{arith, min_cases}
 use native.Mathlib.Decide.{ℕ_discrete}
 use borrow.Author.Tests.{eq-eqb, ne_eqb}
-use lib.ListN.{length, get_or, take, drop, set, replicate, take-append-drop, length-append, length-drop, length-set, length-map, length-replicate, get_or-replicate, drop_of_length-le}
+use lib.ListN.{length, get_or, take, drop, set, replicate, take-append-drop, length-append, length-drop, length-take, length-set, length-map, length-replicate, get_or-replicate, drop_of_length-le}
 use lib.Seq.{get_or-take, get_or-drop, get_or-append-add, get_or-set_same, get_or-set_other, take_at, take-set-le, drop-cons, slice_empty, ext_get_or, length-take-le, take_all}
-use Rattle.definition.specs.Opcode.{Role, role_count, comparison_count, CompareOp, number, compare_index, ret, roles, beside, role_of, opcode, comparison_byte, Sheet}
-use Rattle.definition.specs.Field.{has}
+use Rattle.definition.specs.Opcode.{Role, role_count, CompareOp, number, compare_index, ret, roles, beside, role_of, opcode, comparison_byte, Sheet}
 use Rattle.definition.specs.Rules.{role_numbered}
 use Rattle.definition.specs.Sheet.{field_count, opcodes_of}
 use Rattle.store.specs.Fill.{set_from}
@@ -28,16 +26,13 @@ pub table-comparison : (t : List ℕ) (c : CompareOp) → get_or t (role_count +
 unfolding comparison_byte
 table-comparison t c = sym (get_or-drop role_count (take field_count t) (compare_index c) 0 ∙ get_or-take field_count t (role_count + compare_index c) 0 (omega (arith, compare-index c)))
 
--- the part of a table that holds the comparison bytes: none, cut off, whole
-pub no-comparisons : (t : List ℕ) (b : ℕ) → length t < role_count → false ≡ has (sheet_in t).comparisons b
-unfolding has
-no-comparisons t b h = sym (ap (λ xs. has xs b) (ap (λ xs. drop role_count xs) (take_all field_count t (omega arith)) ∙ drop_of_length-le t {i = role_count} (omega arith)))
+-- the part of a table that holds the comparison bytes, as far as the table goes
+pub comparisons-there : (t : List ℕ) (e : ℕ) → e ≡ min (length t) field_count → role_count ≤ e → take (e - role_count) (drop role_count t) ≡ (sheet_in t).comparisons
+comparisons-there t e q h =
+    sym (drop-take role_count e t) ∙ ap (λ (l : List ℕ). drop role_count l) (min_cases (length t) field_count (take e t ≡ take field_count t) (λ m k. take_all e t (omega arith) ∙ sym (take_all field_count t m)) (λ m k. rw (q ∙ k)))
 
-pub some-comparisons : (t : List ℕ) → length t < field_count → take (length t - role_count) (drop role_count t) ≡ (sheet_in t).comparisons
-some-comparisons t h = sym (drop-take role_count (length t) t) ∙ ap (λ xs. drop role_count xs) (take_all (length t) t (omega arith) ∙ sym (take_all field_count t (omega arith)))
-
-pub all-comparisons : (t : List ℕ) → take comparison_count (drop role_count t) ≡ (sheet_in t).comparisons
-all-comparisons t = sym (drop-take role_count field_count t)
+pub comparisons-none : (t : List ℕ) (e : ℕ) → e ≡ min (length t) field_count → e < role_count → [] ≡ (sheet_in t).comparisons
+comparisons-none t e q h = sym (drop_of_length-le (take field_count t) {i = role_count} (omega (arith, length-take field_count t)))
 
 -- the role numbers of a sheet
 abbrev pub listed : Sheet → List ℕ

@@ -1,18 +1,12 @@
 -- What reading a sheet answers.
-use Rattle.std.specs.Prelude.{◌≡◌, true, false, List, ℕ, ◌+◌, ◌-◌, ◌≤◌, ◌<◌, take, drop, set}
+use Rattle.std.specs.Prelude.{◌≡◌, true, false, List, ℕ, ◌+◌, ◌-◌, ◌≤◌, ◌<◌, length, take, drop, set}
 use Rattle.std.proofs.Math.Option.{some, none}
 use Rattle.definition.specs.Limits.{bad_sheet, output_short}
 use Rattle.definition.specs.Res.{Res, ok, refuse}
-use Rattle.definition.specs.Field.{Read, malformed, outside, is, has}
+use Rattle.definition.specs.Field.{Read, is, has}
 use Rattle.definition.specs.Sheet.{max_byte, read_sheet, sheet_fault}
 use Rattle.definition.specs.Lent.{zeros}
-use Rattle.opcode.specs.declared.sheet.SheetRead.{SheetRead}
-use Rattle.opcode.specs.declared.sheet.SheetRead.TheVariants.{Accepted, Refused}
 use Rattle.opcode.specs.Table.{table_size, sheet_in, IsTable, group_start}
-
-abbrev pub answer_of : SheetRead → Res (Unit {0})
-answer_of Accepted = ok tt
-answer_of (Refused n place) = refuse n place
 
 -- the text is a sheet, and the table is that sheet's
 pub record Accepts (text table : List ℕ) : Type 0 where
@@ -45,25 +39,18 @@ pub record Answers (room : ℕ) (text table : List ℕ) (r : Res (Unit {0})) : T
   pub fit : table_size ≤ room → Fit room text table r
   pub unfit : room < table_size → Unfit room table r
 
--- a number that no byte has
-abbrev pub no_byte : ℕ
-no_byte = max_byte + 1
-
--- the byte that a field spells; no_byte where it spells none
-unfoldable pub byte_or : Read → ℕ
-byte_or malformed = no_byte
-byte_or outside = no_byte
-byte_or (is n) = n
-
--- what becomes of field i of a sheet, read as x, where the lowest field at fault before it is `fault`, from 1, or 0 for none; t is the table before and u after
--- it, and r the lowest field at fault with it
-pub data Takes (i : ℕ) (x : Read) (t : List ℕ) (fault : ℕ) (u : List ℕ) (r : ℕ) : Type 0 where
-  faulty : 0 < fault → u ≡ t → r ≡ fault → Takes i x t fault u r
-  no_byte_lem : fault ≡ 0 → max_byte < byte_or x → u ≡ t → r ≡ i + 1 → Takes i x t fault u r
-  repeats : fault ≡ 0 → byte_or x ≤ max_byte → has (drop (group_start i) (take i t)) (byte_or x) ≡ true → u ≡ t → r ≡ i + 1 → Takes i x t fault u r
-  put : fault ≡ 0 → byte_or x ≤ max_byte → has (drop (group_start i) (take i t)) (byte_or x) ≡ false → u ≡ set t i (byte_or x) → r ≡ 0 → Takes i x t fault u r
+-- what becomes of field i of a sheet, read as x; t is the table before it, u the one after it, and r what is answered
+pub data Takes (i : ℕ) (x : Read) (t u : List ℕ) (r : Res (Unit {0})) : Type 0 where
+  no_byte : ((n : ℕ) → x ≡ is n → max_byte < n) → u ≡ t → r ≡ refuse bad_sheet (i + 1) → Takes i x t u r
+  repeats : {n : ℕ} → x ≡ is n → has (drop (group_start i) (take i t)) n ≡ true → u ≡ t → r ≡ refuse bad_sheet (i + 1) → Takes i x t u r
+  put : {n : ℕ} → x ≡ is n → n ≤ max_byte → has (drop (group_start i) (take i t)) n ≡ false → u ≡ set t i n → r ≡ ok tt → Takes i x t u r
 
 -- what reading the numbers of a text answers
 abbrev pub Found : List ℕ → List ℕ → Res (Unit {0}) → Type 0
 Found text table (ok u) = read_sheet text ≡ some (sheet_in table)
 Found text table (refuse n p) = (n ≡ bad_sheet) × (sheet_fault text p ≡ true)
+
+-- what a lent table of any length then starts with: the sheet's table, or what is cleared next
+abbrev pub Tabled : List ℕ → List ℕ → List ℕ → Res (Unit {0}) → Type 0
+Tabled text old new (ok u) = (table_size ≤ length old) × Accepts text (take table_size new)
+Tabled text old new (refuse n p) = (length old < table_size → (n ≡ output_short) × (p ≡ 0)) × (table_size ≤ length old → (n ≡ bad_sheet) × (sheet_fault text p ≡ true))

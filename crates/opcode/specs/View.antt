@@ -1,6 +1,7 @@
 -- What this crate's types stand for in the definition.
 use Rattle.std.specs.Prelude.{◌≡◌}
 use Rattle.definition.specs.Opcode as def
+use Rattle.definition.specs.Rules.{role_numbered}
 use Rattle.opcode.specs.declared.BinaryOp.{BinaryOp}
 use Rattle.opcode.specs.declared.BinaryOp.TheVariants as binary
 use Rattle.opcode.specs.declared.ArithmeticOp.{ArithmeticOp}
@@ -88,3 +89,8 @@ pub record AreTraits (t : def.Traits) (r : Traits) : Type 0 where
   pub needs : r.needs ≡ t.needs
   pub effect : effect_view r.effect ≡ t.effect
   pub flow : flow_view r.flow ≡ t.flow
+
+-- what the tables of roles and comparisons are unfolded by
+unfoldable pub open_opcode : Unit {0}
+unfolding def.open-Opcode role_numbered
+open_opcode = tt

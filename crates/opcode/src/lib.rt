@@ -1,62 +1,65 @@
 // Roles and comparisons: the stand-in for the source's `opcode` and `cmp_op` (document 01, 'Sheet').
-#![tactic(auto)]
+#![tactic(auto, unfolding(crate::specs::View::open_opcode))]
 
 ghost use Rattle.std.specs.Prelude.{◌≡◌, ◌<◌};
-ghost use Rattle.definition.specs.Opcode.{arithmetic, logic, binary_role, unary_role, size, number, traits, shift, negate, commute, compare_index};
+ghost use Rattle.definition.specs.Opcode.{binary_role, unary_role, size, number, traits, shift, negate, commute, compare_index};
 ghost use Rattle.definition.specs.Rules.{role_numbered};
-ghost use Rattle.opcode.specs.View.{arithmetic_view, bool_view, binary_view, unary_view, compare_view, role_view, effect_view, AreTraits};
+ghost use Rattle.opcode.specs.View.{binary_view, unary_view, compare_view, role_view, effect_view, AreTraits};
 
 use definition::ROLE_COUNT;
 
 pub mod sheet; // sheet.rt: reading a sheet, and what a sheet gives
 
-#[derive(Clone, Copy)]
+// Operators of two numbers, each at its role's number.
+#[derive(Clone, Copy, PartialEq, Eq)]
 pub enum ArithmeticOp {
-    Add,
-    Sub,
-    Mul,
-    Div,
-    Mod,
+    Add = 7,
+    Sub = 8,
+    Mul = 9,
+    Div = 10,
+    Mod = 11,
 }
 
-#[derive(Clone, Copy)]
+// Operators of two truth values, each at its role's number.
+#[derive(Clone, Copy, PartialEq, Eq)]
 pub enum BoolOp {
-    BoolAnd,
-    BoolOr,
-    BoolXor,
+    BoolAnd = 13,
+    BoolOr = 14,
+    BoolXor = 15,
 }
 
-#[derive(Clone, Copy)]
+#[derive(Clone, Copy, PartialEq, Eq)]
 pub enum BinaryOp {
     Arithmetic(ArithmeticOp),
     Logic(BoolOp),
 }
 
-#[derive(Clone, Copy)]
+#[derive(Clone, Copy, PartialEq, Eq)]
 pub enum UnaryOp {
     Neg,
     BoolNot,
 }
 
-#[derive(Clone, Copy)]
+// Comparisons, each at its place in the sheet's comparison bytes.
+#[derive(Clone, Copy, PartialEq, Eq)]
 pub enum CompareOp {
-    Eq,
-    Ne,
-    Lt,
-    Le,
-    Gt,
-    Ge,
+    Eq = 0,
+    Ne = 1,
+    Lt = 2,
+    Le = 3,
+    Gt = 4,
+    Ge = 5,
 }
 
 // AND_THEN and OR_ELSE: no roles, emission spells them with branches.
-#[derive(Clone, Copy)]
+#[derive(Clone, Copy, PartialEq, Eq)]
 pub enum ShortCircuitOp {
     AndThen,
     OrElse,
 }
 
 // The roles, by class.
-#[derive(Clone, Copy)]
+#[derive(Clone, Copy, PartialEq, Eq)]
 pub enum Role {
     Dup,
     Pop,
@@ -108,7 +111,7 @@ const ROLES: [Role; ROLE_COUNT] = [
 ];
 
 // What an instruction does to the stack's height.
-#[derive(Clone, Copy)]
+#[derive(Clone, Copy, PartialEq, Eq)]
 pub enum Effect {
     Up,
     Down,
@@ -116,7 +119,7 @@ pub enum Effect {
 }
 
 // Where a run goes on: behind the instruction, at its target, at either by the outcome, or nowhere.
-#[derive(Clone, Copy)]
+#[derive(Clone, Copy, PartialEq, Eq)]
 pub enum Flow {
     Onward,
     Away,
@@ -138,10 +141,10 @@ impl Effect {
     pub fn shift(self, height: u32) -> u64
         ensures { result ≡ shift (effect_view self) height }
     {
-        let height = height as u64;
+        let height = u64::from(height);
         match self {
             Effect::Up => height + 1,
-            Effect::Down => { if height == 0 { 0 } else { height - 1 } }
+            Effect::Down => height.saturating_sub(1),
             Effect::Same => height,
         }
     }
@@ -152,14 +155,7 @@ impl CompareOp {
     pub fn index(self) -> u8
         ensures { result ≡ compare_index (compare_view self) }
     {
-        match self {
-            CompareOp::Eq => 0,
-            CompareOp::Ne => 1,
-            CompareOp::Lt => 2,
-            CompareOp::Le => 3,
-            CompareOp::Gt => 4,
-            CompareOp::Ge => 5,
-        }
+        self as u8
     }
 
     // The comparison that holds where this one does not.
@@ -181,38 +177,11 @@ impl CompareOp {
         ensures { compare_view result ≡ commute (compare_view self) }
     {
         match self {
-            CompareOp::Eq => CompareOp::Eq,
-            CompareOp::Ne => CompareOp::Ne,
+            CompareOp::Eq | CompareOp::Ne => self,
             CompareOp::Lt => CompareOp::Gt,
             CompareOp::Le => CompareOp::Ge,
             CompareOp::Gt => CompareOp::Lt,
             CompareOp::Ge => CompareOp::Le,
-        }
-    }
-}
-
-impl ArithmeticOp {
-    fn number(self) -> u8
-        ensures { result ≡ number (arithmetic (arithmetic_view self)) }
-    {
-        match self {
-            ArithmeticOp::Add => 7,
-            ArithmeticOp::Sub => 8,
-            ArithmeticOp::Mul => 9,
-            ArithmeticOp::Div => 10,
-            ArithmeticOp::Mod => 11,
-        }
-    }
-}
-
-impl BoolOp {
-    fn number(self) -> u8
-        ensures { result ≡ number (logic (bool_view self)) }
-    {
-        match self {
-            BoolOp::BoolAnd => 13,
-            BoolOp::BoolOr => 14,
-            BoolOp::BoolXor => 15,
         }
     }
 }
@@ -252,11 +221,11 @@ impl Role {
             Role::LoadConst => 4,
             Role::LoadTrue => 5,
             Role::LoadFalse => 6,
-            Role::Arithmetic(o) => o.number(),
+            Role::Arithmetic(o) => o as u8,
             Role::Neg => 12,
-            Role::Logic(o) => o.number(),
+            Role::Logic(o) => o as u8,
             Role::BoolNot => 16,
-            Role::Compare(c) => 17 + c.index(),
+            Role::Compare(c) => 17 + c as u8,
             Role::Jmp => 23,
             Role::JmpIfNot => 24,
             Role::CmpBr => 25,
@@ -268,7 +237,8 @@ impl Role {
     pub fn numbered(n: u8) -> Role
         ensures { role_view result ≡ role_numbered n }
     {
-        let i = n as usize;
+        // Over a literal table of this length the proof of `get(..).copied().unwrap_or(..)` does not close.
+        let i = usize::from(n);
         if i < ROLE_COUNT { ROLES[i] } else { Role::Ret }
     }
 
@@ -279,16 +249,16 @@ impl Role {
         match self {
             Role::Dup => traits_of(1, 1, Effect::Up, Flow::Onward),
             Role::Pop => traits_of(1, 1, Effect::Down, Flow::Onward),
-            Role::LoadVar => traits_of(3, 0, Effect::Up, Flow::Onward),
+            Role::LoadVar | Role::LoadConst => traits_of(3, 0, Effect::Up, Flow::Onward),
             Role::StoreVar => traits_of(3, 1, Effect::Down, Flow::Onward),
-            Role::LoadConst => traits_of(3, 0, Effect::Up, Flow::Onward),
-            Role::LoadTrue => traits_of(1, 0, Effect::Up, Flow::Onward),
-            Role::LoadFalse => traits_of(1, 0, Effect::Up, Flow::Onward),
-            Role::Arithmetic(_) => traits_of(1, 2, Effect::Down, Flow::Onward),
-            Role::Logic(_) => traits_of(1, 2, Effect::Down, Flow::Onward),
-            Role::Neg => traits_of(1, 1, Effect::Same, Flow::Onward),
-            Role::BoolNot => traits_of(1, 1, Effect::Same, Flow::Onward),
-            Role::Compare(_) => traits_of(1, 2, Effect::Down, Flow::Onward),
+            Role::LoadTrue | Role::LoadFalse => traits_of(1, 0, Effect::Up, Flow::Onward),
+            Role::Arithmetic(_) | Role::Logic(_) | Role::Compare(_) => traits_of(
+                1,
+                2,
+                Effect::Down,
+                Flow::Onward,
+            ),
+            Role::Neg | Role::BoolNot => traits_of(1, 1, Effect::Same, Flow::Onward),
             Role::Jmp => traits_of(3, 0, Effect::Same, Flow::Away),
             Role::JmpIfNot => traits_of(3, 1, Effect::Down, Flow::Either),
             Role::CmpBr => traits_of(8, 0, Effect::Same, Flow::Either),
@@ -297,14 +267,15 @@ impl Role {
     }
 }
 
+// A line for each role above, where a struct's literal would take six.
 fn traits_of(size: u8, needs: u8, effect: Effect, flow: Flow) -> Traits
     ensures { (result.size ≡ size) × (result.needs ≡ needs) × (result.effect ≡ effect) × (result.flow ≡ flow) }
 {
     Traits {
-        size: size,
-        needs: needs,
-        effect: effect,
-        flow: flow,
+        size,
+        needs,
+        effect,
+        flow,
     }
 }
 
@@ -312,7 +283,5 @@ fn traits_of(size: u8, needs: u8, effect: Effect, flow: Flow) -> Traits
 pub fn size_numbered(n: u8) -> usize
     ensures { result ≡ size (role_numbered n) }
 {
-    let role = Role::numbered(n);
-    let t = role.traits();
-    t.size as usize
+    usize::from(Role::numbered(n).traits().size)
 }

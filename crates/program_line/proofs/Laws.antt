@@ -3,62 +3,62 @@ use mathlib.Core.Path.{◌≡◌, refl, ap, sym, ◌∙◌}
 use mathlib.Core.Bool.{Bool, true, false}
 use mathlib.Core.Option.{Option, some, none}
 use mathlib.Core.List.{List, [], ◌∷◌, ◌++◌}
-use Prim.Native.Nat.{ℕ, suc, ◌+◌, ◌≤◌, ◌<◌}
+use Prim.Native.Nat.{ℕ, ◌+◌, ◌≤◌, ◌<◌}
 use native.Mathlib.Omega.{arith}
-use borrow.Author.Tests.{lt-ltb, le-ltb, ltb-true, leb-true, eqb-true, eqb-false, ne_eqb}
+use borrow.Author.Tests.{lt-ltb, ltb-true, ltb-false, leb-true, eqb-true, eqb-false, ne_eqb}
 use lib.Dec.{leb, ltb, eqb}
 use lib.ListN.{length, get_or, drop}
-use Rattle.definition.specs.Limits.{max_field, bad_form, bad_range, too_deep, wrong_lines}
+use Rattle.std.specs.Prelude.{Result, Ok, Err}
+use Rattle.std.proofs.Common.{Bor, inl, inr, ⊎_elim}
+use Rattle.definition.specs.Limits.{max_field, bad_form}
 use Rattle.definition.specs.Field as def
 use Rattle.definition.specs.Field.{comma, first_line, Field, up_to, below, value, Read, malformed, outside, field, natural, natural_within, within, Numbers, wrong, far, are, and_these, numbers}
 use Rattle.definition.specs.Tree.{pos_numbers}
-use Rattle.definition.specs.Program.{Form, Line, is, not, made, by_letter, line_of, line_at, pos_fields}
-use Rattle.field.specs.View.{separates, first_field, line_fields, line_end, Stops, Reads}
+use Rattle.definition.specs.Program.{Form, Line, not, made, by_letter, line_of, line_at, pos_fields}
+use Rattle.definition.specs.declared.Refusal.{Refusal}
+use Rattle.definition.specs.declared.Refusal.TheVariants.{BadForm, TooDeep, WrongLines}
+use Rattle.std.specs.Result.{result_unwrap_or}
+use Rattle.field.specs.declared.Fault.{Fault}
+use Rattle.field.specs.declared.Fault.TheVariants.{Malformed, Outside}
+use Rattle.field.specs.View.{read_of, separates, first_field, line_fields, line_end, Stops, Reads}
 use Rattle.field.proofs.Lists.{first-left}
 use Rattle.field.proofs.Parts.{until-first, Some, some-part, split-some}
-use Rattle.field.proofs.Fields.{read-stops, stop-inside, comma-fields, comma-line, last-field, last_line}
+use Rattle.field.proofs.Fields.{read-stops, comma-fields, comma-line, last-field, last_line}
 use Rattle.line_map.specs.declared.Pos.{Pos}
 use Rattle.line_map.specs.View.{pos_view}
+use Rattle.program_line.specs.declared.Next.{Next}
 use Rattle.program_line.specs.declared.Verdict.{Verdict}
 use Rattle.program_line.specs.declared.Verdict.TheVariants.{Good, Far, Wrong}
+use Rattle.program_line.specs.declared.Place.{Place}
+use Rattle.program_line.specs.declared.Place.TheVariants as place
 use Rattle.program_line.specs.declared.Scan.{Scan}
-use Rattle.program_line.specs.Scan.{rest_from, rest, end_from, ending, behind_if, behind, farther, worse, number_in, held, push, push_all, left, Bounded, Took, TookPos, Fresh, letter_of, behind_letter, Opened, refusal_if, refusal_at, end_of, Found, Faulty}
+use Rattle.program_line.specs.Scan.{rest_from, rest, end_from, ending, behind_if, behind, farther, worse, number_in, held, push, push_all, left, Bounded, Took, TookPos, Fresh, finished_by, finished, Found, Opened, Letterless, Fetched}
 
 -- ---- one field
 
 -- the fields from a place on: the one that ends here, and those behind it
-module _ {text : List ℕ} {at end stop : ℕ} (e : Stops text at end stop) (v : Verdict) where
-  field-and-rest : line_fields text at ≡ first_field (drop at text) ∷ rest text (behind end stop v)
-  unfolding behind_if rest_from
+module _ {text : List ℕ} {at end stop : ℕ} (e : Stops text at end stop) where
+  field-and-rest : line_fields text at ≡ first_field (drop at text) ∷ rest_from text (behind end stop)
+  unfolding behind_if
   field-and-rest = go (eqb stop comma) refl
     where
-      go : (b : Bool) → eqb stop comma ≡ b → line_fields text at ≡ first_field (drop at text) ∷ rest_from (behind_if b end v).more (behind_if b end v).at text
+      go : (b : Bool) → eqb stop comma ≡ b → line_fields text at ≡ first_field (drop at text) ∷ rest_from text (behind_if b end)
       go true h = comma-fields e (eqb-true _ _ h)
       go false h = last-field e (eqb-false _ _ h)
 
-  line-behind : line_end text at ≡ ending text (behind end stop v)
-  unfolding behind_if end_from
+  line-behind : line_end text at ≡ end_from text (behind end stop)
+  unfolding behind_if
   line-behind = go (eqb stop comma) refl
     where
-      go : (b : Bool) → eqb stop comma ≡ b → line_end text at ≡ end_from (behind_if b end v).more (behind_if b end v).at text
+      go : (b : Bool) → eqb stop comma ≡ b → line_end text at ≡ end_from text (behind_if b end)
       go true h = comma-line e (eqb-true _ _ h)
       go false h = last_line e (eqb-false _ _ h)
 
-  behind-within : at ≤ length text → (behind end stop v).at ≤ length text
-  unfolding behind_if
-  behind-within low = go (eqb stop comma) refl
-    where
-      go : (b : Bool) → eqb stop comma ≡ b → (behind_if b end v).at ≤ length text
-      go true h = omega (arith, stop-inside e (λ z. omega (arith, eqb-true stop comma h)))
-      go false h = omega (arith, e.ends.high)
-
-behind-verdict : (end stop : ℕ) (v : Verdict) → (behind end stop v).verdict ≡ v
-unfolding behind_if
-behind-verdict end stop v = go (eqb stop comma)
-  where
-    go : (b : Bool) → (behind_if b end v).verdict ≡ v
-    go true = refl
-    go false = refl
+pub unwrapped : (r : Result ℕ Fault) → result_unwrap_or r 0 ≡ number_in (read_of r)
+unfolding number_in
+unwrapped (Ok n) = refl
+unwrapped (Err Malformed) = refl
+unwrapped (Err Outside) = refl
 
 -- what one number does to those behind it
 held-these : (v : Verdict) (r : Read) (x : Numbers) → held v (and_these r x) ≡ push (number_in r) (held (worse v r) x)
@@ -107,121 +107,80 @@ zero-bounded (up_to m) = omega arith
 zero-bounded (below m) = omega arith
 zero-bounded (value w) = tt
 
-module _ {text : List ℕ} {s : Scan} (f : Field) (low : s.at ≤ length text) where
-  pub took : {end stop : ℕ} (r : Read) → Reads f text s.at r end stop → s.more ≡ true → Took f text s (number_in r) (behind end stop (worse s.verdict r))
-  unfolding rest_from end_from numbers
-  took {end} {stop} r e more =
-      let v = worse s.verdict r in
-      record {
-        is = λ fs. rw (more, field-and-rest (read-stops e) v, ← e.holds, held-these, behind-verdict end stop v);
-        within = behind-within (read-stops e) v low;
-        bound = rw e.holds (bounded f _);
-        line = rw more (line-behind (read-stops e) v);
-      }
+module _ {s : Scan} (f : Field) where
+  pub took : {at end stop : ℕ} (r : Read) → s.place ≡ place.Field at → Reads f s.text.now at r end stop → Took f s (number_in r) (record { text = s.text; place = behind end stop; verdict = worse s.verdict r })
+  unfolding numbers
+  took r here e = record {
+    is = λ fs. rw (here, field-and-rest (read-stops e), ← e.holds, held-these);
+    bound = rw e.holds (bounded f _);
+    line = rw here (line-behind (read-stops e));
+  }
 
-  pub took-none : s.more ≡ false → Took f text s 0 (record { at = s.at; more = false; verdict = Wrong })
-  unfolding rest_from end_from numbers held push
-  took-none more = record { is = λ fs. rw (more, held-wrong); within = low; bound = zero-bounded f; line = rw more }
+  pub took-none : {at : ℕ} → s.place ≡ place.End at → Took f s 0 (record { text = s.text; place = s.place; verdict = Wrong })
+  unfolding numbers held push
+  took-none here = record { is = λ fs. rw (here, held-wrong); bound = zero-bounded f; line = refl }
 
-pub took-position : {text : List ℕ} {s t u : Scan} {p : Pos} → Took (up_to max_field) text s p.line t → Took (up_to max_field) text t p.column u → TookPos text s p u
+pub took-position : {s t u : Scan} {p : Pos} → Took (up_to max_field) s p.line t → Took (up_to max_field) t p.column u → TookPos s p u
 unfolding pos_fields pos_numbers push_all
-took-position {p = p} a b = record { is = λ fs. a.is _ ∙ ap (push p.line) (b.is fs); within = b.within; line = a.line ∙ b.line }
+took-position {p = p} a b = record { is = λ fs. a.is _ ∙ ap (push p.line) (b.is fs); line = a.line ∙ b.line }
 
 -- ---- a line
 
-unfoldable pub refused : Numbers → ℕ
-refused wrong = bad_form
-refused far = bad_range
-refused (are ns) = 0
+-- the numbers of fields that were read one after the other, and the place behind them
+pub record Ran (fs : List Field) (s : Scan) (ns : List ℕ) (t : Scan) : Type 0 where
+  pub is : left fs s ≡ push_all ns (left [] t)
+  pub line : ending s ≡ ending t
 
--- a line's numbers from a place on, by their fields, and its end, where its refusal is r, 0 if it has none
-pub record Ended (text : List ℕ) (fs : List Field) (s : Scan) (r : ℕ) (ns : List ℕ) (end : ℕ) : Type 0 where
-  pub good : r ≡ 0 → left text fs s ≡ are ns
-  pub bad : (r ≡ 0 → ⊥) → refused (left text fs s) ≡ r
-  pub line : r ≡ 0 → end ≡ ending text s
+pub ran-none : {s : Scan} → Ran [] s [] s
+unfolding push_all
+ran-none = record { is = refl; line = refl }
+
+module _ {s t u : Scan} {fs : List Field} {ns : List ℕ} where
+  pub ran-number : {f : Field} {n : ℕ} → Took f s n t → Ran fs t ns u → Ran (f ∷ fs) s (n ∷ ns) u
+  unfolding push_all
+  ran-number {n = n} a r = record { is = a.is fs ∙ ap (push n) r.is; line = a.line ∙ r.line }
+
+  pub ran-position : {p : Pos} → TookPos s p t → Ran fs t ns u → Ran (pos_fields ++ fs) s (pos_numbers (pos_view p) ++ ns) u
+  unfolding push_all pos_numbers
+  ran-position {p = p} a r = record { is = a.is fs ∙ ap (push_all (pos_numbers (pos_view p))) r.is; line = a.line ∙ r.line }
 
 numbers-over : {xs : List (List ℕ)} → Some xs → numbers [] xs ≡ wrong
 unfolding numbers
 numbers-over some-part = refl
 
-ended_at : (text : List ℕ) (at : ℕ) (more : Bool) (v : Verdict) → Ended text [] (record { at = at; more = more; verdict = v }) (refusal_if more v) [] at
-unfolding held numbers rest_from end_from refusal_if refused
-ended_at text at true v = record { good = λ h. absurd (omega arith); bad = λ h. rw (numbers-over (split-some comma (first_line (drop at text))), held-wrong v); line = λ h. absurd (omega arith) }
-ended_at text at false Good = record { good = λ h. refl; bad = λ h. absurd (h refl); line = λ h. refl }
-ended_at text at false Far = record { good = λ h. absurd (omega arith); bad = λ h. refl; line = λ h. absurd (omega arith) }
-ended_at text at false Wrong = record { good = λ h. absurd (omega arith); bad = λ h. refl; line = λ h. absurd (omega arith) }
-
-pub ended : {text : List ℕ} {s : Scan} {r : ℕ} → r ≡ refusal_at s → Ended text [] s r [] s.at
-ended {text} {s} e = rw e (ended_at text s.at s.more s.verdict)
-
-refused-push : (n : ℕ) (x : Numbers) → refused (push n x) ≡ refused x
-unfolding refused push
-refused-push n wrong = refl
-refused-push n far = refl
-refused-push n (are ns) = refl
-
-refused_all : (ns : List ℕ) (x : Numbers) → refused (push_all ns x) ≡ refused x
-unfolding push_all
-refused_all [] x = refl
-refused_all (n ∷ ns) x = refused-push n (push_all ns x) ∙ refused_all ns x
-
-push-all : (ms ns : List ℕ) → push_all ms (are ns) ≡ are (ms ++ ns)
+push-wrong : (ns : List ℕ) → push_all ns wrong ≡ wrong
 unfolding push_all push
-push-all [] ns = refl
-push-all (m ∷ ms) ns = rw (push-all ms ns)
+push-wrong [] = refl
+push-wrong (n ∷ ns) = rw (push-wrong ns)
 
-module _ {text : List ℕ} {s t : Scan} {r end : ℕ} {fs : List Field} {ns : List ℕ} where
-  pub ended-number : {f : Field} {n : ℕ} → Took f text s n t → Ended text fs t r ns end → Ended text (f ∷ fs) s r (n ∷ ns) end
-  unfolding push
-  ended-number {n = n} a e = record { good = λ h. rw (a.is fs, e.good h); bad = λ h. rw (a.is fs, refused-push) (e.bad h); line = λ h. e.line h ∙ sym a.line }
+push-far : (ns : List ℕ) → push_all ns far ≡ far
+unfolding push_all push
+push-far [] = refl
+push-far (n ∷ ns) = rw (push-far ns)
 
-  pub ended-position : {p : Pos} → TookPos text s p t → Ended text fs t r ns end → Ended text (pos_fields ++ fs) s r (pos_numbers (pos_view p) ++ ns) end
-  ended-position {p = p} a e = record { good = λ h. rw (a.is fs, e.good h) (push-all (pos_numbers (pos_view p)) ns); bad = λ h. rw (a.is fs, refused_all (pos_numbers (pos_view p))) (e.bad h); line = λ h. e.line h ∙ sym a.line }
+push-all : (ns : List ℕ) → push_all ns (are []) ≡ are ns
+unfolding push_all push
+push-all [] = refl
+push-all (n ∷ ns) = rw (push-all ns)
 
 -- what a letter makes of the numbers of its fields
 pub record Fits {L : Type 0} (forms : List (Form L)) (letter : ℕ) (fields : List Field) (make : List ℕ → L) : Type 0 where
   pub is : (fs : List (List ℕ)) → by_letter forms letter fs ≡ made make (numbers fields fs)
 
-faulty : {L : Type 0} {line x : Line L} {end n stop : ℕ} → Faulty line end n → not n ≡ x → Found line end x stop
-unfolding end_of
-faulty f e = record { is = f.is ∙ e; ends = rw f.is f.ends }
+module _ {T L : Type 0} (of : T → L) where
+  finished_at : (make : List ℕ → L) (ns : List ℕ) (text : List ℕ) (p : Place) (v : Verdict) (l : T) → of l ≡ make ns → Found of (finished_by p v l) (made make (push_all ns (held v (numbers [] (rest_from text p))))) (end_from text p)
+  unfolding finished_by made held numbers
+  finished_at make ns text (place.Field at) v l e = record { is = rw (numbers-over (split-some comma (first_line (drop at text))), held-wrong v, push-wrong ns); ends = tt }
+  finished_at make ns text (place.End at) Good l e = record { is = rw (push-all ns, e); ends = refl }
+  finished_at make ns text (place.End at) Far l e = record { is = rw (push-far ns); ends = tt }
+  finished_at make ns text (place.End at) Wrong l e = record { is = rw (push-wrong ns); ends = tt }
 
--- where a line that is not at fault ends
-pub good-end : {L : Type 0} {line x : Line L} {end stop : ℕ} (l : L) → Found line end x stop → line ≡ is l → end ≡ stop
-unfolding end_of
-good-end l f e = f.ends ∙ rw e
+  found-at : {r : Result (Next T) Refusal} {x y : Line L} {n m : ℕ} → x ≡ y → n ≡ m → Found of r x n → Found of r y m
+  found-at e h f = rw (← e, ← h) f
 
-made-bad : {L : Type 0} (make : List ℕ → L) (x : Numbers) (r : ℕ) → refused x ≡ r → (r ≡ 0 → ⊥) → not r ≡ made make x
-unfolding made refused
-made-bad make wrong r e h = rw e
-made-bad make far r e h = rw e
-made-bad make (are ns) r e h = absurd (h (sym e))
-
-module _ {L : Type 0} (forms : List (Form L)) (letter : ℕ) {fields : List Field} {make : List ℕ → L}
-    {text : List ℕ} {s : Scan} (fresh : Fresh text s) {r end : ℕ} {ns : List ℕ} (e : Ended text fields s r ns end) (fit : Fits forms letter fields make) where
-  made_of : made make (left text fields s) ≡ by_letter forms letter (rest text s)
+  pub line-found : (forms : List (Form L)) (letter : ℕ) {fields : List Field} {make : List ℕ → L} {s t : Scan} {ns : List ℕ} → Fresh s → Ran fields s ns t → Fits forms letter fields make → (l : T) → of l ≡ make ns → Found of (finished t l) (by_letter forms letter (rest s)) (ending s)
   unfolding held
-  made_of = rw fresh.good (sym (fit.is _))
-
-  pub bad-line : (r ≡ 0 → ⊥) → {line : Line L} {at : ℕ} → Faulty line at r → Found line at (by_letter forms letter (rest text s)) (ending text s)
-  bad-line h x = faulty x (made-bad make _ r (e.bad h) h ∙ made_of)
-
-  pub good-line : r ≡ 0 → Found (is (make ns)) end (by_letter forms letter (rest text s)) (ending text s)
-  unfolding made end_of
-  good-line h = record { is = sym (ap (made make) (e.good h)) ∙ made_of; ends = e.line h }
-
--- ---- the text at a place
-
--- no letter is 0
-pub record Lettered {L : Type 0} (forms : List (Form L)) : Type 0 where
-  pub none : (fs : List (List ℕ)) → by_letter forms 0 fs ≡ not bad_form
-
-line-by : {L : Type 0} {forms : List (Form L)} → Lettered forms → (fs : List (List ℕ)) → line_of forms fs ≡ by_letter forms (letter_of fs) (behind_letter fs)
-unfolding line_of letter_of behind_letter
-line-by h [] = sym (h.none [])
-line-by h ([] ∷ fs) = sym (h.none fs)
-line-by h ((b ∷ []) ∷ fs) = refl
-line-by h ((b ∷ c ∷ bs) ∷ fs) = sym (h.none fs)
+  line-found forms letter {fields} {make} {s} {t} {ns} fresh ran fit l e = found-at (ap (made make) (sym ran.is) ∙ rw fresh (sym (fit.is _))) (sym ran.line) (finished_at make ns t.text.now t.place t.verdict l e)
 
 -- a byte that is no letter of theirs
 abbrev pub Differ : {L : Type 0} → List (Form L) → ℕ → Type 0
@@ -233,64 +192,74 @@ unfolding by_letter
 differ [] b h fs = refl
 differ (x ∷ xs) b h fs = rw (by_letter, ne_eqb x.letter b (λ e. h.0 (sym e))) (differ xs b h.1 fs)
 
-module _ {L : Type 0} where
-  module _ (forms : List (Form L)) (h : Lettered forms) {text : List ℕ} {at b : ℕ} {s : Scan} (o : Opened text at b s) where
-    by : (k : ℕ) → b ≡ k → by_letter forms k (rest text s) ≡ line_of forms (line_fields text at)
-    by k e = rw (← e, o.is, o.others) (sym (line-by h (line_fields text at)))
+pub no-letter : {T L : Type 0} (of : T → L) (forms : List (Form L)) (b : ℕ) → Differ forms b → (fs : List (List ℕ)) (stop : ℕ) → Found of (Err BadForm) (by_letter forms b fs) stop
+no-letter of forms b d fs stop = record { is = sym (differ forms b d fs); ends = tt }
 
-    pub by-letter : (k : ℕ) → b ≡ k → {line : Line L} {end : ℕ} → Found line end (by_letter forms k (rest text s)) (ending text s) → Found line end (line_of forms (line_fields text at)) (line_end text at)
-    by-letter k e f = record { is = f.is ∙ by k e; ends = rw o.line f.ends }
+-- ---- the text at a place
 
-    pub no-letter : Differ forms b → {line : Line L} {end : ℕ} → Faulty line end bad_form → Found line end (line_of forms (line_fields text at)) (line_end text at)
-    no-letter d f = faulty f (sym (differ forms b d (rest text s)) ∙ by b refl)
+letter-one : (bs : List ℕ) → length bs ≡ 1 → bs ≡ get_or bs 0 0 ∷ []
+letter-one [] h = absurd (omega arith)
+letter-one (b ∷ []) h = refl
+letter-one (b ∷ c ∷ bs) h = absurd (omega arith)
 
-  module _ (forms : List (Form L)) (depth : ℕ) (text : List ℕ) (at : ℕ) {line : Line L} {end stop : ℕ} where
-    pub line-missing : length text ≤ at → Faulty line end wrong_lines → Found line end (line_at forms depth text at) stop
-    unfolding line_at
-    line-missing h f = faulty f (rw (line_at, le-ltb _ _ h))
+letter-none : (bs : List ℕ) (fs : List (List ℕ)) → (length bs ≡ 1 → ⊥) → Letterless (bs ∷ fs)
+letter-none [] fs h = tt
+letter-none (b ∷ []) fs h = h refl
+letter-none (b ∷ c ∷ bs) fs h = tt
 
-    pub line-deep : at < length text → depth ≡ 0 → Faulty line end too_deep → Found line end (line_at forms depth text at) stop
-    unfolding line_at
-    line-deep h z f = faulty f (rw (line_at, lt-ltb _ _ h, z))
-
-    pub line-there : at < length text → (depth ≡ 0 → ⊥) → Found line end (line_of forms (line_fields text at)) stop → Found line end (line_at forms depth text at) stop
-    unfolding line_at
-    line-there h d f = record { is = f.is ∙ rw (line_at, lt-ltb _ _ h, ne_eqb _ _ d); ends = f.ends }
-
--- ---- the letter itself
-letter-one : (bs : List ℕ) (fs : List (List ℕ)) → length bs ≡ 1 → get_or bs 0 0 ≡ letter_of (bs ∷ fs)
-unfolding letter_of
-letter-one [] fs h = refl
-letter-one (b ∷ []) fs h = refl
-letter-one (b ∷ c ∷ bs) fs h = absurd (omega arith)
-
-letter-none : (bs : List ℕ) (fs : List (List ℕ)) → (length bs ≡ 1 → ⊥) → 0 ≡ letter_of (bs ∷ fs)
-unfolding letter_of
-letter-none [] fs h = refl
-letter-none (b ∷ []) fs h = absurd (h refl)
-letter-none (b ∷ c ∷ bs) fs h = refl
-
-module _ {text : List ℕ} {at end stop : ℕ} (low : at ≤ length text) (e : Stops text at end stop) where
-  opened : (b : ℕ) → b ≡ letter_of (first_field (drop at text) ∷ rest text (behind end stop Good)) → Opened text at b (behind end stop Good)
-  unfolding behind_letter
-  opened b h = record {
-    is = rw (field-and-rest e Good) h;
-    others = rw (field-and-rest e Good);
-    fresh = record { good = behind-verdict end stop Good; within = behind-within e Good low };
-    line = line-behind e Good;
-  }
-
-  pub opened_one : end ≡ at + 1 → Opened text at (get_or text at 0) (behind end stop Good)
-  opened_one h =
+module _ {text : List ℕ} {at end stop : ℕ} (e : Stops text at end stop) where
+  pub opened : end ≡ at + 1 → (p : Bor (List ℕ)) → p.now ≡ text → Opened text at (get_or text at 0) (record { text = p; place = behind end stop; verdict = Good })
+  opened h p same =
       let one : length (first_field (drop at text)) ≡ 1 = omega (arith, e.ends.is) in
-      opened _ (sym (first-left at text 0) ∙ sym (until-first separates (drop at text) (omega arith)) ∙ letter-one _ _ one)
+      let first : get_or (first_field (drop at text)) 0 0 ≡ get_or text at 0 = until-first separates (drop at text) (omega arith) ∙ first-left at text 0 in
+      record {
+        is = rw (same, field-and-rest e) (ap (λ x. x ∷ rest_from text (behind end stop)) (rw (← first) (letter-one _ one)));
+        fresh = refl;
+        line = rw same (line-behind e);
+      }
 
-  pub opened-none : (end ≡ at + 1 → ⊥) → Opened text at 0 (behind end stop Good)
-  opened-none h = opened _ (letter-none _ _ (λ one. h (omega (arith, e.ends.is))))
+  pub letterless : (end ≡ at + 1 → ⊥) → Letterless (line_fields text at)
+  letterless h = rw (field-and-rest e) (letter-none _ _ (λ one. h (omega (arith, e.ends.is))))
 
--- ---- a number that is none of those before it
-pub none-past : (n : ℕ) → 0 ≤ n
-none-past n = omega arith
+module _ {T : Type 0} {by : ℕ → Scan → Result (Next T) Refusal → Type 0} {depth at : ℕ} {text : List ℕ} where
+  pub fetched-missing : length text ≤ at → Fetched by depth text at (Err WrongLines)
+  fetched-missing h = record { missing = λ _. refl; deep = λ low _. absurd (omega arith); there = λ low _. absurd (omega arith) }
 
-pub past : {k n : ℕ} → k ≤ n → (n ≡ k → ⊥) → suc k ≤ n
-past low h = omega arith
+  pub fetched-deep : at < length text → depth ≡ 0 → Fetched by depth text at (Err TooDeep)
+  fetched-deep h z = record { missing = λ high. absurd (omega arith); deep = λ _ _. refl; there = λ _ d. absurd (d z) }
+
+  pub fetched-none : at < length text → (depth ≡ 0 → ⊥) → Letterless (line_fields text at) → Fetched by depth text at (Err BadForm)
+  fetched-none h d n = record { missing = λ high. absurd (omega arith); deep = λ _ z. absurd (d z); there = λ _ _. inl (n, refl) }
+
+  pub fetched-by : at < length text → (depth ≡ 0 → ⊥) → {r : Result (Next T) Refusal} (b : ℕ) (s : Scan) → Opened text at b s → by b s r → Fetched by depth text at r
+  fetched-by h d b s o p = record { missing = λ high. absurd (omega arith); deep = λ _ z. absurd (d z); there = λ _ _. inr (b, s, o, p) }
+
+line-none : {L : Type 0} (forms : List (Form L)) (fs : List (List ℕ)) → Letterless fs → line_of forms fs ≡ not bad_form
+unfolding line_of
+line-none forms [] h = refl
+line-none forms ([] ∷ fs) h = refl
+line-none forms ((b ∷ []) ∷ fs) h = absurd h
+line-none forms ((b ∷ c ∷ bs) ∷ fs) h = refl
+
+module _ {T L : Type 0} (of : T → L) (forms : List (Form L)) {at : ℕ} {r : Result (Next T) Refusal} where
+  there-found : (depth : ℕ) (text : List ℕ) → at < length text → (depth ≡ 0 → ⊥) → Found of r (line_of forms (line_fields text at)) (line_end text at) → Found of r (line_at forms depth text at) (line_end text at)
+  unfolding line_at
+  there-found depth text h d f = record { is = f.is ∙ rw (line_at, lt-ltb _ _ h, ne_eqb _ _ d); ends = f.ends }
+
+  opened-found : {text : List ℕ} {b : ℕ} {s : Scan} → Opened text at b s → Found of r (by_letter forms b (rest s)) (ending s) → Found of r (line_of forms (line_fields text at)) (line_end text at)
+  unfolding line_of
+  opened-found o f = rw (o.is, o.line) f
+
+module _ {T L : Type 0} (of : T → L) (forms : List (Form L)) {by : ℕ → Scan → Result (Next T) Refusal → Type 0} {depth at : ℕ} {text : List ℕ} {r : Result (Next T) Refusal} where
+  -- a line that `by` reads by its letter is the one at this place
+  pub line-fetched : Fetched by depth text at r → ((b : ℕ) (s : Scan) → Fresh s → by b s r → Found of r (by_letter forms b (rest s)) (ending s)) → Found of r (line_at forms depth text at) (line_end text at)
+  unfolding line_at
+  line-fetched f read = go (ltb at (length text)) (eqb depth 0) refl refl
+    where
+      some-level : at < length text → (depth ≡ 0 → ⊥) → Found of r (line_at forms depth text at) (line_end text at)
+      some-level h d = there-found of forms depth text h d (⊎_elim (λ n. rw n.1 (record { is = sym (line-none forms _ n.0); ends = tt })) (λ o. opened-found of forms o.2 (read o.0 o.1 o.2.fresh o.3)) (f.there h d))
+
+      go : (x y : Bool) → ltb at (length text) ≡ x → eqb depth 0 ≡ y → Found of r (line_at forms depth text at) (line_end text at)
+      go false y h z = let high : length text ≤ at = ltb-false _ _ h in rw (f.missing high) (record { is = rw (line_at, h); ends = tt })
+      go true true h z = let low : at < length text = ltb-true _ _ h in rw (f.deep low (eqb-true _ _ z)) (record { is = rw (line_at, h, z); ends = tt })
+      go true false h z = some-level (ltb-true _ _ h) (eqb-false _ _ z)

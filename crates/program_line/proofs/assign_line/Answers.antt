@@ -1,12 +1,9 @@
 use mathlib.Core.Path.{refl}
 use Rattle.definition.specs.Program.{stmt_forms, open-Program}
-use Rattle.program_line.proofs.Laws.{bad-line, good-line, ended, ended-number, ended-position}
+use Rattle.program_line.specs.View.{stmt_line}
+use Rattle.program_line.proofs.Laws.{line-found, ran-none, ran-number, ran-position}
 use Rattle.program_line.proofs.assign_line.Goals as goal
-
-pub returns-then-bad-ne0 : goal.returns-then-bad-ne0
-unfolding open-Program
-returns-then-bad-ne0 c = bad-line (stmt_forms c.args.variables) 0x41 c.requires (ended-position c.position-p.ensures (ended-number c.index-v.ensures (ended c.refusal-bad.ensures))) (record { is = λ fs. refl }) c.if-bad-ne0.true c.bad_stmt.ensures
 
 pub returns : goal.returns
 unfolding open-Program
-returns c = good-line (stmt_forms c.args.variables) 0x41 c.requires (ended-position c.position-p.ensures (ended-number c.index-v.ensures (ended c.refusal-bad.ensures))) (record { is = λ fs. refl }) c.if-bad-ne0.false
+returns c = rw c.finish.ensures (line-found stmt_line (stmt_forms c.args.variables) 0x41 c.requires (ran-position c.position-pos.ensures (ran-number c.index-variable.ensures ran-none)) (record { is = λ fs. refl }) _ refl)

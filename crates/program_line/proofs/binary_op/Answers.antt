@@ -1,33 +1,9 @@
 use mathlib.Core.Path.{sym}
-use lib.ListN.{get_or-eq_default}
-use Rattle.program_line.proofs.Laws.{none-past, past}
-use Rattle.definition.specs.Opcode.{Add, Arithmetic, binary_ops}
-use borrow.Author.Rules.{rules}
+use Rattle.std.proofs.lemmas.List.{get_or-map}
+use Rattle.definition.specs.Opcode.{Add, Arithmetic}
+use Rattle.opcode.specs.View.{binary_view}
+use Rattle.program_line.specs.declared.TheConstants.{BINARY_OPS}
 use Rattle.program_line.proofs.binary_op.Goals as goal
 
-pub returns-in-0 : goal.returns-in-0
-returns-in-0 c = rw c.in-0.is
-
-pub returns-in-1 : goal.returns-in-1
-returns-in-1 c = rw c.in-1.is
-
-pub returns-in-2 : goal.returns-in-2
-returns-in-2 c = rw c.in-2.is
-
-pub returns-in-3 : goal.returns-in-3
-returns-in-3 c = rw c.in-3.is
-
-pub returns-in-4 : goal.returns-in-4
-returns-in-4 c = rw c.in-4.is
-
-pub returns-in-5 : goal.returns-in-5
-returns-in-5 c = rw c.in-5.is
-
-pub returns-in-6 : goal.returns-in-6
-returns-in-6 c = rw c.in-6.is
-
-pub returns-in-7 : goal.returns-in-7
-returns-in-7 c = rw c.in-7.is
-
-pub returns-in_default : goal.returns-in_default
-returns-in_default c = sym (get_or-eq_default binary_ops (Arithmetic Add) (past (past (past (past (past (past (past (past (none-past c.args.n) (search rules)) (search rules)) (search rules)) (search rules)) (search rules)) (search rules)) (search rules)) (search rules)))
+pub returns : goal.returns
+returns c = rw c.from.ensures (sym (get_or-map binary_view BINARY_OPS _ _ (Arithmetic Add) c.requires))

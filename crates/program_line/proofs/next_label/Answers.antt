@@ -1,12 +1,8 @@
-use Rattle.program_line.proofs.Laws.{line-missing, line-deep, line-there}
+use Rattle.definition.specs.Program.{label_forms}
+use Rattle.program_line.specs.View.{label_line}
+use Rattle.program_line.proofs.Laws.{line-fetched}
 use borrow.Author.Rules.{rules}
 use Rattle.program_line.proofs.next_label.Goals as goal
 
-pub returns-then-at-text : goal.returns-then-at-text
-returns-then-at-text c = line-missing _ _ _ _ (search rules) c.bad_label.ensures
-
-pub returns-then-left-eq0 : goal.returns-then-left-eq0
-returns-then-left-eq0 c = line-deep _ _ _ _ (search rules) (search rules) c.bad_label-then-left-eq0.ensures
-
 pub returns : goal.returns
-returns c = line-there _ _ _ _ (search rules) (search rules) c.label_of.ensures
+returns c = line-fetched label_line label_forms c.next_by.ensures (λ b s h p. search rules)

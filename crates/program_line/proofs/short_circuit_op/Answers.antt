@@ -1,10 +1,9 @@
 use mathlib.Core.Path.{sym}
-use mathlib.Core.List.{[], ◌∷◌}
-use lib.ListN.{get_or-eq_default}
-use Rattle.program_line.proofs.Laws.{none-past, past}
-use Rattle.definition.specs.Opcode.{AndThen, OrElse}
-use borrow.Author.Rules.{rules}
+use Rattle.std.proofs.lemmas.List.{get_or-map}
+use Rattle.definition.specs.Opcode.{AndThen}
+use Rattle.opcode.specs.View.{short_circuit_view}
+use Rattle.program_line.specs.declared.TheConstants.{SHORT_CIRCUIT_OPS}
 use Rattle.program_line.proofs.short_circuit_op.Goals as goal
 
-pub returns-in_default : goal.returns-in_default
-returns-in_default c = sym (get_or-eq_default (AndThen ∷ OrElse ∷ []) AndThen (past (past (none-past c.args.n) (search rules)) (search rules)))
+pub returns : goal.returns
+returns c = rw c.from.ensures (sym (get_or-map short_circuit_view SHORT_CIRCUIT_OPS _ _ AndThen c.requires))

@@ -1,22 +1,22 @@
-use mathlib.Core.Path.{refl, ap, ◌∙◌}
-use mathlib.Core.Option.{some}
+use Rattle.emit.proofs.Steps.{none-is, some-is}
+use mathlib.Core.Path.{refl}
 use mathlib.Core.List.{[], ◌∷◌}
 use native.Mathlib.Omega.{arith}
 use Rattle.emit.proofs.Labels.{bind-stays, bind-nowhere, bind_goes, bound-label}
 use borrow.Author.Rules.{rules}
 use Rattle.emit.proofs.Emitter.bind_label.Goals as goal
+use Rattle.emit.proofs.Emitter.bind_label.Goals.{then-n-self, else-n-self}
 
-pub returns-then-self-ne0 : goal.returns-then-self-ne0
-returns-then-self-ne0 c = bind-stays (search rules) (search rules) c.if-self-ne0.true
-
-pub returns-then-n-self : goal.returns-then-n-self
-returns-then-n-self c = bind-nowhere c.requires.fine c.told-book c.wide-n.ensures c.with.ensures c.if-self-ne0.false c.if-n-self.true
-
-pub narrow-place-requires : goal.narrow-place-requires
-narrow-place-requires c = omega (arith, c.requires.fine.size)
+pub returns-then-is_some : goal.returns-then-is_some
+returns-then-is_some c = bind-stays (search rules) (search rules) (some-is _ c.is_some.ensures c.if-is_some.true)
 
 pub put_label-requires : goal.put_label-requires
 put_label-requires c = record { n_lt_max_labels = omega (arith, c.requires.fine.labels) }
 
 pub returns : goal.returns
-returns c = bind_goes c.requires.fine c.told-book (1 ∷ c.narrow-place.result ∷ []) refl (bound-label _ ∙ ap some c.narrow-place.ensures) c.with-2.ensures c.if-self-ne0.false c.wide-n.ensures c.if-n-self.false c.put_label.ensures
+returns c =
+    let on = none-is _ c.is_some.ensures c.if-is_some.false in
+    elim c.if-n-self.branch [
+      | then-n-self w ↦ rw w.book-is (bind_goes c.requires.fine c.told-book (1 ∷ c.args.self.size ∷ []) refl (bound-label _) refl on c.from-n.ensures w.if-n-self.true w.put_label.ensures)
+      | else-n-self w ↦ rw w.book-is (bind-nowhere c.requires.fine c.told-book c.from-n.ensures refl on w.if-n-self.false)
+    ]

@@ -1,18 +1,15 @@
+use Rattle.emit.proofs.Steps.{none-is, some-is}
 use mathlib.Core.Path.{refl}
 use mathlib.Core.List.{[], ◌∷◌}
-use native.Mathlib.Omega.{arith}
 use Rattle.emit.proofs.Labels.{create-stays, create-full, create-goes, free-label}
 use borrow.Author.Rules.{rules}
 use Rattle.emit.proofs.Emitter.create_label.Goals as goal
 
-pub narrow-requires : goal.narrow-requires
-narrow-requires c = omega (arith, c.requires.fine.labels)
-
-pub returns-then-self-ne0 : goal.returns-then-self-ne0
-returns-then-self-ne0 c = create-stays (search rules) (search rules) c.narrow.ensures c.if-self-ne0.true
+pub returns-then-is_some : goal.returns-then-is_some
+returns-then-is_some c = create-stays (search rules) (search rules) refl (some-is _ c.is_some.ensures c.if-is_some.true)
 
 pub returns-then-n-ge-MAX_LABELS : goal.returns-then-n-ge-MAX_LABELS
-returns-then-n-ge-MAX_LABELS c = create-full c.requires.fine c.told-book c.narrow.ensures c.if-n-ge-MAX_LABELS.true c.refuse.ensures
+returns-then-n-ge-MAX_LABELS c = create-full c.requires.fine c.told-book refl c.if-n-ge-MAX_LABELS.true c.refuse.ensures
 
 pub returns : goal.returns
-returns c = create-goes c.requires.fine c.told-book (0 ∷ 0 ∷ []) refl free-label c.narrow.ensures c.if-self-ne0.false c.if-n-ge-MAX_LABELS.false c.put_label.ensures
+returns c = create-goes c.requires.fine c.told-book (0 ∷ 0 ∷ []) refl free-label refl (none-is _ c.is_some.ensures c.if-is_some.false) c.if-n-ge-MAX_LABELS.false c.put_label.ensures

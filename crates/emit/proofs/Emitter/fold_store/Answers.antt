@@ -1,10 +1,11 @@
+use Rattle.emit.proofs.Steps.{none-is, some-is}
 use native.Mathlib.Omega.{arith}
 use Rattle.emit.proofs.Loads.{fold_stays, fold-full, fold-goes}
 use borrow.Author.Rules.{rules}
 use Rattle.emit.proofs.Emitter.fold_store.Goals as goal
 
-pub returns-then-self-ne0 : goal.returns-then-self-ne0
-returns-then-self-ne0 c = fold_stays _ (search rules) (search rules) c.if-self-ne0.true
+pub returns-then-is_some : goal.returns-then-is_some
+returns-then-is_some c = fold_stays _ (search rules) (search rules) (some-is _ c.is_some.ensures c.if-is_some.true)
 
 pub returns-then-self-ge-MAX_CODE : goal.returns-then-self-ge-MAX_CODE
 returns-then-self-ge-MAX_CODE c = fold-full _ c.requires.fine c.requires.code_len c.if-self-ge-MAX_CODE.true c.refuse.ensures
@@ -22,4 +23,4 @@ pub overflow_add-self-3 : goal.overflow_add-self-3
 overflow_add-self-3 c = omega (arith, c.requires.fine.depth, c.requires.fine.size)
 
 pub returns : goal.returns
-returns c = fold-goes _ c.requires.fine c.requires.code_len c.opcode_of-opcode.ensures c.greatest-deepest.ensures c.if-self-ne0.false c.if-self-ge-MAX_CODE.false c.requires.le_size c.insert_before_three.ensures c.with.ensures
+returns c = fold-goes _ c.requires.fine c.requires.code_len c.opcode_of-opcode.ensures c.max-deepest.ensures (none-is _ c.is_some.ensures c.if-is_some.false) c.if-self-ge-MAX_CODE.false c.requires.le_size c.insert_before_three.ensures c.with.ensures

@@ -9,4 +9,4 @@ overflow_cast-self c = omega (arith, c.requires.fine.depth, c.requires.fine.size
 
 pub returns : goal.returns
 unfolding effect
-returns c = record { fine_2 = (grows _ _ _ c.requires.fine (search rules) (search rules) (search rules) c.traits-traits.ensures.effect c.shift-depth.ensures c.greatest-deepest.ensures c.with.ensures).0; value = (grows _ _ _ c.requires.fine (search rules) (search rules) (search rules) c.traits-traits.ensures.effect c.shift-depth.ensures c.greatest-deepest.ensures c.with.ensures).1 }
+returns c = record { fine_2 = (grows _ _ _ c.requires.fine (search rules) (search rules) (search rules) c.traits.ensures.effect c.shift-depth.ensures c.max-deepest.ensures c.with.ensures).0; value = (grows _ _ _ c.requires.fine (search rules) (search rules) (search rules) c.traits.ensures.effect c.shift-depth.ensures c.max-deepest.ensures c.with.ensures).1 }

@@ -6,4 +6,4 @@ pub returns-then-book-at-eq0 : goal.returns-then-book-at-eq0
 returns-then-book-at-eq0 c = label-none c.args.book.now c.args.n c.if-book-at-eq0.true
 
 pub returns : goal.returns
-returns c = c.wide.ensures ∙ label-some c.args.book.now c.args.n c.if-book-at-eq0.false
+returns c = c.from.ensures ∙ label-some c.args.book.now c.args.n c.if-book-at-eq0.false

@@ -1,14 +1,14 @@
-use Rattle.emit.proofs.Constants.{index-begins, index_on, index-found, index-none}
+use Rattle.std.proofs.Common.{◌≡◌, take, arith, rules}
+use Rattle.std.specs.Slice.Iter.{iter_rest}
+use Rattle.std.proofs.lemmas.Grind.{common_steps}
+use Rattle.std.proofs.lemmas.Iterator.{YieldsList-from_slice}
+use Rattle.std.proofs.lemmas.Iterator.Search.{position_from_yields_List}
+use lib.Dec.{eqb}
+use Rattle.emit.proofs.Constants.{scanned, index-within}
 use Rattle.emit.proofs.pool.scan.Goals as goal
 
-pub loop-i-init : goal.loop-i-init
-loop-i-init c = index-begins _ _ _
-
-pub returns-then-pool-i : goal.returns-then-pool-i
-returns-then-pool-i c = record { value = (index-found _ _ _ c.loop-i.invariant c.loop-i-test.true c.requires c.if-pool-i.true).0; upper_bound = (index-found _ _ _ c.loop-i.invariant c.loop-i-test.true c.requires c.if-pool-i.true).1 }
-
-pub loop-i-preserved : goal.loop-i-preserved
-loop-i-preserved c = index_on _ _ _ c.loop-i.invariant c.loop-i-test.true c.if-pool-i.false
-
 pub returns : goal.returns
-returns c = record { value = (index-none _ _ _ c.loop-i.invariant c.loop-i-test.false c.requires).0; upper_bound = (index-none _ _ _ c.loop-i.invariant c.loop-i-test.false c.requires).1 }
+returns c =
+    let rest : iter_rest c.iter.result ≡ take c.args.n c.args.pool.now = grind (arith, common_steps) in
+    let found = scanned c.args.k c.args.n c.args.pool.now (omega arith) (position_from_yields_List (λ x. eqb x c.args.k) _ _ _ c.position.ensures.ran (YieldsList-from_slice _ rest) (λ x b q h. search rules)) in
+    record { value = rw c.unwrap_or.ensures found; upper_bound = rw (c.unwrap_or.ensures, found) (index-within c.args.k c.args.n c.args.pool.now (omega arith)) }

@@ -1,13 +1,11 @@
-use mathlib.Core.Path.{◌∙◌, ap}
-use Rattle.definition.specs.Field.{has}
-use Rattle.opcode.proofs.Tables.{no-comparisons, some-comparisons, all-comparisons}
+use Rattle.std.proofs.Common.{◌≡◌, arith}
+use Rattle.std.proofs.lemmas.Grind.{common_steps}
+use Rattle.opcode.specs.Table.{sheet_in}
+use Rattle.opcode.proofs.Readings.{has-any}
+use Rattle.opcode.proofs.Tables.{comparisons-there, comparisons-none}
 use Rattle.opcode.proofs.sheet.is_comparison.Goals as goal
 
-pub returns-then-size-lt-ROLE_COUNT : goal.returns-then-size-lt-ROLE_COUNT
-returns-then-size-lt-ROLE_COUNT c = no-comparisons c.args.sheet.now c.args.b c.if-size-lt-ROLE_COUNT.true
-
-pub returns-then-size-lt-FIELD_COUNT : goal.returns-then-size-lt-FIELD_COUNT
-returns-then-size-lt-FIELD_COUNT c = c.contains.ensures ∙ ap (λ xs. has xs c.args.b) (some-comparisons c.args.sheet.now c.if-size-lt-FIELD_COUNT.true)
-
 pub returns : goal.returns
-returns c = c.contains-2.ensures ∙ ap (λ xs. has xs c.args.b) (all-comparisons c.args.sheet.now)
+returns c =
+    let part : c.unwrap_or.result.now ≡ (sheet_in c.args.sheet.now).comparisons = grind (arith, common_steps, comparisons-there c.args.sheet.now c.min-end.result c.min-end.ensures, comparisons-none c.args.sheet.now c.min-end.result c.min-end.ensures) in
+    rw (c.contains.ensures.value, part) (has-any _ c.args.b)

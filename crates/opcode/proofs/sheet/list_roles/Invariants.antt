@@ -3,6 +3,3 @@ use Rattle.opcode.proofs.sheet.list_roles.Given as goal
 
 abbrev pub invariant-loop-i : goal.invariant-loop-i
 invariant-loop-i l = Listing l.initial.sheet l.sheet l.i
-
-abbrev pub decreases-loop-i : goal.decreases-loop-i
-decreases-loop-i l = l.i

@@ -1,9 +1,7 @@
-use mathlib.Core.Path.{◌∙◌}
-use Rattle.opcode.proofs.Readings.{refused, accepted}
+use Rattle.std.proofs.Common.{arith}
+use Rattle.std.proofs.lemmas.Grind.{common_steps}
+use Rattle.opcode.proofs.Readings.{accepted}
 use Rattle.opcode.proofs.sheet.read_table.Goals as goal
 
-pub returns-in-Refused : goal.returns-in-Refused
-returns-in-Refused c = refused _ _ c.refuse.ensures (c.read_fields.auto.sheet ∙ c.requires) (rw c.in-Refused.is at c.read_fields.ensures).0 (rw c.in-Refused.is at c.read_fields.ensures).1
-
-pub returns-in-Accepted : goal.returns-in-Accepted
-returns-in-Accepted c = accepted _ (rw c.in-Accepted.is at c.read_fields.ensures) c.list_roles.ensures
+pub returns : goal.returns
+returns c = (grind (arith, common_steps), accepted c.args.text.now _ c.in_ok-read_fields.ensures c.list_roles.ensures)

@@ -1,25 +1,24 @@
-use mathlib.Core.Path.{refl, ap}
-use native.Mathlib.Omega.{arith}
-use lib.ListN.{set}
-use Rattle.opcode.specs.Reading.{faulty, no_byte_lem, repeats, put}
+use Rattle.std.proofs.Common.{◌≡◌, ◌≤◌, refl, arith}
+use Rattle.std.proofs.lemmas.Grind.{common_steps}
+use Rattle.definition.specs.Field.{is}
+use Rattle.field.specs.View.{read_of}
+use Rattle.opcode.specs.Reading.{repeats, put}
 use Rattle.opcode.proofs.Readings.{group-before, so_far}
-use borrow.Author.Rules.{rules}
 use Rattle.opcode.proofs.sheet.take_field.Goals as goal
 
-pub returns-then-fault-gt0 : goal.returns-then-fault-gt0
-returns-then-fault-gt0 c = faulty (search rules) refl refl
-
-pub returns-then-n-gt-MAX_BYTE : goal.returns-then-n-gt-MAX_BYTE
-returns-then-n-gt-MAX_BYTE c = no_byte_lem (search rules) (omega (arith, c.byte_of-n.ensures)) refl refl
-
 pub slice_bounds-contains-count : goal.slice_bounds-contains-count
-slice_bounds-contains-count c = group-before _ c.group_start-start.ensures
+slice_bounds-contains-count c = group-before _ c.group_start.ensures
 
 pub slice_bounds-contains-start : goal.slice_bounds-contains-start
-slice_bounds-contains-start c = group-before _ c.group_start-start.ensures
+slice_bounds-contains-start c = group-before _ c.group_start.ensures
 
 pub returns-then-contains : goal.returns-then-contains
-returns-then-contains c = repeats (search rules) (omega (arith, c.byte_of-n.ensures)) (rw (← c.byte_of-n.ensures) (so_far _ _ _ _ c.group_start-start.ensures c.contains.ensures c.if-contains.true)) refl refl
+returns-then-contains c =
+    let here : read_of c.args.read ≡ is c.in_ok-b.b = grind (arith, common_steps) in
+    repeats here (so_far _ _ _ _ c.group_start.ensures c.contains.ensures.value c.if-contains.true) refl (rw (c.bad_sheet-fault.ensures.0, c.bad_sheet-fault.ensures.1))
 
 pub returns : goal.returns
-returns c = put (search rules) (omega (arith, c.byte_of-n.ensures)) (rw (← c.byte_of-n.ensures) (so_far _ _ _ _ c.group_start-start.ensures c.contains.ensures c.if-contains.false)) (ap (set c.args.sheet.now c.args.i) c.byte_of-n.ensures) refl
+returns c =
+    let here : read_of c.args.read ≡ is c.in_ok-b.b = grind (arith, common_steps) in
+    let small : c.in_ok-b.b ≤ 255 = omega arith in
+    put here small (so_far _ _ _ _ c.group_start.ensures c.contains.ensures.value c.if-contains.false) refl refl

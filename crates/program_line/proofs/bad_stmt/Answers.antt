@@ -1,5 +1,0 @@
-use mathlib.Core.Path.{refl}
-use Rattle.program_line.proofs.bad_stmt.Goals as goal
-
-pub returns : goal.returns
-returns c = record { is = refl; ends = refl }
