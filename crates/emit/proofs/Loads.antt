@@ -7,7 +7,7 @@ use mathlib.Core.List.{List, [], ◌∷◌, ◌++◌}
 use Prim.Native.Nat.{ℕ, zero, suc, ◌+◌, ◌-◌, ◌≤◌, ◌<◌, max}
 use native.Mathlib.Numerals.{add-one}
 use native.Mathlib.Omega.{arith}
-use borrow.Author.Tests.{le-ltb, lt-ltb, eq-eqb, ne_eqb}
+use borrow.Author.Tests.{le-ltb, lt-ltb}
 use lib.Dec.{eqb}
 use lib.ListN.{length, take, drop, set, get_or, length-drop}
 use lib.Seq.{sets, length-sets, length-take-le, take-take, take-nil, drop-cons}
@@ -18,6 +18,7 @@ use Rattle.definition.specs.Emit as def
 use Rattle.definition.specs.Emit.{load_variable, store_variable, emit_opcode, refused, act, add, fold_store, folded, load_after, le16}
 use Rattle.emit.specs.declared.Emitter.{Emitter}
 use Rattle.emit.specs.declared.load.Loaded as answer
+use Rattle.emit.specs.declared.load.Read.{Read}
 use Rattle.emit.specs.declared.Last.{Last}
 use Rattle.emit.specs.declared.Last.TheVariants.{Other, Loaded, Stored}
 use Rattle.emit.specs.declared.load.LoadForm.{LoadForm}
@@ -25,7 +26,7 @@ use Rattle.emit.specs.declared.load.LoadForm.TheVariants.{Load, Dup, Fold}
 use Rattle.emit.specs.Book.{book_size}
 use Rattle.emit.specs.View.{World, world, last_view, state, standing, view, stage_of}
 use Rattle.emit.specs.Steps.{Step, ◌>->◌, Did, met_at, once, call, LastAt, Fine, Bare, Coded}
-use Rattle.emit.specs.Load.{load_form, load_by, Reading, no_reading, read_by, read_or, reading, reading_of, Loads}
+use Rattle.emit.specs.Load.{load_form, load_by, read_by, read_of, reading, Loads}
 use Rattle.emit.specs.Parts.{altered, Written}
 use Rattle.emit.proofs.Tables.{sets-front}
 use Rattle.emit.proofs.Kept.{pool-self, tails-self, kept_self, sets-tail}
@@ -108,27 +109,6 @@ module _ (s : Sheet) (v : ℕ) where
       go (def.loaded w) = by (eqb w v) Dup Load
       go (def.stored w) = by (eqb w v) Fold Load
 
-pub form-first : {l : Last} (v : ℕ) → l ≡ Other → Load ≡ load_form (last_view l) v
-unfolding load_form
-form-first v e = rw e
-
-module _ {l : Last} (v w : ℕ) where
-  pub form-again : l ≡ Loaded w → w ≡ v → Dup ≡ load_form (last_view l) v
-  unfolding load_form
-  form-again e h = rw (e, load_form, eq-eqb w v h)
-
-  pub form-loaded : l ≡ Loaded w → (w ≡ v → ⊥) → Load ≡ load_form (last_view l) v
-  unfolding load_form
-  form-loaded e h = rw (e, load_form, ne_eqb w v h)
-
-  pub form-fold : l ≡ Stored w → w ≡ v → Fold ≡ load_form (last_view l) v
-  unfolding load_form
-  form-fold e h = rw (e, load_form, eq-eqb w v h)
-
-  pub form-stored : l ≡ Stored w → (w ≡ v → ⊥) → Load ≡ load_form (last_view l) v
-  unfolding load_form
-  form-stored e h = rw (e, load_form, ne_eqb w v h)
-
 -- a store that a load folds into has three bytes
 pub folds-three : {e : Emitter} (v : ℕ) → Fine e → Fold ≡ load_form (last_view e.last) v → 3 ≤ e.size
 unfolding load_form
@@ -144,26 +124,26 @@ folds-three {e} v h is = go e.last h.last is
     go (Stored w) k q = k
 
 -- what was read, from what was done
-read_is : (s : Sheet) (v : ℕ) {w u : World} {q x : Reading} → Did (call s (load_variable v)) w u → x ≡ read_by (load_form (last_view w.e.last) v) (length (take w.e.size w.code))
-    → (u.e.refused ≡ None → q ≡ x) → ((u.e.refused ≡ None → ⊥) → q ≡ no_reading) → q ≡ read_or (view w >>= reading s v)
-unfolding standing stage_of ◌>->◌ once ◌>>=◌ reading read_or met_at ◌>>◌
+read_is : (s : Sheet) (v : ℕ) {w u : World} {q : Option Read} {x : Read} → Did (call s (load_variable v)) w u → x ≡ read_by (load_form (last_view w.e.last) v) (length (take w.e.size w.code))
+    → (u.e.refused ≡ None → q ≡ Some x) → ((u.e.refused ≡ None → ⊥) → q ≡ None) → q ≡ read_of (view w >>= reading s v)
+unfolding standing stage_of ◌>->◌ once ◌>>=◌ reading read_of met_at ◌>>◌
 read_is s v {w} {u} {q} {x} d is a b = go w.e.refused u.e.refused d.is a b
   where
-    answers : (m : Option Refused) (r : Res def.Emitter) → stage_of m (state u) ≡ met_at (state w) r → (m ≡ None → q ≡ x) → ((m ≡ None → ⊥) → q ≡ no_reading) → q ≡ read_or (r >> ok x)
+    answers : (m : Option Refused) (r : Res def.Emitter) → stage_of m (state u) ≡ met_at (state w) r → (m ≡ None → q ≡ Some x) → ((m ≡ None → ⊥) → q ≡ None) → q ≡ read_of (r >> ok x)
     answers None (ok y) h a b = a refl
     answers None (refuse n p) h a b = cc
     answers (Some m) (ok y) h a b = cc
     answers (Some m) (refuse n p) h a b = b (λ z. cc)
 
-    go : (k m : Option Refused) → stage_of m (state u) ≡ stage_of k (state w) >-> call s (load_variable v) → (m ≡ None → q ≡ x) → ((m ≡ None → ⊥) → q ≡ no_reading)
-        → q ≡ read_or (standing k (state w) >>= reading s v)
+    go : (k m : Option Refused) → stage_of m (state u) ≡ stage_of k (state w) >-> call s (load_variable v) → (m ≡ None → q ≡ Some x) → ((m ≡ None → ⊥) → q ≡ None)
+        → q ≡ read_of (standing k (state w) >>= reading s v)
     go None m h a b = rw (reading, ← is) (answers m (act s (load_variable v) (state w)) h a b)
     go (Some k) None h a b = cc
     go (Some k) (Some m) h a b = b (λ z. cc)
 
 -- what a load answers, by its form
 module _ (s : Sheet) (v : ℕ) (form : LoadForm) {e u : Emitter} {code book code' book' : List ℕ} {r : answer.Loaded} (h : Fine e) (room : length code ≡ max_code) (is : form ≡ load_form (last_view e.last) v)
-    (same : r.emitter ≡ u) (good : u.refused ≡ None → reading_of r ≡ read_by form e.size) (bad : (u.refused ≡ None → ⊥) → reading_of r ≡ no_reading) where
+    (same : r.emitter ≡ u) (good : u.refused ≡ None → r.read ≡ Some (read_by form e.size)) (bad : (u.refused ≡ None → ⊥) → r.read ≡ None) where
   pub load-answers : Coded (once (load_by form s v)) e code book u code' book' → Loads s v e code book r code' book'
   load-answers c =
       let d : Coded (call s (load_variable v)) e code book u code' book' = coded_by _ _ (λ pool. load-by s v (state (world e code book pool)) ∙ rw (← is)) c in

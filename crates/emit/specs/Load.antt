@@ -1,11 +1,12 @@
 -- What a load did. The two foldings and the plain load are told apart here and nowhere else.
-use Rattle.std.specs.Prelude.{ℕ, ◌-◌, ◌≡◌, Bool, true, false, List, [], eqb, length}
+use Rattle.std.specs.Prelude.{ℕ, ◌-◌, ◌≡◌, true, false, List, [], eqb, length, Option, Some, None}
 use Rattle.definition.specs.Res.{Res, ok, refuse, ◌>>=◌, ◌>>◌}
 use Rattle.definition.specs.Opcode.{Sheet, dup, load_var}
 use Rattle.definition.specs.Emit as def
 use Rattle.definition.specs.Emit.{load_variable, act, add, fold_store, le16}
 use Rattle.emit.specs.declared.Emitter.{Emitter}
 use Rattle.emit.specs.declared.load.Loaded.{Loaded}
+use Rattle.emit.specs.declared.load.Read.{Read}
 use Rattle.emit.specs.declared.load.LoadForm.{LoadForm}
 use Rattle.emit.specs.declared.load.LoadForm.TheVariants.{Load, Dup, Fold}
 use Rattle.emit.specs.View.{world, view}
@@ -23,33 +24,22 @@ load_by Load s v e = add s load_var (le16 v) (def.loaded v) e
 load_by Dup s v e = add s dup [] def.other e
 load_by Fold s v e = fold_store s e
 
--- the offset of the byte that carries the read, whether that is a DUP, and whether the store before it moved by one
-pub record Reading : Type 0 where
-  pub offset : ℕ
-  pub dup : Bool
-  pub moved : Bool
-
-unfoldable pub no_reading : Reading
-no_reading = record { offset = 0; dup = false; moved = false }
-
--- where the code had `size` bytes before
-unfoldable pub read_by : LoadForm → ℕ → Reading
+-- what each form reads, where the code had `size` bytes before
+unfoldable pub read_by : LoadForm → ℕ → Read
 read_by Load size = record { offset = size; dup = false; moved = false }
 read_by Dup size = record { offset = size; dup = true; moved = false }
 read_by Fold size = record { offset = size - 3; dup = true; moved = true }
 
-unfoldable pub read_or : Res Reading → Reading
-read_or (ok r) = r
-read_or (refuse n p) = no_reading
+-- nothing after a refusal
+unfoldable pub read_of : Res Read → Option Read
+read_of (ok r) = Some r
+read_of (refuse n p) = None
 
 -- what loading v does in a state, unless it is refused
-unfoldable pub reading : Sheet → ℕ → def.Emitter → Res Reading
+unfoldable pub reading : Sheet → ℕ → def.Emitter → Res Read
 reading s v e = act s (load_variable v) e >> ok (read_by (load_form e.last v) (length e.bytecode))
 
-abbrev pub reading_of : Loaded → Reading
-reading_of r = record { offset = r.offset; dup = r.dup; moved = r.moved }
-
--- what `load_variable` answers: the step, and what it did; after a refusal 0 and false
+-- what `load_variable` answers: the step, and what it did
 pub record Loads (s : Sheet) (v : ℕ) (e : Emitter) (code book : List ℕ) (r : Loaded) (code' book' : List ℕ) : Type 0 where
   pub coded : Coded (call s (load_variable v)) e code book r.emitter code' book'
-  pub read : (pool : List ℕ) → reading_of r ≡ read_or (view (world e code book pool) >>= reading s v)
+  pub read : (pool : List ℕ) → r.read ≡ read_of (view (world e code book pool) >>= reading s v)

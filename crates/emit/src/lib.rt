@@ -22,7 +22,7 @@ ghost use Rattle.emit.specs.Load.{Loads};
 ghost use Rattle.emit.specs.Parts.{altered, readied, Noted, Prepared, Written, Branched, Put, Added, cmp_operand, patching};
 
 use crate::book::BOOK_SIZE;
-use crate::load::{LoadForm, Loaded};
+use crate::load::{LoadForm, Loaded, Read};
 use crate::patch::PendingPatch;
 use definition::{MAX_CODE, MAX_LABELS, MAX_LINES, Refusal, Refused};
 use line_map::{LineEntry, Pos};
@@ -391,15 +391,30 @@ impl Emitter {
         match load::form(self.last, v) {
             LoadForm::Load => {
                 let e = self.add_u16(sheet, code, book, Role::LoadVar, v, Last::Loaded(v));
-                load::done(e, size, false, false)
+                let read = Read {
+                    offset: size,
+                    dup: false,
+                    moved: false,
+                };
+                load::done(e, read)
             }
             LoadForm::Dup => {
                 let e = self.add_plain(sheet, code, book, Role::Dup);
-                load::done(e, size, true, false)
+                let read = Read {
+                    offset: size,
+                    dup: true,
+                    moved: false,
+                };
+                load::done(e, read)
             }
             LoadForm::Fold => {
                 let e = self.fold_store(sheet, code);
-                load::done(e, size - STORE_SIZE, true, true)
+                let read = Read {
+                    offset: size - STORE_SIZE,
+                    dup: true,
+                    moved: true,
+                };
+                load::done(e, read)
             }
         }
     }

@@ -1,18 +1,23 @@
 // How a load is emitted, and what it did: known here and nowhere else.
 ghost use Rattle.std.specs.Prelude.{◌≡◌};
 ghost use Rattle.emit.specs.View.{last_view};
-ghost use Rattle.emit.specs.Load.{load_form, no_reading, reading_of};
+ghost use Rattle.emit.specs.Load.{load_form};
 
 use crate::{Emitter, Last};
 
-// What `load_variable` answers: the offset of the byte that carries the read, whether that is a DUP, and whether the store before it moved by one.
-// After a refusal 0 and false.
+// What a load did: the offset of the byte that carries the read, whether that is a DUP, and whether the store before it moved by one.
 #[derive(Clone, Copy)]
-pub struct Loaded {
-    pub emitter: Emitter,
+pub struct Read {
     pub offset: usize,
     pub dup: bool,
     pub moved: bool,
+}
+
+// What `load_variable` answers: nothing is read after a refusal.
+#[derive(Clone, Copy)]
+pub struct Loaded {
+    pub emitter: Emitter,
+    pub read: Option<Read>,
 }
 
 // How a load is emitted.
@@ -36,23 +41,15 @@ pub fn form(last: Last, v: u16) -> LoadForm
 }
 
 // What a load did, unless it is refused.
-pub fn done(emitter: Emitter, offset: usize, dup: bool, moved: bool) -> Loaded
+pub fn done(emitter: Emitter, read: Read) -> Loaded
     ensures emitter_value { result.emitter ≡ emitter }
-    ensures result_value { emitter.refused ≡ None → reading_of result ≡ record { offset = offset; dup = dup; moved = moved } }
-    ensures result_value_2 { (emitter.refused ≡ None → ⊥) → reading_of result ≡ no_reading }
+    ensures going { emitter.refused ≡ None → result.read ≡ Some read }
+    ensures refused { (emitter.refused ≡ None → ⊥) → result.read ≡ None }
 {
-    if emitter.refused.is_some() {
-        return Loaded {
-            emitter,
-            offset: 0,
-            dup: false,
-            moved: false,
-        };
-    }
-    Loaded {
-        emitter,
-        offset,
-        dup,
-        moved,
-    }
+    let read = if emitter.refused.is_some() {
+        None
+    } else {
+        Some(read)
+    };
+    Loaded { emitter, read }
 }

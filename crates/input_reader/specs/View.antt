@@ -1,14 +1,11 @@
 -- What this crate's types stand for in the machine.
-use Rattle.std.specs.Prelude.{ℕ, min, ◌≡◌, Bool, true, false, List, []}
+use Rattle.std.specs.Prelude.{ℕ, ◌≡◌, Bool, true, false, List, []}
 use Rattle.store.specs.Store.{at, contents}
 use Rattle.input_machine.specs.Machine as def
 use Rattle.input_reader.specs.declared.Phase.{Phase}
 use Rattle.input_reader.specs.declared.Phase.TheVariants.{SheetLine, CountLine, RuleLine, CodeLine, OffsetLine, EntryLine, ProgramText, Malformed, Uncounted}
 use Rattle.input_reader.specs.declared.Head.{Head}
-use Rattle.input_reader.specs.declared.Used.{Used}
 use Rattle.input_reader.specs.declared.Reader.{Reader}
-use Rattle.input_reader.specs.declared.Put.{Put}
-use Rattle.input_reader.specs.declared.Put.TheVariants.{Nothing, IntoSheet, IntoRules, IntoCode, IntoOffsets, IntoEntries}
 use Rattle.input_reader.specs.declared.Ending.{Ending}
 use Rattle.input_reader.specs.declared.Ending.TheVariants.{Whole, Cut, Countless}
 
@@ -33,14 +30,6 @@ head_view h = record {
   number = h.number;
 }
 
-abbrev pub put_view : Put → def.Put
-put_view Nothing = def.nothing
-put_view (IntoSheet x) = def.into_sheet x
-put_view (IntoRules x) = def.into_rules x
-put_view (IntoCode x) = def.into_code x
-put_view (IntoOffsets x) = def.into_offsets x
-put_view (IntoEntries x) = def.into_entries x
-
 abbrev pub ending_view : Ending → def.Ending
 ending_view Whole = def.whole
 ending_view (Cut n) = def.cut n
@@ -48,17 +37,21 @@ ending_view Countless = def.countless
 
 -- ---- a reader with what its buffers hold
 
-abbrev pub stores_view : Used → List ℕ → List ℕ → List ℕ → List ℕ → List ℕ → def.Stores
-stores_view u sheet rules code offsets entries = record {
-  sheet = at sheet u.sheet;
-  rules = at rules u.rules;
-  code = at code u.code;
-  offsets = at offsets u.offsets;
-  entries = at entries u.entries;
+abbrev pub stores_view : Reader → def.Stores
+stores_view r = record {
+  sheet = at r.sheet.cells.now r.sheet.used;
+  rules = at r.rules.cells.now r.rules.used;
+  code = at r.code.cells.now r.code.used;
+  offsets = at r.offsets.cells.now r.offsets.used;
+  entries = at r.entries.cells.now r.entries.used;
 }
 
-abbrev pub state_view : Reader → List ℕ → List ℕ → List ℕ → List ℕ → List ℕ → def.State
-state_view r sheet rules code offsets entries = record { head = head_view r.head; stores = stores_view r.used sheet rules code offsets entries }
+-- where the reading stands, and what the buffers hold
+abbrev pub state_at : Head → Reader → def.State
+state_at h r = record { head = head_view h; stores = stores_view r }
+
+abbrev pub state_view : Reader → def.State
+state_view r = state_at r.head r
 
 -- the machine's start, over these buffers
 abbrev pub begun : List ℕ → List ℕ → List ℕ → List ℕ → List ℕ → def.State
@@ -67,8 +60,14 @@ begun sheet rules code offsets entries = record {
   stores = record { sheet = at sheet 0; rules = at rules 0; code = at code 0; offsets = at offsets 0; entries = at entries 0 };
 }
 
-pub record Starts (r : Reader) : Type 0 where
-  pub is : (sheet rules code offsets entries : List ℕ) → state_view r sheet rules code offsets entries ≡ begun sheet rules code offsets entries
+-- the same rules' end, and the same lent buffers, whatever they hold
+pub record SameBuffers (r t : Reader) : Type 0 where
+  pub follows : t.follows ≡ r.follows
+  pub sheet : t.sheet.cells.ghost_name ≡ r.sheet.cells.ghost_name
+  pub rules : t.rules.cells.ghost_name ≡ r.rules.cells.ghost_name
+  pub code : t.code.cells.ghost_name ≡ r.code.cells.ghost_name
+  pub offsets : t.offsets.cells.ghost_name ≡ r.offsets.cells.ghost_name
+  pub entries : t.entries.cells.ghost_name ≡ r.entries.cells.ghost_name
 
 -- some bytes were read from one state to the other, q being what follows the rules
 pub record Reading (q : def.Phase) (before after : def.State) : Type 0 where
@@ -83,12 +82,12 @@ is_counted def.whole = true
 is_counted (def.cut n) = true
 is_counted def.countless = false
 
--- those elements of a buffer that are used, if they are to be read
-unfoldable pub handed_count : Bool → ℕ → ℕ → ℕ
-handed_count true used room = min used room
-handed_count false used room = 0
-
 unfoldable pub handed_rules : def.Ending → def.Stores → List ℕ
 handed_rules def.whole s = contents s.rules
 handed_rules (def.cut n) s = contents s.rules
 handed_rules def.countless s = []
+
+-- `unfolding open_machine` names the machine's definitions, and this module's, at once
+unfoldable pub open_machine : Unit {0}
+unfolding def.open-Machine is_counted handed_rules
+open_machine = tt

@@ -1,10 +1,13 @@
 // The input of the listing and of the passes program, read a byte at a time into lent buffers: the code of input_machine's machine.
-#![tactic(auto)]
+#![tactic(auto, using(std::proofs::lemmas::Bool::Decides::nat_tests), unfolding(crate::specs::View::open_machine))]
 
-ghost use Rattle.std.specs.Prelude.{◌≡◌, [], ◌<◌};
+pub mod buffer;
+
+ghost use Rattle.std.specs.Prelude.{◌≡◌};
 ghost use Rattle.input_machine.specs.Machine as def;
-ghost use Rattle.input_reader.specs.View.{phase_view, head_view, put_view, ending_view, stores_view, state_view, is_counted, handed_count, Starts};
+ghost use Rattle.input_reader.specs.View.{phase_view, head_view, ending_view, stores_view, state_view, begun, is_counted, SameBuffers};
 
+use crate::buffer::Buffer;
 use definition::{
     COMPARISON_COUNT, ENTRY_SIZE, MAX_CODE, MAX_FIELD, MAX_LINES, MAX_PROGRAM, MAX_PROTECTED,
     MAX_RULES, ROLE_COUNT,
@@ -24,43 +27,28 @@ pub enum Phase {
     Uncounted,
 }
 
-// A line of the input, rule lines still to come, the fields of the line before this one, and of this one the bytes that were kept or the number
-// so far.
+// A line of the input, rule lines still to come, of this field the number so far, the fields of the line before it, the bytes of it that were kept,
+// and what the line holds. No padding lies between: a copy of it, at each byte, would go through memory.
 #[derive(Clone, Copy)]
 pub struct Head {
-    pub phase: Phase,
     pub line: u64,
     pub left: u32,
+    pub number: u32,
     pub index: u8,
     pub kept: u8,
-    pub number: u32,
+    pub phase: Phase,
 }
 
-// How many elements of each buffer are used; a listing's program is in the code's.
-#[derive(Clone, Copy)]
-pub struct Used {
-    pub sheet: usize,
-    pub rules: usize,
-    pub code: usize,
-    pub offsets: usize,
-    pub entries: usize,
-}
-
-#[derive(Clone, Copy)]
-pub struct Reader {
+// What follows the rules, where the reading stands, and the buffers; a listing's program is in the code's.
+#[derive(Drop)]
+pub struct Reader<'a> {
+    pub follows: Phase,
     pub head: Head,
-    pub used: Used,
-}
-
-// What is kept at a byte, and in which buffer.
-#[derive(Clone, Copy)]
-pub enum Put {
-    Nothing,
-    IntoSheet(u8),
-    IntoRules(u8),
-    IntoCode(u8),
-    IntoOffsets(u16),
-    IntoEntries(u16),
+    pub sheet: Buffer<'a, u8>,
+    pub rules: Buffer<'a, u8>,
+    pub code: Buffer<'a, u8>,
+    pub offsets: Buffer<'a, u16>,
+    pub entries: Buffer<'a, u16>,
 }
 
 // How the input ended: whole, at a malformed line, or with no count of rules.
@@ -71,7 +59,7 @@ pub enum Ending {
     Countless,
 }
 
-// No digit yet, and what is no number up to MAX_FIELD.
+// No digit yet, and what is no number up to MAX_FIELD: the machine has them too, so an Option would only hide them from its definitions.
 const BLANK: u32 = MAX_FIELD + 1;
 
 const BAD: u32 = MAX_FIELD + 2;
@@ -146,16 +134,16 @@ pub fn program_room() -> usize
 fn line_after(n: u64) -> u64
     ensures { result ≡ def.line_after n }
 {
-    if n < LAST_LINE { n + 1 } else { n }
+    n.saturating_add(1)
 }
 
 fn line_in(phase: Phase, line: u64, left: u32) -> Head
     ensures { head_view result ≡ def.line_in (phase_view phase) line left }
 {
     Head {
-        phase: phase,
-        line: line,
-        left: left,
+        phase,
+        line,
+        left,
         index: 0,
         kept: 0,
         number: BLANK,
@@ -163,34 +151,6 @@ fn line_in(phase: Phase, line: u64, left: u32) -> Head
 }
 
 // ---- a byte within a field
-
-fn with_kept(index: u8, kept: u8, h: Head) -> Head
-    ensures { head_view result ≡ def.with_kept index kept (head_view h) }
-{
-    let phase = h.phase;
-    Head {
-        phase: phase,
-        line: h.line,
-        left: h.left,
-        index: index,
-        kept: kept,
-        number: h.number,
-    }
-}
-
-fn with_number(index: u8, number: u32, h: Head) -> Head
-    ensures { head_view result ≡ def.with_number index number (head_view h) }
-{
-    let phase = h.phase;
-    Head {
-        phase: phase,
-        line: h.line,
-        left: h.left,
-        index: index,
-        kept: h.kept,
-        number: number,
-    }
-}
 
 fn field_after(i: u8) -> u8
     ensures { result ≡ def.field_after i }
@@ -202,25 +162,26 @@ fn field_after(i: u8) -> u8
 fn keeps(h: Head) -> bool
     ensures { result ≡ def.keeps (head_view h) }
 {
-    if h.index < FIELD_ROOM {
-        h.kept < FIELD_WIDTH
-    } else {
-        false
-    }
+    h.index < FIELD_ROOM && h.kept < FIELD_WIDTH
 }
 
 fn text_byte(h: Head, b: u8) -> Head
     ensures { head_view result ≡ def.text_byte (head_view h) b }
 {
     if b == b',' {
-        return with_kept(field_after(h.index), 0, h);
-    }
-    if h.index < FIELD_ROOM {
-        if h.kept < FIELD_WIDTH {
-            return with_kept(h.index, h.kept + 1, h);
+        Head {
+            index: field_after(h.index),
+            kept: 0,
+            ..h
         }
+    } else if keeps(h) {
+        Head {
+            kept: h.kept + 1,
+            ..h
+        }
+    } else {
+        h
     }
-    h
 }
 
 // A digit after a number so far: after 0 none may come.
@@ -228,34 +189,31 @@ fn digit_after(n: u32, d: u8) -> u32
     ensures { result ≡ def.digit_after n d }
 {
     if n == BLANK {
-        return d as u32;
+        return u32::from(d);
     }
-    if n == 0 {
+    if n == 0 || n > MAX_FIELD {
         return BAD;
     }
-    if n > MAX_FIELD {
-        return BAD;
-    }
-    let m = n * 10 + d as u32;
+    let m = n * 10 + u32::from(d);
     if m <= MAX_FIELD { m } else { BAD }
 }
 
 fn number_after(n: u32, b: u8) -> u32
     ensures { result ≡ def.number_after n b }
 {
-    if b < b'0' {
-        return BAD;
+    match b {
+        b'0'..=b'9' => digit_after(n, b - b'0'),
+        _ => BAD,
     }
-    if b > b'9' {
-        return BAD;
-    }
-    digit_after(n, b - b'0')
 }
 
 fn digit_byte(h: Head, b: u8) -> Head
     ensures { head_view result ≡ def.digit_byte (head_view h) b }
 {
-    with_number(h.index, number_after(h.number, b), h)
+    Head {
+        number: number_after(h.number, b),
+        ..h
+    }
 }
 
 // ---- ends of fields and lines
@@ -269,11 +227,7 @@ fn stop(phase: Phase, h: Head) -> Head
 fn is_blank(h: Head) -> bool
     ensures { result ≡ def.is_blank (head_view h) }
 {
-    if h.index == 0 {
-        h.number == BLANK
-    } else {
-        false
-    }
+    h.index == 0 && h.number == BLANK
 }
 
 // Rules, where some are left; else what follows them.
@@ -302,7 +256,11 @@ fn list_comma(most: u32, h: Head) -> Head
     ensures { head_view result ≡ def.list_comma most (head_view h) }
 {
     if h.number <= most {
-        with_number(field_after(h.index), BLANK, h)
+        Head {
+            index: field_after(h.index),
+            number: BLANK,
+            ..h
+        }
     } else {
         stop(Phase::Malformed, h)
     }
@@ -311,36 +269,32 @@ fn list_comma(most: u32, h: Head) -> Head
 fn list_end(most: u32, next: Phase, h: Head) -> Head
     ensures { head_view result ≡ def.list_end most (phase_view next) (head_view h) }
 {
-    if is_blank(h) {
-        return line_in(next, line_after(h.line), 0);
+    if is_blank(h) || h.number <= most {
+        line_in(next, line_after(h.line), 0)
+    } else {
+        stop(Phase::Malformed, h)
     }
-    if h.number <= most {
-        return line_in(next, line_after(h.line), 0);
-    }
-    stop(Phase::Malformed, h)
 }
 
 fn list_byte(most: u32, next: Phase, h: Head, b: u8) -> Head
     ensures { head_view result ≡ def.list_byte most (phase_view next) (head_view h) b }
 {
-    if b == b'\n' {
-        return list_end(most, next, h);
-    }
-    if b == b',' {
-        list_comma(most, h)
-    } else {
-        digit_byte(h, b)
+    match b {
+        b'\n' => list_end(most, next, h),
+        b',' => list_comma(most, h),
+        _ => digit_byte(h, b),
     }
 }
 
 fn entry_comma(h: Head) -> Head
     ensures { head_view result ≡ def.entry_comma (head_view h) }
 {
-    if h.number > MAX_FIELD {
-        return stop(Phase::Malformed, h);
-    }
-    if h.index < LAST_FIELD {
-        with_number(h.index + 1, BLANK, h)
+    if h.number <= MAX_FIELD && h.index < LAST_FIELD {
+        Head {
+            index: h.index + 1,
+            number: BLANK,
+            ..h
+        }
     } else {
         stop(Phase::Malformed, h)
     }
@@ -349,10 +303,7 @@ fn entry_comma(h: Head) -> Head
 fn entry_end(h: Head) -> Head
     ensures { head_view result ≡ def.entry_end (head_view h) }
 {
-    if h.number > MAX_FIELD {
-        return stop(Phase::Malformed, h);
-    }
-    if h.index == LAST_FIELD {
+    if h.number <= MAX_FIELD && h.index == LAST_FIELD {
         line_in(Phase::EntryLine, line_after(h.line), 0)
     } else {
         stop(Phase::Malformed, h)
@@ -362,47 +313,10 @@ fn entry_end(h: Head) -> Head
 fn entry_byte(h: Head, b: u8) -> Head
     ensures { head_view result ≡ def.entry_byte (head_view h) b }
 {
-    if b == b'\n' {
-        return entry_end(h);
-    }
-    if b == b',' {
-        entry_comma(h)
-    } else {
-        digit_byte(h, b)
-    }
-}
-
-fn sheet_byte(follows: Phase, h: Head, b: u8) -> Head
-    ensures { head_view result ≡ def.next_in (phase_view follows) def.sheet_line (head_view h) b }
-{
-    if b == b'\n' {
-        line_in(Phase::CountLine, line_after(h.line), 0)
-    } else {
-        text_byte(h, b)
-    }
-}
-
-fn count_byte(follows: Phase, h: Head, b: u8) -> Head
-    ensures { head_view result ≡ def.next_in (phase_view follows) def.count_line (head_view h) b }
-{
-    if b == b'\n' {
-        counted(follows, h)
-    } else {
-        digit_byte(h, b)
-    }
-}
-
-fn rule_byte(follows: Phase, h: Head, b: u8) -> Head
-    ensures { head_view result ≡ def.next_in (phase_view follows) def.rule_line (head_view h) b }
-{
-    if b != b'\n' {
-        return text_byte(h, b);
-    }
-    let line = line_after(h.line);
-    if h.left == 0 {
-        rules_at(follows, line, 0)
-    } else {
-        rules_at(follows, line, h.left - 1)
+    match b {
+        b'\n' => entry_end(h),
+        b',' => entry_comma(h),
+        _ => digit_byte(h, b),
     }
 }
 
@@ -410,17 +324,18 @@ fn rule_byte(follows: Phase, h: Head, b: u8) -> Head
 fn next(follows: Phase, h: Head, b: u8) -> Head
     ensures { head_view result ≡ def.next (phase_view follows) (head_view h) b }
 {
-    let phase = h.phase;
-    match phase {
-        Phase::SheetLine => sheet_byte(follows, h, b),
-        Phase::CountLine => count_byte(follows, h, b),
-        Phase::RuleLine => rule_byte(follows, h, b),
+    match h.phase {
+        Phase::SheetLine if b == b'\n' => line_in(Phase::CountLine, line_after(h.line), 0),
+        Phase::CountLine if b == b'\n' => counted(follows, h),
+        Phase::RuleLine if b == b'\n' => {
+            rules_at(follows, line_after(h.line), h.left.saturating_sub(1))
+        }
+        Phase::SheetLine | Phase::RuleLine => text_byte(h, b),
+        Phase::CountLine => digit_byte(h, b),
         Phase::CodeLine => list_byte(MAX_BYTE, Phase::OffsetLine, h, b),
         Phase::OffsetLine => list_byte(MAX_FIELD, Phase::EntryLine, h, b),
         Phase::EntryLine => entry_byte(h, b),
-        Phase::ProgramText => h,
-        Phase::Malformed => h,
-        Phase::Uncounted => h,
+        Phase::ProgramText | Phase::Malformed | Phase::Uncounted => h,
     }
 }
 
@@ -430,13 +345,10 @@ fn next(follows: Phase, h: Head, b: u8) -> Head
 fn is_kept(h: Head, b: u8) -> bool
     ensures { result ≡ def.is_kept (head_view h) b }
 {
-    if b == b'\n' {
-        return true;
-    }
-    if b == b',' {
-        h.index < FIELD_ROOM - 1
-    } else {
-        keeps(h)
+    match b {
+        b'\n' => true,
+        b',' => h.index < FIELD_ROOM - 1,
+        _ => keeps(h),
     }
 }
 
@@ -444,203 +356,70 @@ fn is_kept(h: Head, b: u8) -> bool
 fn ends(most: u32, h: Head, b: u8) -> bool
     ensures { result ≡ def.ends most (head_view h) b }
 {
-    if b == b'\n' {
-        return h.number <= most;
-    }
-    if b == b',' { h.number <= most } else { false }
-}
-
-fn put_sheet(h: Head, b: u8) -> Put
-    ensures { put_view result ≡ def.put_in def.sheet_line (head_view h) b }
-{
-    if is_kept(h, b) {
-        Put::IntoSheet(b)
-    } else {
-        Put::Nothing
-    }
-}
-
-fn put_rules(h: Head, b: u8) -> Put
-    ensures { put_view result ≡ def.put_in def.rule_line (head_view h) b }
-{
-    if is_kept(h, b) {
-        Put::IntoRules(b)
-    } else {
-        Put::Nothing
-    }
-}
-
-fn put_code(h: Head, b: u8) -> Put
-    ensures { put_view result ≡ def.put_in def.code_line (head_view h) b }
-{
-    if ends(MAX_BYTE, h, b) {
-        Put::IntoCode(h.number as u8)
-    } else {
-        Put::Nothing
-    }
-}
-
-fn put_offsets(h: Head, b: u8) -> Put
-    ensures { put_view result ≡ def.put_in def.offset_line (head_view h) b }
-{
-    if ends(MAX_FIELD, h, b) {
-        Put::IntoOffsets(h.number as u16)
-    } else {
-        Put::Nothing
-    }
-}
-
-fn put_entries(h: Head, b: u8) -> Put
-    ensures { put_view result ≡ def.put_in def.entry_line (head_view h) b }
-{
-    if ends(MAX_FIELD, h, b) {
-        Put::IntoEntries(h.number as u16)
-    } else {
-        Put::Nothing
-    }
-}
-
-fn put_at(h: Head, b: u8) -> Put
-    ensures { put_view result ≡ def.put_in (phase_view h.phase) (head_view h) b }
-{
-    let phase = h.phase;
-    match phase {
-        Phase::SheetLine => put_sheet(h, b),
-        Phase::CountLine => Put::Nothing,
-        Phase::RuleLine => put_rules(h, b),
-        Phase::CodeLine => put_code(h, b),
-        Phase::OffsetLine => put_offsets(h, b),
-        Phase::EntryLine => put_entries(h, b),
-        Phase::ProgramText => Put::IntoCode(b),
-        Phase::Malformed => Put::Nothing,
-        Phase::Uncounted => Put::Nothing,
-    }
+    (b == b'\n' || b == b',') && h.number <= most
 }
 
 // ---- the machine
 
-fn keep(
-    what: Put,
-    used: Used,
-    sheet: &mut [u8],
-    rules: &mut [u8],
-    code: &mut [u8],
-    offsets: &mut [u16],
-    entries: &mut [u16],
-) -> Used
-    ensures { stores_view result sheet.new rules.new code.new offsets.new entries.new ≡ def.stored (stores_view used sheet.old rules.old code.old offsets.old entries.old) (put_view what) }
-{
-    let mut kept = used;
-    match what {
-        Put::Nothing => used,
-        Put::IntoSheet(x) => {
-            kept.sheet = store::push_byte(sheet, used.sheet, x);
-            kept
-        }
-        Put::IntoRules(x) => {
-            kept.rules = store::push_byte(rules, used.rules, x);
-            kept
-        }
-        Put::IntoCode(x) => {
-            kept.code = store::push_byte(code, used.code, x);
-            kept
-        }
-        Put::IntoOffsets(x) => {
-            kept.offsets = store::push_number(offsets, used.offsets, x);
-            kept
-        }
-        Put::IntoEntries(x) => {
-            kept.entries = store::push_number(entries, used.entries, x);
-            kept
+impl<'a> Reader<'a> {
+    // The start of an input, with nothing kept.
+    pub fn start(
+        follows: Phase,
+        sheet: &'a mut [u8],
+        rules: &'a mut [u8],
+        code: &'a mut [u8],
+        offsets: &'a mut [u16],
+        entries: &'a mut [u16],
+    ) -> Self
+        ensures follows { result.follows ≡ follows }
+        ensures sheet { result.sheet.cells.ghost_name ≡ sheet.entry.ghost_name }
+        ensures rules { result.rules.cells.ghost_name ≡ rules.entry.ghost_name }
+        ensures code { result.code.cells.ghost_name ≡ code.entry.ghost_name }
+        ensures offsets { result.offsets.cells.ghost_name ≡ offsets.entry.ghost_name }
+        ensures entries { result.entries.cells.ghost_name ≡ entries.entry.ghost_name }
+        ensures starts { state_view result ≡ begun sheet.old rules.old code.old offsets.old entries.old }
+    {
+        Reader {
+            follows,
+            head: line_in(Phase::SheetLine, 1, 0),
+            sheet: Buffer::new(sheet),
+            rules: Buffer::new(rules),
+            code: Buffer::new(code),
+            offsets: Buffer::new(offsets),
+            entries: Buffer::new(entries),
         }
     }
-}
 
-fn step(
-    follows: Phase,
-    reader: Reader,
-    b: u8,
-    sheet: &mut [u8],
-    rules: &mut [u8],
-    code: &mut [u8],
-    offsets: &mut [u16],
-    entries: &mut [u16],
-) -> Reader
-    ensures { state_view result sheet.new rules.new code.new offsets.new entries.new ≡ def.step (phase_view follows) (state_view reader sheet.old rules.old code.old offsets.old entries.old) b }
-{
-    let head = reader.head;
-    let used = reader.used;
-    let on = next(follows, head, b);
-    let what = put_at(head, b);
-    let kept = keep(what, used, sheet, rules, code, offsets, entries);
-    Reader {
-        head: on,
-        used: kept,
+    // Keeps what a byte leaves to be kept where the reading stands at `h`.
+    fn keep(&mut self, h: Head, b: u8)
+        ensures buffers { SameBuffers self.old self.new }
+        ensures kept { stores_view self.new ≡ def.stored (stores_view self.old) (def.put_in (phase_view h.phase) (head_view h) b) }
+    {
+        match h.phase {
+            Phase::SheetLine if is_kept(h, b) => self.sheet.push(b),
+            Phase::RuleLine if is_kept(h, b) => self.rules.push(b),
+            Phase::CodeLine if ends(MAX_BYTE, h, b) => self.code.push(h.number as u8),
+            Phase::OffsetLine if ends(MAX_FIELD, h, b) => self.offsets.push(h.number as u16),
+            Phase::EntryLine if ends(MAX_FIELD, h, b) => self.entries.push(h.number as u16),
+            Phase::ProgramText => self.code.push(b),
+            _ => {}
+        }
     }
-}
 
-// The start of an input, with nothing kept.
-pub fn start() -> Reader
-    ensures { Starts result }
-{
-    let head = line_in(Phase::SheetLine, 1, 0);
-    Reader {
-        head: head,
-        used: Used {
-            sheet: 0,
-            rules: 0,
-            code: 0,
-            offsets: 0,
-            entries: 0,
-        },
+    // The next bytes of an input. The head is a variable of the loop: behind `self` it would be stored and loaded again at each byte.
+    pub fn feed(&mut self, bytes: &[u8])
+        ensures buffers { SameBuffers self.old self.new }
+        ensures fed { state_view self.new ≡ def.steps (phase_view self.old.follows) (state_view self.old) bytes.now }
+    {
+        let follows = self.follows;
+        let mut head = self.head;
+        for &b in bytes {
+            let on = next(follows, head, b);
+            self.keep(head, b);
+            head = on;
+        }
+        self.head = head;
     }
-}
-
-// The next bytes of an input: `follows` is what its rules are followed by.
-pub fn feed(
-    follows: Phase,
-    reader: Reader,
-    bytes: &[u8],
-    sheet: &mut [u8],
-    rules: &mut [u8],
-    code: &mut [u8],
-    offsets: &mut [u16],
-    entries: &mut [u16],
-) -> Reader
-    ensures { state_view result sheet.new rules.new code.new offsets.new entries.new ≡ def.steps (phase_view follows) (state_view reader sheet.old rules.old code.old offsets.old entries.old) bytes.now }
-{
-    let mut on = reader;
-    let mut i = 0;
-    while i < bytes.len() {
-        let b = bytes[i];
-        i += 1;
-        on = step(follows, on, b, sheet, rules, code, offsets, entries);
-    }
-    on
-}
-
-// The next bytes of a listing's input: nothing is put into the other buffers.
-pub fn feed_listing(
-    reader: Reader,
-    bytes: &[u8],
-    sheet: &mut [u8],
-    rules: &mut [u8],
-    program: &mut [u8],
-) -> Reader
-    ensures { state_view result sheet.new rules.new program.new [] [] ≡ def.steps def.program_text (state_view reader sheet.old rules.old program.old [] []) bytes.now }
-{
-    let mut offsets = [0u16; 0];
-    let mut entries = [0u16; 0];
-    feed(
-        Phase::ProgramText,
-        reader,
-        bytes,
-        sheet,
-        rules,
-        program,
-        &mut offsets,
-        &mut entries,
-    )
 }
 
 // ---- the end of the input
@@ -648,39 +427,16 @@ pub fn feed_listing(
 pub fn ending_of(h: Head) -> Ending
     ensures { ending_view result ≡ def.ending (head_view h) }
 {
-    let phase = h.phase;
-    match phase {
-        Phase::SheetLine => Ending::Countless,
-        Phase::CountLine => Ending::Countless,
-        Phase::RuleLine => Ending::Cut(h.line),
-        Phase::CodeLine => Ending::Cut(h.line),
-        Phase::OffsetLine => Ending::Cut(h.line),
-        Phase::EntryLine => {
-            if is_blank(h) {
-                Ending::Whole
-            } else {
-                Ending::Cut(h.line)
-            }
-        }
+    match h.phase {
         Phase::ProgramText => Ending::Whole,
-        Phase::Malformed => Ending::Cut(h.line),
-        Phase::Uncounted => Ending::Countless,
+        Phase::EntryLine if is_blank(h) => Ending::Whole,
+        Phase::SheetLine | Phase::CountLine | Phase::Uncounted => Ending::Countless,
+        _ => Ending::Cut(h.line),
     }
 }
 
 pub fn is_counted(e: Ending) -> bool
     ensures { result ≡ is_counted (ending_view e) }
 {
-    match e {
-        Ending::Whole => true,
-        Ending::Cut(_) => true,
-        Ending::Countless => false,
-    }
-}
-
-// How many elements of a buffer are handed over.
-pub fn handed_count(read: bool, used: usize, room: usize) -> usize
-    ensures { result ≡ handed_count read used room }
-{
-    if read { numbers::least(used, room) } else { 0 }
+    matches!(e, Ending::Whole | Ending::Cut(_))
 }

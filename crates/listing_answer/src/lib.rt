@@ -1,7 +1,7 @@
 // The end of the listing's input: what was read is compiled, and the text of the answer is put into a lent output.
 #![tactic(auto)]
 
-ghost use Rattle.std.specs.Prelude.{◌≡◌, []};
+ghost use Rattle.std.specs.Prelude.{◌≡◌};
 ghost use Rattle.definition.specs.Sheet.{read_sheet};
 ghost use Rattle.definition.specs.Compile.{Compiles};
 ghost use Rattle.definition.specs.Listing.{cut_line, listed, text};
@@ -10,12 +10,12 @@ ghost use Rattle.input_machine.specs.Machine.{ending, listed_at};
 ghost use Rattle.input_reader.specs.View.{head_view, stores_view, state_view, handed_rules};
 ghost use Rattle.compile.specs.Call.{room, answer_view};
 ghost use Rattle.text.specs.Text.{listing_room, Told};
-ghost use Rattle.listing_answer.specs.View.{handed_program, whole_text, countless_text, answer_text, Known};
+ghost use Rattle.listing_answer.specs.View.{handed_program, whole_text, answer_text, Known};
 
 use compile::call::Answer;
 use definition::{BAD_RULE, BAD_SHEET, ENTRY_SIZE, MAX_CODE, MAX_CONSTANTS, MAX_LINES};
 use emit::Constant;
-use input_reader::{PROGRAM_ROOM, RULE_ROOM, Reader, SHEET_ROOM};
+use input_reader::{PROGRAM_ROOM, Phase, RULE_ROOM, Reader, SHEET_ROOM};
 use text::LISTING_ROOM;
 
 // Numbers that a full line list takes.
@@ -23,26 +23,18 @@ const LINE_NUMBERS: usize = MAX_LINES * ENTRY_SIZE;
 
 // What was read, compiled; where no rules were counted only the sheet is handed over.
 fn compile_read(
-    reader: Reader,
-    sheet: &[u8],
-    rules: &[u8],
-    program: &[u8],
+    reader: &Reader,
     code: &mut [u8],
     constants: &mut [Constant],
     lines: &mut [u16],
 ) -> Answer
-    ensures { Compiles (room code.old constants.old lines.old) (contents (at sheet.now reader.used.sheet)) (handed_rules (ending (head_view reader.head)) (stores_view reader.used sheet.now rules.now program.now [] [])) (handed_program (ending (head_view reader.head)) (stores_view reader.used sheet.now rules.now program.now [] [])) (answer_view result code.new constants.new lines.new) }
+    ensures { let s = stores_view reader.now in let e = ending (head_view reader.now.head) in Compiles (room code.old constants.old lines.old) (contents s.sheet) (handed_rules e s) (handed_program e s) (answer_view result code.new constants.new lines.new) }
 {
-    let used = reader.used;
-    let end = input_reader::ending_of(reader.head);
-    let counted = input_reader::is_counted(end);
-    let a = input_reader::handed_count(true, used.sheet, sheet.len());
-    let b = input_reader::handed_count(counted, used.rules, rules.len());
-    let c = input_reader::handed_count(counted, used.code, program.len());
+    let counted = input_reader::is_counted(input_reader::ending_of(reader.head));
     compile::entry::compile(
-        &sheet[..a],
-        &rules[..b],
-        &program[..c],
+        reader.sheet.handed(true),
+        reader.rules.handed(counted),
+        reader.code.handed(counted),
         code,
         constants,
         lines,
@@ -59,8 +51,8 @@ fn put_whole(
 ) -> usize
     ensures { at out.new result ≡ push_all (at out.old 0) (whole_text (read_sheet sheet.now) (answer_view a code.now constants.now lines.now)) }
 {
-    let n = numbers::least(a.bytes, code.len());
-    let k = numbers::least(a.constants, constants.len());
+    let n = a.bytes.min(code.len());
+    let k = a.constants.min(constants.len());
     let m = text::entry_numbers(a.entries, lines.len());
     let one = text::put_sizes(
         out,
@@ -75,17 +67,7 @@ fn put_whole(
     text::put_instructions(out, three, sheet, &code[..n])
 }
 
-// Where no rules were counted: the sheet's refusal, or that of the count line.
-fn put_countless(number: u8, place: usize, out: &mut [u8]) -> usize
-    ensures { at out.new result ≡ push_all (at out.old 0) (countless_text number place) }
-{
-    if number == BAD_SHEET {
-        text::put_refusal(out, 0, number as u64, place as u64)
-    } else {
-        text::put_refusal(out, 0, BAD_RULE as u64, 0)
-    }
-}
-
+// Where no rules were counted only the sheet's refusal stands; else the count line is refused.
 fn put_answer(
     counted: bool,
     a: Answer,
@@ -97,8 +79,8 @@ fn put_answer(
 ) -> usize
     ensures { at out.new result ≡ push_all (at out.old 0) (answer_text counted (read_sheet sheet.now) (answer_view a code.now constants.now lines.now)) }
 {
-    if !counted {
-        return put_countless(a.number, a.place, out);
+    if !counted && a.number != BAD_SHEET {
+        return text::put_refusal(out, 0, BAD_RULE as u64, 0);
     }
     if a.number != 0 {
         return text::put_refusal(out, 0, a.number as u64, a.place as u64);
@@ -123,32 +105,17 @@ fn put_short(
 }
 
 // The text for what a reader has read, from the output's start, and 0 behind it; its length is answered. Every text fits.
-pub fn finish(
-    reader: Reader,
-    sheet: &[u8],
-    rules: &[u8],
-    program: &[u8],
-    out: &mut [u8; LISTING_ROOM],
-) -> usize
-    ensures { Told listing_room text (contents (at sheet.now reader.used.sheet)) (λ place. listed_at place (state_view reader sheet.now rules.now program.now [] [])) out.new result }
+pub fn finish(reader: &Reader, out: &mut [u8; LISTING_ROOM]) -> usize
+    ensures { Told listing_room text (contents (at reader.now.sheet.cells.now reader.now.sheet.used)) (λ place. listed_at place (state_view reader.now)) out.new result }
 {
     let mut code = [0u8; MAX_CODE];
     let mut constants = [0u32; MAX_CONSTANTS];
     let mut lines = [0u16; LINE_NUMBERS];
-    let a = compile_read(
-        reader,
-        sheet,
-        rules,
-        program,
-        &mut code,
-        &mut constants,
-        &mut lines,
-    );
-    let end = input_reader::ending_of(reader.head);
-    let counted = input_reader::is_counted(end);
-    let used = input_reader::handed_count(true, reader.used.sheet, sheet.len());
-    let n = put_short(counted, a, &sheet[..used], &code, &constants, &lines, out);
-    store::zero_bytes(out, n);
+    let a = compile_read(reader, &mut code, &mut constants, &mut lines);
+    let counted = input_reader::is_counted(input_reader::ending_of(reader.head));
+    let sheet = reader.sheet.handed(true);
+    let n = put_short(counted, a, sheet, &code, &constants, &lines, out);
+    store::set_from(out, n, 0);
     n
 }
 
@@ -159,7 +126,14 @@ pub fn answer(input: &[u8], out: &mut [u8; LISTING_ROOM]) -> usize
     let mut sheet = [0u8; SHEET_ROOM];
     let mut rules = [0u8; RULE_ROOM];
     let mut program = [0u8; PROGRAM_ROOM];
-    let start = input_reader::start();
-    let reader = input_reader::feed_listing(start, input, &mut sheet, &mut rules, &mut program);
-    finish(reader, &sheet, &rules, &program, out)
+    let mut reader = Reader::start(
+        Phase::ProgramText,
+        &mut sheet,
+        &mut rules,
+        &mut program,
+        &mut [],
+        &mut [],
+    );
+    reader.feed(input);
+    finish(&reader, out)
 }

@@ -1,86 +1,84 @@
 -- Turn by turn: what was read so far, that each turn gave a byte at least, and that those bytes are the input's first.
-use Rattle.std.proofs.Common.{◌≡◌, ℕ, ◌+◌, ◌≤◌, refl, sym, ◌∙◌, List, [], Bool, true, false, length, take, nat_lt, arith, length-append}
+use Rattle.std.proofs.Common.{◌≡◌, ℕ, ◌+◌, ◌≤◌, refl, List, [], Bool, true, false, Result, Ok, length, take, nat_lt, arith, length-append}
 use Rattle.std.specs.declared.option.Option.{Option}
+use Rattle.std.specs.Result.{IsErr}
+use Rattle.std.proofs.lemmas.Result.{IfOk-from_err}
 use borrow.Author.Tests.{ltb-true, ltb-false}
 use Rattle.std.specs.Io.KnownBytes.{Consumes, Keeps, IsAtEnd}
 use Rattle.std.proofs.KnownBytes.{Consumes-nil, Consumes-kept, Consumes-trans}
 use Rattle.input_machine.specs.Machine.{Phase, State, steps}
-use Rattle.input_reader.proofs.Feeds.{reading-then, Continuing, continuing-from, continuing-then}
+use Rattle.input_reader.specs.View.{Reading}
+use Rattle.input_reader.proofs.Feeds.{reading-none, reading-then}
 use Rattle.standard_input.specs.Turns.{Turned}
 
-differ : {A : Type 0} → ◌≡◌ {A = Bool} false true → A
-differ e = absurd (let q : ◌≡◌ {A = ℕ} 0 1 = cc in omega arith)
+-- ---- one read
 
-none_read : (q : Phase) (s t : State) → t ≡ s → t ≡ steps q s []
-unfolding steps
-none_read q s t e = e
-
-pub record Going (known left : Option (List ℕ)) (q : Phase) (s t : State) (turns : ℕ) (more failed : Bool) : Type 0 where
-  pub turned : Turned known left q s t turns more failed
-  pub on : Continuing q s t
-
-pub goes-from : (known : Option (List ℕ)) (q : Phase) (s t : State) (turns : ℕ) → t ≡ s → turns ≡ 0 → Going known known q s t turns true false
-goes-from known q s t turns e z = record {
-  turned = record {
-    reading = record { bytes = []; is = none_read q s t e };
-    many = λ m. omega (arith, z);
-    last = λ f. differ f;
-    given = Consumes-nil known;
-    all = λ m f. differ (sym m);
-  };
-  on = continuing-from q s t e;
-}
-
--- a turn more
-pub goes_on : {a b c : Option (List ℕ)} {q : Phase} {s t u : State} {turns next : ℕ} {more failed m f : Bool} → Going a b q s t turns more failed → more ≡ true → next ≤ turns + 1 → Turned b c q t u 1 m f
-    → Going a c q s u next m f
-unfolding reading-then
-goes_on {a} {b} {c} x sure le y =
-    let first = x.turned.reading in
-    let then = y.reading in
-    record {
-      turned = record {
-        reading = reading-then first then;
-        many = λ e. let p = x.turned.many sure in let r = y.many e in let z = length-append first.bytes then.bytes in omega arith;
-        last = y.last;
-        given = Consumes-trans a b c first.bytes then.bytes x.turned.given y.given;
-        all = y.all;
-      };
-      on = continuing-then x.on y.reading;
-    }
-
--- there is no more, or so many turns were taken
-pub turned : {known left : Option (List ℕ)} {q : Phase} {s t : State} {turns all : ℕ} {more failed : Bool} → Going known left q s t turns more failed → (more ≡ true → all ≤ turns) → Turned known left q s t all more failed
-turned a le = record {
-  reading = a.turned.reading;
-  many = λ e. let x = a.turned.many e in let y = le e in omega arith;
-  last = a.turned.last;
-  given = a.turned.given;
-  all = a.turned.all;
-}
-
-pub no_more : {A : Type 0} {more : Bool} → more ≡ false → more ≡ true → A
-no_more e f = differ (sym e ∙ f)
-
--- ---- a read that failed
-
-pub none : {known left : Option (List ℕ)} {q : Phase} {s : State} {turns : ℕ} → Keeps known left → Turned known left q s s turns false true
-none {known} {left} {q} {s} k = record {
-  reading = record { bytes = []; is = none_read q s s refl };
-  many = λ m. differ m;
-  last = λ f. refl;
+-- a read that failed
+pub none : {E : Type 0} {known left : Option (List ℕ)} {q : Phase} {s : State} {turns : ℕ} (r : Result Bool E) → IsErr r → Keeps known left → Turned known left q s s turns r
+unfolding reading-none
+none {known = known} {left = left} {q = q} {s = s} r e k = record {
+  reading = reading-none q s;
+  many = IfOk-from_err r _ e;
   given = Consumes-kept known known left [] (Consumes-nil known) k;
-  all = λ m f. differ (sym f);
+  all = IfOk-from_err r _ e;
 }
 
--- ---- a read that gave n bytes
-
-pub some : {known left : Option (List ℕ)} {q : Phase} {s t : State} (n : ℕ) (bytes : List ℕ) → t ≡ steps q s (take n bytes) → n ≡ length (take n bytes) → Consumes known left (take n bytes) → (n ≡ 0 → IsAtEnd left)
-    → Turned known left q s t 1 (nat_lt 0 n) false
+-- a read that gave n bytes
+pub some : {E : Type 0} {known left : Option (List ℕ)} {q : Phase} {s t : State} (n : ℕ) (bytes : List ℕ) → t ≡ steps q s (take n bytes) → n ≡ length (take n bytes) → Consumes known left (take n bytes) → (n ≡ 0 → IsAtEnd left)
+    → Turned {E = E} known left q s t 1 (Ok (nat_lt 0 n))
 some n bytes is long given end = record {
   reading = record { bytes = take n bytes; is = is };
   many = λ m. let p = ltb-true 0 n m in omega (arith, long);
-  last = λ f. differ f;
   given = given;
-  all = λ m f. end (let p = ltb-false 0 n m in omega arith);
+  all = λ m. end (let p = ltb-false 0 n m in omega arith);
+}
+
+-- ---- turn by turn
+
+pub record Going (known left : Option (List ℕ)) (q : Phase) (s t : State) (turns : ℕ) : Type 0 where
+  pub reading : Reading q s t
+  pub many : turns ≤ length reading.bytes
+  pub given : Consumes known left reading.bytes
+
+pub goes-from : (known : Option (List ℕ)) (q : Phase) (s : State) → Going known known q s s 0
+unfolding reading-none
+goes-from known q s = record { reading = reading-none q s; many = omega arith; given = Consumes-nil known }
+
+module _ {E : Type 0} {a b c : Option (List ℕ)} {q : Phase} {s t u : State} {turns : ℕ} (x : Going a b q s t turns) where
+  -- a turn more
+  pub goes_on : Turned {E = E} b c q t u 1 (Ok true) → Going a c q s u (turns + 1)
+  unfolding reading-then
+  goes_on y = record {
+    reading = reading-then x.reading y.reading;
+    many = let p = x.many in let r = y.many refl in let z = length-append x.reading.bytes y.reading.bytes in omega arith;
+    given = Consumes-trans a b c x.reading.bytes y.reading.bytes x.given y.given;
+  }
+
+  -- the last turn: the input's end
+  pub ends : (all : ℕ) → Turned {E = E} b c q t u 1 (Ok false) → Turned {E = E} a c q s u all (Ok false)
+  unfolding reading-then
+  ends all y = record {
+    reading = reading-then x.reading y.reading;
+    many = λ m. absurd (let e : false ≡ true = m in cc);
+    given = Consumes-trans a b c x.reading.bytes y.reading.bytes x.given y.given;
+    all = y.all;
+  }
+
+  -- the last turn: an error
+  pub fails : {r : Result Bool E} (all : ℕ) (f : Result Bool E) → IsErr f → Turned b c q t u 1 r → Turned a c q s u all f
+  unfolding reading-then
+  fails all f e y = record {
+    reading = reading-then x.reading y.reading;
+    many = IfOk-from_err f _ e;
+    given = Consumes-trans a b c x.reading.bytes y.reading.bytes x.given y.given;
+    all = IfOk-from_err f _ e;
+  }
+
+-- so many turns were taken
+pub spent : {E : Type 0} {known left : Option (List ℕ)} {q : Phase} {s t : State} {turns : ℕ} (all : ℕ) → all ≤ turns → Going known left q s t turns → Turned {E = E} known left q s t all (Ok true)
+spent all h x = record {
+  reading = x.reading;
+  many = λ m. let p = x.many in omega (arith, h);
+  given = x.given;
+  all = λ m. absurd (let e : true ≡ false = m in cc);
 }

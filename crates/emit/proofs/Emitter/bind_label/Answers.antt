@@ -1,7 +1,6 @@
 use Rattle.emit.proofs.Steps.{none-is, some-is}
 use mathlib.Core.Path.{refl}
 use mathlib.Core.List.{[], ◌∷◌}
-use native.Mathlib.Omega.{arith}
 use Rattle.emit.proofs.Labels.{bind-stays, bind-nowhere, bind_goes, bound-label}
 use borrow.Author.Rules.{rules}
 use Rattle.emit.proofs.Emitter.bind_label.Goals as goal
@@ -9,9 +8,6 @@ use Rattle.emit.proofs.Emitter.bind_label.Goals.{then-n-self, else-n-self}
 
 pub returns-then-is_some : goal.returns-then-is_some
 returns-then-is_some c = bind-stays (search rules) (search rules) (some-is _ c.is_some.ensures c.if-is_some.true)
-
-pub put_label-requires : goal.put_label-requires
-put_label-requires c = record { n_lt_max_labels = omega (arith, c.requires.fine.labels) }
 
 pub returns : goal.returns
 returns c =

@@ -1,5 +1,4 @@
 use Rattle.emit.proofs.Steps.{none-is, some-is}
-use native.Mathlib.Omega.{arith}
 use Rattle.emit.proofs.Loads.{fold_stays, fold-full, fold-goes}
 use borrow.Author.Rules.{rules}
 use Rattle.emit.proofs.Emitter.fold_store.Goals as goal
@@ -9,18 +8,6 @@ returns-then-is_some c = fold_stays _ (search rules) (search rules) (some-is _ c
 
 pub returns-then-self-ge-MAX_CODE : goal.returns-then-self-ge-MAX_CODE
 returns-then-self-ge-MAX_CODE c = fold-full _ c.requires.fine c.requires.code_len c.if-self-ge-MAX_CODE.true c.refuse.ensures
-
-pub insert_before_three-requires : goal.insert_before_three-requires
-insert_before_three-requires c = omega (arith, c.requires.code_len, c.requires.le_size)
-
-pub overflow_add-self : goal.overflow_add-self
-overflow_add-self c = omega (arith, c.requires.fine.depth, c.requires.fine.size)
-
-pub overflow_add-self-2 : goal.overflow_add-self-2
-overflow_add-self-2 c = omega (arith, c.requires.fine.depth, c.requires.fine.size)
-
-pub overflow_add-self-3 : goal.overflow_add-self-3
-overflow_add-self-3 c = omega (arith, c.requires.fine.depth, c.requires.fine.size)
 
 pub returns : goal.returns
 returns c = fold-goes _ c.requires.fine c.requires.code_len c.opcode_of-opcode.ensures c.max-deepest.ensures (none-is _ c.is_some.ensures c.if-is_some.false) c.if-self-ge-MAX_CODE.false c.requires.le_size c.insert_before_three.ensures c.with.ensures

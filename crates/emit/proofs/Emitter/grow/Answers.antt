@@ -1,11 +1,7 @@
-use native.Mathlib.Omega.{arith}
 use Rattle.definition.specs.Opcode.{effect}
 use Rattle.emit.proofs.Instructions.{grows}
 use borrow.Author.Rules.{rules}
 use Rattle.emit.proofs.Emitter.grow.Goals as goal
-
-pub overflow_cast-self : goal.overflow_cast-self
-overflow_cast-self c = omega (arith, c.requires.fine.depth, c.requires.fine.size)
 
 pub returns : goal.returns
 unfolding effect
