@@ -12,10 +12,12 @@ use Rattle.definition.specs.Lent.{filled, entry_numbers, entries_of}
 use Rattle.definition.specs.Optimize.{Pipeline, run, identity}
 use Rattle.definition.specs.Rules.{Rule, read_rules}
 use Rattle.opcode.specs.Table.{IsTable}
-use Rattle.rules.specs.View.{IsRules}
 use Rattle.definition.specs.Alone as def-alone
-use Rattle.definition.specs.Alone.{Given, Rewritten, Room, checked, rewritten}
-use Rattle.optimize.specs.declared.alone.Answer.{Answer}
+use Rattle.definition.specs.Alone.{Given, Rewritten, Room, checked, rewritten, rewrite_into, answer}
+use Rattle.definition.specs.View.{refusal_number}
+use Rattle.definition.specs.Compile.{Free}
+use Rattle.definition.specs.declared.Refused.{Refused}
+use Rattle.optimize.specs.declared.alone.Rewritten as code
 use Rattle.line_map.specs.View.{entry_view}
 use Rattle.rewrite.specs.View.{offsets_where, marked}
 use Rattle.line_map.specs.declared.LineEntry.{LineEntry}
@@ -58,10 +60,9 @@ pipeline code protected total = record { bytecode = code; protected = protected;
 unfoldable pub passes : Sheet → List Rule → Pipeline → Pipeline
 passes s rules p = run s rules 3 (run s rules 2 (run s rules 1 p))
 
--- what is lent to a pass
-pub record Runnable (sheet rules : List ℕ) (count : ℕ) (code protected : List ℕ) : Type 0 where
+-- what is lent to a pass beside its rules
+pub record Runnable (sheet code protected : List ℕ) : Type 0 where
   pub table : IsTable sheet
-  pub held : IsRules rules count
   pub few : length code ≤ max_code
   pub small : Small (suc (length code)) protected
 
@@ -136,10 +137,10 @@ abbrev pub room : List ℕ → List ℕ → List ℕ → Room
 room bytes offsets entries = room_of (length bytes) (length offsets) (length entries)
 
 -- the answer with what the outputs hold
-abbrev pub answer_view : Answer → List ℕ → List ℕ → List ℕ → def-alone.Answer
-answer_view r bytes offsets entries = record {
-  number = r.number;
-  place = r.place;
+abbrev pub answer_view : Result code.Rewritten Refused → List ℕ → List ℕ → List ℕ → def-alone.Answer
+answer_view (Ok r) bytes offsets entries = record {
+  number = 0;
+  place = 0;
   code_length = r.bytes;
   protected_count = r.protected;
   entry_count = r.entries;
@@ -147,11 +148,27 @@ answer_view r bytes offsets entries = record {
   protected = offsets;
   lines = entries;
 }
+answer_view (Err e) bytes offsets entries = record {
+  number = refusal_number e.refusal;
+  place = e.place;
+  code_length = 0;
+  protected_count = 0;
+  entry_count = 0;
+  code = bytes;
+  protected = offsets;
+  lines = entries;
+}
 
--- tables of a sheet and of rules that were accepted
-pub record Tables (sheet rules : List ℕ) (count : ℕ) : Type 0 where
-  pub table : IsTable sheet
-  pub held : IsRules rules count
+-- what is found before the outputs are zeroed, which hold anything where it is a refusal
+abbrev pub Gives : Room → Res Rewritten → Result code.Rewritten Refused → List ℕ → List ℕ → List ℕ → Type 0
+Gives room x (Ok r) bytes offsets entries = answer_view (Ok r) bytes offsets entries ≡ answer room x
+Gives room x (Err e) bytes offsets entries = x ≡ refuse (refusal_number e.refusal) e.place
+
+-- all of it is fixed but 7's place
+pub record Finds (room : Room) (sheet rules : List ℕ) (g : Given) (r : Result code.Rewritten Refused) (bytes offsets entries : List ℕ) : Type 0 where
+  pub place : ℕ
+  pub free : Free sheet place
+  pub is : Gives room (rewrite_into place room sheet rules g) r bytes offsets entries
 
 -- outputs that no result is too long for
 pub record Roomy (r : Room) : Type 0 where
@@ -166,12 +183,12 @@ pub record Within (g : Given) (r : Room) : Type 0 where
   pub protected : length g.protected ≤ r.protected
   pub lines : length g.lines / entry_size * entry_size ≤ r.lines
 
--- the refusal of what is over its limit; 0 if nothing is
-unfoldable pub over_limit : ℕ → ℕ → ℕ → ℕ
-over_limit code protected entries = elim (leb code max_code) [
-  | true ↦ elim (leb protected max_protected) [ true ↦ elim (leb entries max_lines) [ true ↦ 0 | false ↦ lines_full ] | false ↦ labels_full ]
-  | false ↦ code_full
-]
+-- 10, 11 and 12, for so many bytes, protected offsets and entries
+unfoldable pub limited : ℕ → ℕ → ℕ → Res (Unit {0})
+limited code protected entries = do
+  demand (leb code max_code) code_full 0
+  demand (leb protected max_protected) labels_full 0
+  demand (leb entries max_lines) lines_full 0
 
 -- what is left of the call after 10, 11 and 12, and before them
 unfoldable pub after_limits : Sheet → List Rule → Given → Res Rewritten

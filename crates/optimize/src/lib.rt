@@ -17,10 +17,11 @@ ghost use Rattle.optimize.specs.View.{Small, Marks, Bounds, Runnable, pipeline, 
 
 use definition::{ENTRY_SIZE, PASS_COUNT};
 use line_map::LineEntry;
+use rules::Rules;
 
 pub mod alone; // alone.rt: the entry that is called alone
 
-pub use alone::{Answer, rewrite_alone};
+pub use alone::{Rewritten, rewrite_alone};
 
 const PASSES: u8 = PASS_COUNT as u8;
 
@@ -142,8 +143,7 @@ pub fn remap_line_map(moves: &[u16], end: usize, lines: &[u16], out: &mut [u16])
 // One pass, with the protected offsets and the map so far moved with the code. Marks and moves are lent without any, and left so.
 fn run(
     sheet: &[u8],
-    rules: &[u16],
-    count: usize,
+    rules: Rules,
     pass: u8,
     code: &mut [u8],
     protected: &mut [u16],
@@ -151,15 +151,15 @@ fn run(
     marks: &mut [u8],
     moves: &mut [u16],
 ) -> usize
-    requires runnable { Runnable sheet.now rules.now count code.old protected.old }
+    requires runnable { Runnable sheet.now code.old protected.old }
     requires clear { Clear (length code.old) marks.old }
     requires clear_2 { Clear (length code.old) moves.old }
-    ensures ran { Ran (run (sheet_in sheet.now) (rules_in rules.now count) pass (pipeline code.old protected.old total.old)) code.old code.new protected.new total.new result }
+    ensures ran { Ran (run (sheet_in sheet.now) (rules_in rules.entry.table.now rules.entry.count) pass (pipeline code.old protected.old total.old)) code.old code.new protected.new total.new result }
     ensures clear_3 { Clear (length code.old) marks.new }
     ensures clear_4 { Clear (length code.old) moves.new }
 {
     mark(protected, marks);
-    let n = rewrite::apply_peephole(sheet, rules, count, pass, marks, code, moves);
+    let n = rewrite::apply_peephole(sheet, rules, pass, marks, code, moves);
     move_all(moves, protected);
     move_all(moves, total);
     store::set_from(marks, 0, 0);
@@ -170,25 +170,23 @@ fn run(
 // The three passes, each over what the one before left. Marks and moves are lent without any, an element for each offset: used, and cleared, as far as the code goes.
 pub fn optimize(
     sheet: &[u8],
-    rules: &[u16],
-    count: usize,
+    rules: Rules,
     code: &mut [u8],
     protected: &mut [u16],
     total: &mut [u16],
     marks: &mut [u8],
     moves: &mut [u16],
 ) -> usize
-    requires runnable { Runnable sheet.now rules.now count code.old protected.old }
+    requires runnable { Runnable sheet.now code.old protected.old }
     requires clear { Clear (length code.old) marks.old }
     requires clear_2 { Clear (length code.old) moves.old }
-    ensures { Ran (passes (sheet_in sheet.now) (rules_in rules.now count) (pipeline code.old protected.old total.old)) code.old code.new protected.new total.new result }
+    ensures { Ran (passes (sheet_in sheet.now) (rules_in rules.entry.table.now rules.entry.count) (pipeline code.old protected.old total.old)) code.old code.new protected.new total.new result }
 {
     let mut n = code.len();
     for pass in 1..=PASSES {
         n = run(
             sheet,
             rules,
-            count,
             pass,
             &mut code[..n],
             protected,
@@ -203,8 +201,7 @@ pub fn optimize(
 // What code and protected offsets called alone come to, in lent outputs that have room for them. The code is copied once, here.
 fn rewrite_into(
     sheet: &[u8],
-    rules: &[u16],
-    count: usize,
+    rules: Rules,
     code: &[u8],
     protected: &[u16],
     bytes: &mut [u8],
@@ -213,11 +210,11 @@ fn rewrite_into(
     marks: &mut [u8],
     moves: &mut [u16],
 ) -> usize
-    requires runnable { Runnable sheet.now rules.now count code.now protected.now }
+    requires runnable { Runnable sheet.now code.now protected.now }
     requires code_in_bounds { (length code.now ≤ length bytes.old) × (length protected.now ≤ length offsets.old) }
     requires clear { Clear (length code.now) marks.old }
     requires clear_2 { Clear (length code.now) moves.old }
-    ensures { Rewrote (passes (sheet_in sheet.now) (rules_in rules.now count) (pipeline code.now protected.now total.old)) bytes.old offsets.old bytes.new offsets.new total.new result }
+    ensures { Rewrote (passes (sheet_in sheet.now) (rules_in rules.entry.table.now rules.entry.count) (pipeline code.now protected.now total.old)) bytes.old offsets.old bytes.new offsets.new total.new result }
 {
     let n = code.len();
     let k = protected.len();
@@ -226,7 +223,6 @@ fn rewrite_into(
     optimize(
         sheet,
         rules,
-        count,
         &mut bytes[..n],
         &mut offsets[..k],
         total,

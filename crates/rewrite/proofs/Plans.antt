@@ -15,8 +15,6 @@ use Rattle.definition.specs.Rules.{keep}
 use Rattle.definition.specs.Rewrite.{Bytes, Matcher, decode, instruction, applied, apply_peephole}
 use Rattle.store.specs.Fill.{zeroed_from}
 use Rattle.rules.specs.declared.Action.{Action}
-use Rattle.rules.specs.declared.Found.{Found}
-use Rattle.rules.specs.declared.Found.TheVariants.{At, Nothing}
 use Rattle.rules.specs.View.{action_view, IsRules, rule_at, actions_in, pair_at}
 use Rattle.rules.proofs.Lookup.{actions-there, first-action, second-action}
 use Rattle.rewrite.proofs.Looking.{looked-inside}
@@ -69,15 +67,15 @@ module _ (s : Sheet) (table : List ℕ) (count pass : ℕ) (marks code : List �
           → Planned s (matcher table count pass) (marked marks) code at (next_view next) r.size (action_view r.action) (next_view r.next)
       decided-protected h k = rw asked (kept k (plan-protected s _ _ code at a here b after full more h))
 
-      module _ (free : (has (marked marks) at || has (marked marks) (at + length a)) ≡ false) {f : Found} (l : Looked table count (matcher table count pass (instruction s a) (instruction s b)) f) where
-        pub decided-unmatched : {r : Plan} → f ≡ Nothing → Kept (length a) r
+      module _ (free : (has (marked marks) at || has (marked marks) (at + length a)) ≡ false) {f : std.Option ℕ} (l : Looked table count (matcher table count pass (instruction s a) (instruction s b)) f) where
+        pub decided-unmatched : {r : Plan} → f ≡ None → Kept (length a) r
             → Planned s (matcher table count pass) (marked marks) code at (next_view next) r.size (action_view r.action) (next_view r.next)
         unfolding pair_at
         decided-unmatched e k =
             let m : matcher table count pass (instruction s a) (instruction s b) ≡ none = sym l.is ∙ rw e in
             rw asked (kept k (plan-unmatched s _ _ code at a here b after full more free m))
 
-        pub decided-matched : (i : ℕ) (pair : List Action) (d : Action) → f ≡ At i → IsRules table count → map action_view pair ≡ actions_in table i
+        pub decided-matched : (i : ℕ) (pair : List Action) (d : Action) → f ≡ Some i → IsRules table count → map action_view pair ≡ actions_in table i
             → Planned s (matcher table count pass) (marked marks) code at (next_view next) (length a) (action_view (get_or pair 0 d)) (some (action_view (get_or pair 1 d)))
         unfolding pair_at
         decided-matched i pair d e held acts =
@@ -103,5 +101,5 @@ turn-within {s} {code = code} {at = at} {z = z} p =
     f.within p.full
 
 -- `decide` is asked of the code as it is
-pub still-ready : {sheet rules marks code₀ code : List ℕ} {count : ℕ} → Ready sheet rules count marks code₀ → length code ≡ length code₀ → Ready sheet rules count marks code
-still-ready r e = record { table = r.table; held = r.held; slots = rw e r.slots; small = rw e r.small }
+pub still-ready : {sheet marks code₀ code : List ℕ} → Ready sheet marks code₀ → length code ≡ length code₀ → Ready sheet marks code
+still-ready r e = record { table = r.table; slots = rw e r.slots; small = rw e r.small }

@@ -12,9 +12,9 @@ use Rattle.definition.specs.Rewrite.{Bytes, Matcher, OffsetMap, decode, actions,
 use Rattle.definition.specs.Lent.{filled}
 use Rattle.field.specs.View.{option_of}
 use Rattle.opcode.specs.Table.{IsTable}
-use Rattle.rules.specs.View.{action_view, rules_in, IsRules, Inside, pair_at}
+use Rattle.rules.specs.View.{action_view, rules_in, Inside, pair_at}
 use Rattle.rules.specs.declared.Action as code
-use Rattle.rules.specs.declared.Found.{Found}
+use Rattle.rules.specs.declared.Matcher as lent
 use Rattle.rewrite.specs.declared.Plan.{Plan}
 
 -- the first of some instructions; no bytes where there is none
@@ -60,8 +60,12 @@ FittingNext (some x) i = Fitting x (length i)
 abbrev pub matcher : List ℕ → ℕ → ℕ → Matcher
 matcher table count pass = λ a b. matches pass (rules_in table count) a b
 
+-- the same in code
+abbrev pub matches_in : lent.Matcher → Matcher
+matches_in m = matcher m.rules.table.now m.rules.count m.pass
+
 -- the pair of actions that was asked for is that of a rule of the table
-pub record Looked (table : List ℕ) (count : ℕ) (result : Option (Action × Action)) (r : Found) : Type 0 where
+pub record Looked (table : List ℕ) (count : ℕ) (result : Option (Action × Action)) (r : std.Option ℕ) : Type 0 where
   pub is : pair_at table r ≡ result
   pub inside : Inside count r
 
@@ -75,10 +79,9 @@ pub record Kept (z : ℕ) (r : Plan) : Type 0 where
   pub action : action_view r.action ≡ keep
   pub next : next_view r.next ≡ none
 
--- what is lent to a pass: the tables of a sheet and of rules, a mark for each offset, and code within its limit
-pub record Ready (sheet rules : List ℕ) (count : ℕ) (marks code : List ℕ) : Type 0 where
+-- what is lent to a pass beside its rules: the table of a sheet, a mark for each offset, and code within its limit
+pub record Ready (sheet marks code : List ℕ) : Type 0 where
   pub table : IsTable sheet
-  pub held : IsRules rules count
   pub slots : length code < length marks
   pub small : length code ≤ max_code
 

@@ -5,12 +5,12 @@ ghost use Rattle.std.specs.Prelude.{◌≡◌, ◌+◌, ◌≤◌, ◌<◌, leng
 ghost use Rattle.definition.specs.Field.{has};
 ghost use Rattle.definition.specs.Rewrite.{decode, operand_of, instruction, applied, apply_peephole};
 ghost use Rattle.opcode.specs.Table.{IsTable, sheet_in};
-ghost use Rattle.rules.specs.View.{action_view, instruction_view, IsRules, Indexed};
-ghost use Rattle.rewrite.specs.View.{first_of, part_of, marked, matcher, Looked, Kept, next_view, Fitting, FittingNext, Ready, Decided, Puts, Clear, Peephole};
+ghost use Rattle.rules.specs.View.{action_view, instruction_view};
+ghost use Rattle.rewrite.specs.View.{first_of, part_of, marked, matcher, matches_in, Looked, Kept, next_view, Fitting, FittingNext, Ready, Decided, Puts, Clear, Peephole};
 
 use definition::MAX_CODE;
 use opcode::sheet;
-use rules::{Action, Found, Instruction};
+use rules::{Action, Instruction, Matcher, Rules};
 
 // Elements of a table by offset: one for each offset of the longest code, its end among them.
 pub const SLOTS: usize = MAX_CODE + 1;
@@ -98,22 +98,11 @@ fn keep(size: usize) -> Plan
 }
 
 // Which rule of a pass fits an instruction and the next one.
-fn look_up(
-    sheet: &[u8],
-    rules: &[u16],
-    count: usize,
-    index: &[u16],
-    pass: u8,
-    first: Instruction,
-    b: &[u8],
-) -> Found
-    requires table { IsTable sheet.now }
-    requires rules { IsRules rules.now count }
-    requires indexed { Indexed rules.now count pass index.now }
-    ensures { Looked rules.now count (matcher rules.now count pass (instruction_view first) (instruction (sheet_in sheet.now) b.now)) result }
+fn look_up(sheet: &[u8], matcher: &Matcher, first: Instruction, b: &[u8]) -> Option<usize>
+    requires { IsTable sheet.now }
+    ensures { Looked matcher.now.rules.table.now matcher.now.rules.count (matches_in matcher.now (instruction_view first) (instruction (sheet_in sheet.now) b.now)) result }
 {
-    let second = seen(sheet, b);
-    rules::find(rules, count, index, pass, first, second)
+    matcher.find(first, seen(sheet, b))
 }
 
 // Whether a table of marks marks an offset.
@@ -128,19 +117,15 @@ fn is_marked(marks: &[u8], at: usize) -> bool
 #[tactic(auto, using(crate::proofs::Decoding::part_within))]
 fn decide(
     sheet: &[u8],
-    rules: &[u16],
-    count: usize,
-    index: &[u16],
-    pass: u8,
+    matcher: &Matcher,
     marks: &[u8],
     code: &[u8],
     at: usize,
     next: Option<Action>,
 ) -> Option<Plan>
-    requires ready { Ready sheet.now rules.now count marks.now code.now }
-    requires indexed { Indexed rules.now count pass index.now }
+    requires ready { Ready sheet.now marks.now code.now }
     requires fitting_next { FittingNext (next_view next) (first_of (decode (sheet_in sheet.now) (drop at code.now))) }
-    ensures { Decided (sheet_in sheet.now) (matcher rules.now count pass) (marked marks.now) code.now at (next_view next) result }
+    ensures { Decided (sheet_in sheet.now) (matches_in matcher.now) (marked marks.now) code.now at (next_view next) result }
 {
     let a = decode(sheet, code, at)?;
     let size = a.len();
@@ -152,7 +137,7 @@ fn decide(
         });
     }
     let first = seen(sheet, a);
-    if rules::head(index, first.role) == rules::NO_RULE {
+    if matcher.head(first.role) == rules::NO_RULE {
         return Some(keep(size));
     }
     let then = at + size;
@@ -162,10 +147,10 @@ fn decide(
     if is_marked(marks, at) || is_marked(marks, then) {
         return Some(keep(size));
     }
-    let Found::At(i) = look_up(sheet, rules, count, index, pass, first, b) else {
+    let Some(i) = look_up(sheet, matcher, first, b) else {
         return Some(keep(size));
     };
-    let pair = rules::actions(rules, i);
+    let pair = rules::actions(matcher.rules.table, i);
     Some(Plan {
         size,
         action: pair[0],
@@ -176,28 +161,27 @@ fn decide(
 // One pass over a whole slice: it holds the rewritten code and then 0, the map leads from old offsets to new ones, and the new length is answered.
 pub fn apply_peephole(
     sheet: &[u8],
-    rules: &[u16],
-    count: usize,
+    rules: Rules,
     pass: u8,
     marks: &[u8],
     code: &mut [u8],
     moves: &mut [u16],
 ) -> usize
-    requires ready { Ready sheet.now rules.now count marks.now code.old }
+    requires ready { Ready sheet.now marks.now code.old }
     requires clear { Clear (length code.old) moves.old }
-    ensures { Peephole (apply_peephole (sheet_in sheet.now) (matcher rules.now count pass) (marked marks.now) code.old) code.old code.new moves.new result }
+    ensures { Peephole (apply_peephole (sheet_in sheet.now) (matcher rules.entry.table.now rules.entry.count pass) (marked marks.now) code.old) code.old code.new moves.new result }
 {
-    let index = rules::make_index(rules, count, pass);
+    let matcher = Matcher::new(rules, pass);
     let mut at = 0;
     let mut to = 0;
     let mut next = None;
-    while let Some(plan) = decide(sheet, rules, count, &index, pass, marks, code, at, next) {
+    while let Some(plan) = decide(sheet, &matcher, marks, code, at, next) {
         moves[at] = to as u16;
         to = apply(code, at, to, plan.size, plan.action);
         at += plan.size;
         next = plan.next;
     }
     moves[at] = to as u16;
-    store::zero_bytes(code, to);
+    store::set_from(code, to, 0);
     to
 }

@@ -7,7 +7,7 @@ pub loop-plan-init : goal.loop-plan-init
 loop-plan-init c = begins _ _ _ _ _ c.requires.clear.slots c.requires.clear.none
 
 pub decide-requires : goal.decide-requires
-decide-requires c = record { ready = still-ready c.requires.ready c.loop-plan.invariant.room; indexed = c.make_index-index.ensures; fitting_next = c.loop-plan.invariant.later }
+decide-requires c = record { ready = still-ready c.requires.ready c.loop-plan.invariant.room; fitting_next = c.loop-plan.invariant.later }
 
 pub apply-to-requires : goal.apply-to-requires
 apply-to-requires c = record { to_le_from = (c.loop-plan.invariant.behind, turn-within c.in-Some.ensures); fitting = c.in-Some.ensures.fits }
@@ -22,4 +22,4 @@ pub loop-plan-preserved : goal.loop-plan-preserved
 loop-plan-preserved c = turns c.loop-plan.invariant c.in-Some.ensures c.apply-to.ensures
 
 pub returns : goal.returns
-returns c = finishes c.loop-plan.invariant c.in_default.ensures c.zero_bytes.ensures
+returns c = finishes c.loop-plan.invariant c.in_default.ensures c.set_from.ensures

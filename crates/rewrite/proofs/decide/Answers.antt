@@ -14,10 +14,10 @@ pub returns-in-Some : goal.returns-in-Some
 returns-in-Some c = decided-known _ _ _ _ _ _ _ _ _ c.in_ok-a.ensures.is c.in_ok-a.ensures.full c.in-Some.is c.requires.fitting_next
 
 pub returns-then-head-eq-NO_RULE : goal.returns-then-head-eq-NO_RULE
-returns-then-head-eq-NO_RULE c = decided-unstarted (sheet_in c.args.sheet.now) c.args.rules.now c.args.count c.args.pass c.args.marks.now c.args.code.now c.args.at c.args.next _ c.in_ok-a.ensures.is c.in_ok-a.ensures.full c.in_default.is (unmatched _ _ _ c.requires.ready.held c.requires.indexed c.seen-first.ensures (sym c.head.ensures ∙ c.if-head-eq-NO_RULE.true)) c.keep.ensures
+returns-then-head-eq-NO_RULE c = decided-unstarted (sheet_in c.args.sheet.now) c.args.matcher.now.rules.table.now c.args.matcher.now.rules.count c.args.matcher.now.pass c.args.marks.now c.args.code.now c.args.at c.args.next _ c.in_ok-a.ensures.is c.in_ok-a.ensures.full c.in_default.is (unmatched _ _ _ c.args.matcher.now.rules.read c.args.matcher.now.indexed c.seen-first.ensures (sym c.head.ensures ∙ c.if-head-eq-NO_RULE.true)) c.keep.ensures
 
 pub returns-in_default-decode : goal.returns-in_default-decode
-returns-in_default-decode c = decided-last (sheet_in c.args.sheet.now) c.args.rules.now c.args.count c.args.pass c.args.marks.now c.args.code.now c.args.at c.args.next _ c.in_ok-a.ensures.is c.in_ok-a.ensures.full _ c.in_default-decode.ensures.is c.in_default.is refl c.keep-in_default-decode.ensures
+returns-in_default-decode c = decided-last (sheet_in c.args.sheet.now) c.args.matcher.now.rules.table.now c.args.matcher.now.rules.count c.args.matcher.now.pass c.args.marks.now c.args.code.now c.args.at c.args.next _ c.in_ok-a.ensures.is c.in_ok-a.ensures.full _ c.in_default-decode.ensures.is c.in_default.is refl c.keep-in_default-decode.ensures
 
 pub returns-then-is_marked : goal.returns-then-is_marked
 returns-then-is_marked c =
@@ -25,10 +25,10 @@ returns-then-is_marked c =
       | then-is_marked-via-then-is_marked w ↦ either_first _ c.is_marked.ensures w.if-is_marked.true
       | then-is_marked-via-else-is_marked+then-is_marked-2 w ↦ either_second c.is_marked.ensures w.if-is_marked.false w.is_marked-else-is_marked.ensures w.if-is_marked-2.true
     ] in
-    decided-protected (sheet_in c.args.sheet.now) c.args.rules.now c.args.count c.args.pass c.args.marks.now c.args.code.now c.args.at c.args.next _ c.in_ok-a.ensures.is c.in_ok-a.ensures.full _ c.in-Some-decode.ensures.is c.in_default.is c.in-Some-decode.ensures.full protected c.keep-then-is_marked.ensures
+    decided-protected (sheet_in c.args.sheet.now) c.args.matcher.now.rules.table.now c.args.matcher.now.rules.count c.args.matcher.now.pass c.args.marks.now c.args.code.now c.args.at c.args.next _ c.in_ok-a.ensures.is c.in_ok-a.ensures.full _ c.in-Some-decode.ensures.is c.in_default.is c.in-Some-decode.ensures.full protected c.keep-then-is_marked.ensures
 
 pub returns-in_default-look_up : goal.returns-in_default-look_up
-returns-in_default-look_up c = decided-unmatched (sheet_in c.args.sheet.now) c.args.rules.now c.args.count c.args.pass c.args.marks.now c.args.code.now c.args.at c.args.next _ c.in_ok-a.ensures.is c.in_ok-a.ensures.full _ c.in-Some-decode.ensures.is c.in_default.is c.in-Some-decode.ensures.full (neither c.is_marked.ensures c.if-is_marked.false c.is_marked-else-is_marked.ensures c.if-is_marked-2.false) (looked-first _ _ _ _ _ c.seen-first.ensures c.look_up.ensures) c.in_default-look_up.is c.keep-in_default-look_up.ensures
+returns-in_default-look_up c = decided-unmatched (sheet_in c.args.sheet.now) c.args.matcher.now.rules.table.now c.args.matcher.now.rules.count c.args.matcher.now.pass c.args.marks.now c.args.code.now c.args.at c.args.next _ c.in_ok-a.ensures.is c.in_ok-a.ensures.full _ c.in-Some-decode.ensures.is c.in_default.is c.in-Some-decode.ensures.full (neither c.is_marked.ensures c.if-is_marked.false c.is_marked-else-is_marked.ensures c.if-is_marked-2.false) (looked-first _ _ _ _ _ c.seen-first.ensures c.look_up.ensures) c.in_default-look_up.is c.keep-in_default-look_up.ensures
 
 pub returns : goal.returns
-returns c = decided-matched (sheet_in c.args.sheet.now) c.args.rules.now c.args.count c.args.pass c.args.marks.now c.args.code.now c.args.at c.args.next _ c.in_ok-a.ensures.is c.in_ok-a.ensures.full _ c.in-Some-decode.ensures.is c.in_default.is c.in-Some-decode.ensures.full (neither c.is_marked.ensures c.if-is_marked.false c.is_marked-else-is_marked.ensures c.if-is_marked-2.false) (looked-first _ _ _ _ _ c.seen-first.ensures c.look_up.ensures) _ c.actions-pair.result _ c.in-At.is c.requires.ready.held c.actions-pair.ensures
+returns c = decided-matched (sheet_in c.args.sheet.now) c.args.matcher.now.rules.table.now c.args.matcher.now.rules.count c.args.matcher.now.pass c.args.marks.now c.args.code.now c.args.at c.args.next _ c.in_ok-a.ensures.is c.in_ok-a.ensures.full _ c.in-Some-decode.ensures.is c.in_default.is c.in-Some-decode.ensures.full (neither c.is_marked.ensures c.if-is_marked.false c.is_marked-else-is_marked.ensures c.if-is_marked-2.false) (looked-first _ _ _ _ _ c.seen-first.ensures c.look_up.ensures) _ c.actions-pair.result _ c.in-Some-look_up.is c.args.matcher.now.rules.read c.actions-pair.ensures
