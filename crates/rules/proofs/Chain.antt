@@ -13,7 +13,7 @@ use lib.Seq.{get_or-set_same, get_or-set_other, ext_get_or}
 use Rattle.definition.specs.Limits.{max_rules}
 use Rattle.definition.specs.Opcode.{roles, role_count}
 use Rattle.rules.specs.declared.Instruction.{Instruction}
-use Rattle.rules.specs.declared.Found.TheVariants.{At, Nothing}
+use Rattle.std.specs.Prelude.{Some, None}
 use Rattle.rules.specs.View.{row_size, pass_at, first_at, row_at, row_starts, row_fits, found_in, IsRules, no_rule, index_size, start_from, next_in, index_at, listed, index_in, Indexed, head_in}
 use Rattle.rules.proofs.Table.{row-at}
 use Rattle.rules.proofs.Lookup.{start-role, start-same, start-pass, start-other, next_row, found_after, found-past, found_here, found-next, found_all}
@@ -112,11 +112,11 @@ module _ {table : List ℕ} {count pass : ℕ} {index : List ℕ} (t : IsRules t
         rw e (record { starts = l.starts; more = found_all t pass a b ∙ l.same a b refl })
 
     -- a pass without a rule for the first role finds nothing
-    pub finds-none : head_in index a.role ≡ no_rule → found_in table count pass a b ≡ Nothing
+    pub finds-none : head_in index a.role ≡ no_rule → found_in table count pass a b ≡ None
     finds-none e = (seeks-start (sym e)).more ∙ found-past table count pass a b t.few
 
     module _ {i : ℕ} (s : Seeking table count pass a b i) where
-      pub seeks-end : count ≤ i → Nothing ≡ found_in table count pass a b
+      pub seeks-end : count ≤ i → None ≡ found_in table count pass a b
       seeks-end h = sym (s.more ∙ found-past table count pass a b h)
 
       module _ (h : i < count) where
@@ -124,7 +124,7 @@ module _ {table : List ℕ} {count pass : ℕ} {index : List ℕ} (t : IsRules t
         next-leads =
             rw (x.nexts i (omega (arith, t.few)), start-role table i pass a.role (s.starts h)) (leads t pass a.role (omega arith))
 
-        pub seeks-here : true ≡ row_fits pass (row_at table i) a b → At i ≡ found_in table count pass a b
+        pub seeks-here : true ≡ row_fits pass (row_at table i) a b → Some i ≡ found_in table count pass a b
         seeks-here f = sym (s.more ∙ found_here table count pass a b h (sym f))
 
         pub seeks-next : false ≡ row_fits pass (row_at table i) a b → Seeking table count pass a b (get_or index (role_count + i) 0)

@@ -15,10 +15,14 @@ use Rattle.definition.specs.Limits.{max_field, pass_count}
 use Rattle.definition.specs.Field as def
 use Rattle.definition.specs.Field.{first_line, Field, up_to, field, malformed, outside, is, Numbers, wrong, far, are, and_these, numbers}
 use Rattle.definition.specs.Rules.{Rule, nameable, last_test, last_action, rule_fields, rule_from, good_only, good_rule, rule_of, read_rule}
-use Rattle.field.specs.View.{line_end, line_fields}
+use Rattle.field.specs.View.{read_of, line_end, line_fields}
 use Rattle.field.proofs.Numbers.{up-to-bound, below-up-to}
 use Rattle.field.proofs.Fields.{Whole}
-use Rattle.rules.specs.declared.Line.{Line}
+use Rattle.std.specs.Prelude.{Some, None, Result, Ok, Err}
+use Rattle.std.specs.Result.{result_ok}
+use Rattle.field.specs.declared.Fault.{Fault}
+use Rattle.field.specs.declared.Fault.TheVariants.{Malformed, Outside}
+use Rattle.field.proofs.Results.{never}
 use Rattle.rules.specs.View.{row_size, first_at, second_at, test_at, one_at, two_at, line_numbers, Numbered, Bounded, row_of, line_of, line_at}
 
 -- the largest role that a rule may name
@@ -64,13 +68,11 @@ Bad malformed = Unit {0}
 Bad outside = Unit {0}
 Bad (is n) = ⊥
 
-pub bad-form : {x : def.Read} → x ≡ malformed → Bad x
+pub bad-read : (r : Result ℕ Fault) → result_ok r ≡ None → Bad (read_of r)
 unfolding Bad
-bad-form e = rw e tt
-
-pub bad-range : {x : def.Read} → x ≡ outside → Bad x
-unfolding Bad
-bad-range e = rw e tt
+bad-read (Ok n) e = never (cc)
+bad-read (Err Malformed) e = tt
+bad-read (Err Outside) e = tt
 
 prepend-bad : (p : List ℕ) (y : def.Read) (x : Numbers) → Bad y → rule_from (prepend p (and_these y x)) ≡ none
 unfolding prepend and_these rule_from Bad
@@ -171,12 +173,7 @@ module _ (text : List ℕ) (at : ℕ) where
   line-are e =
       by_end (λ h. (h, sym (whole_numbers h) ∙ e)) (λ h. absurd (let z : wrong ≡ are _ = sym (unended-numbers h) ∙ e in let y : ◌≡◌ {A = ℕ} 0 1 = cc in omega arith))
 
-  pub bad-numbered : {l : Line} → l ≡ line_of 0 none → rule_from (line_numbers text at) ≡ none → Numbered text at l.good l.numbers l.next
-  unfolding line_of Numbered
-  bad-numbered e h = rw e h
-
-  pub good-numbered : {ns : List ℕ} {next : ℕ} → Whole text at row_size → numbers rule_fields (line_fields text at) ≡ are ns → next ≡ line_end text at + 1 → Numbered text at true ns next
-  unfolding Numbered
+  pub good-numbered : {ns : List ℕ} {next : ℕ} → Whole text at row_size → numbers rule_fields (line_fields text at) ≡ are ns → next ≡ line_end text at + 1 → Numbered text at (Some (record { numbers = ns; next = next }))
   good-numbered w e n = (whole_numbers w.ended ∙ e, n)
 
 -- ---- the numbers' ranges
@@ -225,18 +222,9 @@ number_fits bs k a b = let h = up-to-bound bs (get_or maxima k 0) (sym a ∙ b) 
 
 -- ---- the line's answer, from its numbers and their test
 module _ (text : List ℕ) (at : ℕ) where
-  none-line : {x : Line} → x ≡ line_of 0 none → rule_from (line_numbers text at) ≡ none → x ≡ line_at text at
+  pub none-line : rule_from (line_numbers text at) ≡ none → None ≡ line_at text at
   unfolding line_of
-  none-line e n = rw (e, n)
-
-  module _ (l : Line) (n : Numbered text at l.good l.numbers l.next) where
-    pub line-bad : l.good ≡ false → {x : Line} → x ≡ line_of 0 none → x ≡ line_at text at
-    unfolding Numbered
-    line-bad g e = none-line e (rw g at n)
-
-    pub line-numbered : l.good ≡ true → (line_numbers text at ≡ are l.numbers) × (l.next ≡ line_end text at + 1)
-    unfolding Numbered
-    line-numbered g = rw g at n
+  none-line n = rw n
 
   module _ {ns : List ℕ} (n : line_numbers text at ≡ are ns) where
     pub line-bounded : Bounded ns
@@ -246,9 +234,9 @@ module _ (text : List ℕ) (at : ℕ) where
     unfolding rule_from good_only
     rule-is e = rw (n, e, good_only)
 
-    pub line-not-good : false ≡ good_rule (rule_of ns) → {x : Line} → x ≡ line_of 0 none → x ≡ line_at text at
-    line-not-good g e = none-line e (rule-is g)
+    pub line-not-good : false ≡ good_rule (rule_of ns) → None ≡ line_at text at
+    line-not-good g = none-line (rule-is g)
 
-    pub line-good : true ≡ good_rule (rule_of ns) → {row : List ℕ} {next : ℕ} → row ≡ row_of (rule_of ns) → next ≡ line_end text at + 1 → record { good = true; numbers = row; next = next } ≡ line_at text at
+    pub line-good : true ≡ good_rule (rule_of ns) → {row : List ℕ} {next : ℕ} → row ≡ row_of (rule_of ns) → next ≡ line_end text at + 1 → Some (record { numbers = row; next = next }) ≡ line_at text at
     unfolding line_of
     line-good g e q = rw (rule-is g, e, q)

@@ -15,8 +15,8 @@ use Rattle.definition.specs.Rules.{keep, rule_of, role_numbered, test_numbered, 
 use Rattle.field.proofs.Tests.{and_right}
 use Rattle.rules.specs.declared.Action.{Action}
 use Rattle.rules.specs.declared.Instruction.{Instruction}
-use Rattle.rules.specs.declared.Found.{Found}
-use Rattle.rules.specs.declared.Found.TheVariants.{At, Nothing}
+use Rattle.std.specs.Prelude as code
+use Rattle.std.specs.Prelude.{Some, None}
 use Rattle.rules.specs.View.{row_size, pass_at, first_at, second_at, test_at, number_at, one_at, one_operand_at, two_at, two_operand_at, action_view, instruction_view, rules_in, row_at, rule_at, row_count, row_starts, row_fits, found_from, found_in, actions_in, IsRules, RowAt, Inside, pair_at, Finds}
 use Rattle.rules.proofs.Rows.{number-back, has-number}
 use Rattle.rules.proofs.Table.{rules-long, row-at}
@@ -72,23 +72,6 @@ module _ (table : List ℕ) (at pass : ℕ) (a b : Instruction) where
         number-back (Cell table at second_at) row.second,
       )
 
-  pub other-pass : (Cell table at pass_at ≡ pass → ⊥) → false ≡ row_fits pass (row_at table at) a b
-  other-pass h = rw (cells, ne_eqb (Cell table at pass_at) pass h)
-
-  module _ (p : Cell table at pass_at ≡ pass) where
-    same-pass : eqb (Cell table at pass_at) pass ≡ true
-    same-pass = eq-eqb (Cell table at pass_at) pass p
-
-    pub other-first : (Cell table at first_at ≡ a.role → ⊥) → false ≡ row_fits pass (row_at table at) a b
-    other-first h = rw (cells, same-pass, ne_eqb (Cell table at first_at) a.role h)
-
-    pub other-second : Cell table at first_at ≡ a.role → (Cell table at second_at ≡ b.role → ⊥) → false ≡ row_fits pass (row_at table at) a b
-    other-second q h = rw (cells, same-pass, eq-eqb (Cell table at first_at) a.role q, ne_eqb (Cell table at second_at) b.role h)
-
-    pub same_roles : Cell table at first_at ≡ a.role → Cell table at second_at ≡ b.role → {x : Bool} → x ≡ test_holds (test_numbered (Cell table at test_at) (Cell table at number_at)) a.operand b.operand
-        → x ≡ row_fits pass (row_at table at) a b
-    same_roles q r e = rw (cells, same-pass, eq-eqb (Cell table at first_at) a.role q, eq-eqb (Cell table at second_at) b.role r) e
-
 -- the pair of actions of a row
 module _ (table : List ℕ) (at : ℕ) where
   pub actions-whole : at < row_count table → actions_in table at ≡ (rule_at table at).one ∷ (rule_at table at).two ∷ []
@@ -101,11 +84,11 @@ module _ (table : List ℕ) (at : ℕ) where
 
 pub pair_is : (table : List ℕ) (at : ℕ) (x y : Action)
     → at < row_count table
-    → action_view x ≡ action_numbered (get_or table (at * row_size + one_at) 0) (get_or table (at * row_size + one_operand_at) 0)
-    → action_view y ≡ action_numbered (get_or table (at * row_size + two_at) 0) (get_or table (at * row_size + two_operand_at) 0)
+    → action_view x ≡ action_numbered (get_or (row_at table at) one_at 0) (get_or (row_at table at) one_operand_at 0)
+    → action_view y ≡ action_numbered (get_or (row_at table at) two_at 0) (get_or (row_at table at) two_operand_at 0)
     → map action_view (x ∷ y ∷ []) ≡ actions_in table at
 unfolding rule_at rule_of
-pair_is table at x y h e f = rw (actions-whole table at h, cell table at one_at (omega arith), cell table at one_operand_at (omega arith), cell table at two_at (omega arith), cell table at two_operand_at (omega arith), e, f)
+pair_is table at x y h e f = rw (actions-whole table at h, e, f)
 
 -- ---- all rows
 
@@ -114,11 +97,11 @@ next_row table i = let far : suc i * row_size ≡ i * row_size + row_size = omeg
 
 -- what is found from row i on
 module _ (table : List ℕ) (count pass : ℕ) (a b : Instruction) where
-  abbrev pub found_after : ℕ → Found
+  abbrev pub found_after : ℕ → code.Option ℕ
   found_after i = found_from pass a b i (count - i) (drop (i * row_size) table)
 
   module _ {i : ℕ} where
-    pub found-past : count ≤ i → found_after i ≡ Nothing
+    pub found-past : count ≤ i → found_after i ≡ None
     unfolding found_from
     found-past h = let none_left : count - i ≡ 0 = omega arith in rw none_left
 
@@ -126,7 +109,7 @@ module _ (table : List ℕ) (count pass : ℕ) (a b : Instruction) where
       left : count - i ≡ suc (count - (i + 1))
       left = omega arith
 
-      pub found_here : row_fits pass (row_at table i) a b ≡ true → found_after i ≡ At i
+      pub found_here : row_fits pass (row_at table i) a b ≡ true → found_after i ≡ Some i
       unfolding found_from
       found_here f = rw (left, found_from, f)
 

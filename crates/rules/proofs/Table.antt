@@ -2,10 +2,9 @@
 use mathlib.Core.Path.{◌≡◌, refl, ap, sym, ◌∙◌}
 use mathlib.Core.List.{List, [], ◌∷◌, ◌++◌, append_assoc, append-nil}
 use Prim.Native.Nat.{ℕ, zero, suc, ◌+◌, ◌-◌, ◌*◌, ◌≤◌, ◌<◌}
-use native.Mathlib.Numerals.{add-one}
 use native.Mathlib.Omega.{arith}
-use lib.ListN.{length, get_or, take, drop, set, length-append, length-set}
-use lib.Seq.{take_at, drop-append-add, drop-drop, get_or-drop, paste, paste-zero, paste-suc}
+use lib.ListN.{length, get_or, take, drop, length-append}
+use lib.Seq.{drop-drop, get_or-drop}
 use Rattle.definition.specs.Limits.{max_rules}
 use Rattle.definition.specs.Lent.{zeros, filled}
 use Rattle.definition.specs.Opcode.{number}
@@ -14,33 +13,6 @@ use Rattle.rules.specs.View.{row_size, first_at, second_at, table_size, row_of, 
 use Rattle.store.proofs.Fills.{length-zeros}
 use Rattle.rules.proofs.Rows.{rule-back, number_small}
 
-drop-zeros : (k n : ℕ) → drop k (zeros n) ≡ zeros (n - k)
-unfolding zeros
-drop-zeros zero n = ap zeros (let e : n ≡ n - 0 = omega arith in e)
-drop-zeros (suc k) zero = ap zeros (let e : 0 ≡ 0 - suc k = omega arith in e)
-drop-zeros (suc k) (suc n) = drop-zeros k n ∙ ap zeros (let e : n - k ≡ suc n - suc k = omega arith in e)
-
--- ---- storing a row
-
-pub record Storing (d row table : List ℕ) (at k : ℕ) : Type 0 where
-  pub few : k ≤ row_size
-  pub long : length table ≡ length d
-  pub is : table ≡ paste d at row k
-
-pub stores-start : (d row : List ℕ) (at : ℕ) → Storing d row d at 0
-stores-start d row at = record { few = omega arith; long = refl; is = paste-zero d at row }
-
-module _ {d row table : List ℕ} {at k : ℕ} (s : Storing d row table at k) where
-  pub stores-next : k < row_size → at + row_size ≤ length d → length row ≡ row_size → Storing d row (set table (at + k) (get_or row k 0)) at (k + 1)
-  stores-next h room wide = record {
-    few = omega arith;
-    long = length-set table (at + k) (get_or row k 0) ∙ s.long;
-    is = rw (s.is, add-one k) (paste-suc d at row k 0 (omega arith) (omega arith));
-  }
-
-  pub stored : row_size ≤ k → table ≡ paste d at row row_size
-  stored h = s.is ∙ ap (λ (n : ℕ). paste d at row n) (let e : k ≡ row_size = omega (arith, s.few) in e)
-
 -- ---- the rows of rules
 
 pub rows_long : (rs : List Rule) → length (rows_of rs) ≡ length rs * row_size
@@ -48,7 +20,7 @@ unfolding rows_of row_of
 rows_long [] = refl
 rows_long (r ∷ rs) = omega (arith, rows_long rs)
 
-rows_more : (rs : List Rule) (r : Rule) → rows_of (rs ++ (r ∷ [])) ≡ rows_of rs ++ row_of r
+pub rows_more : (rs : List Rule) (r : Rule) → rows_of (rs ++ (r ∷ [])) ≡ rows_of rs ++ row_of r
 unfolding rows_of
 rows_more [] r = append-nil (row_of r)
 rows_more (q ∷ rs) r = ap (λ (l : List ℕ). row_of q ++ l) (rows_more rs r) ∙ sym (append_assoc (row_of q) (rows_of rs) (row_of r))
@@ -56,21 +28,6 @@ rows_more (q ∷ rs) r = ap (λ (l : List ℕ). row_of q ++ l) (rows_more rs r) 
 pub table-long : (rs : List Rule) → length rs ≤ max_rules → length (table_of rs) ≡ table_size
 unfolding table_of filled
 table-long rs h = length-append (rows_of rs) (zeros (table_size - length (rows_of rs))) ∙ omega (arith, rows_long rs, length-zeros (table_size - length (rows_of rs)))
-
-pub table_none : table_of [] ≡ zeros table_size
-unfolding table_of filled rows_of
-table_none = refl
-
--- one rule more
-pub table_more : (rs : List Rule) (r : Rule) {count : ℕ} → count ≡ length rs → count < max_rules → paste (table_of rs) (count * row_size) (row_of r) row_size ≡ table_of (rs ++ (r ∷ []))
-unfolding table_of filled row_of
-table_more rs r {count} e h =
-    let long : length (rows_of rs) ≡ count * row_size = rows_long rs ∙ ap (λ (n : ℕ). n * row_size) (sym e) in
-    let left : table_size - length (rows_of rs) - row_size ≡ table_size - length (rows_of (rs ++ (r ∷ []))) = omega (arith, rows_long rs, rows_long (rs ++ (r ∷ [])), length-append rs (r ∷ [])) in
-    let zs = zeros (table_size - length (rows_of rs)) in
-    let after : drop (count * row_size + row_size) (rows_of rs ++ zs) ≡ zeros (table_size - length (rows_of (rs ++ (r ∷ [])))) =
-    rw (← long) (drop-append-add (rows_of rs) zs row_size) ∙ drop-zeros row_size (table_size - length (rows_of rs)) ∙ ap zeros left in
-    rw (take_at (rows_of rs) zs (count * row_size) long, after, rows_more rs r)
 
 -- ---- reading the rules of a table
 

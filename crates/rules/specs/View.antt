@@ -1,5 +1,9 @@
 -- Rules in a lent table: a row of numbers each, in the order of a rule line, with 0 for a number or an operand that no test or action reads.
 use Rattle.std.specs.Prelude.{◌≡◌, Bool, true, false, ◌&&◌, List, [], ◌∷◌, ◌++◌, ℕ, zero, suc, ◌+◌, ◌-◌, ◌*◌, ◌/◌, ◌≤◌, ◌<◌, min, eqb, leb, ltb, length, get_or, take, drop}
+use Rattle.std.specs.Prelude as code
+use Rattle.std.specs.Coded.{×_prop, Unit-prop}
+use Rattle.std.proofs.Props.{props}
+use Rattle.std.specs.Prelude.{Some, None}
 use Rattle.std.proofs.Math.Option.{Option, some, none}
 use Rattle.std.proofs.Math.ListN.{get_elem?}
 use Rattle.definition.specs.Limits.{max_rules, output_short}
@@ -7,16 +11,13 @@ use Rattle.definition.specs.Res.{Res, ok, refuse, ◌>>◌, demand}
 use Rattle.definition.specs.Field.{Numbers, wrong, are, numbers}
 use Rattle.definition.specs.Opcode.{number, roles, role_count}
 use Rattle.definition.specs.Lent.{zeros, filled}
+use Rattle.definition.specs.Opcode as opcode
 use Rattle.definition.specs.Rules as def
 use Rattle.definition.specs.Rules.{Rule, Test, always, operands_equal, first_is, second_is, keep, remove, rewrite_operand, nameable, last_test, last_action, good_rule, read_rules, rule_fields, rule_of, rule_from, test_numbered}
 use Rattle.field.specs.View.{line_end, line_fields}
 use Rattle.rules.specs.declared.Action.{Action}
 use Rattle.rules.specs.declared.Action.TheVariants.{Keep, Remove, RewriteOperand}
 use Rattle.rules.specs.declared.Instruction.{Instruction}
-use Rattle.rules.specs.declared.RuleAnswer.{RuleAnswer}
-use Rattle.rules.specs.declared.RuleAnswer.TheVariants.{Rules, Refused}
-use Rattle.rules.specs.declared.Found.{Found}
-use Rattle.rules.specs.declared.Found.TheVariants.{At, Nothing}
 use Rattle.rules.specs.declared.Line.{Line}
 
 abbrev pub action_view : Action → def.Action
@@ -126,15 +127,16 @@ table_of rs = filled table_size (rows_of rs)
 unfoldable pub read_into : ℕ → List ℕ → Res (List Rule)
 read_into room text = demand (leb table_size room) output_short 0 >> read_rules text
 
-unfoldable pub answer_of : Res (List Rule) → RuleAnswer
-answer_of (ok rs) = Rules (length rs)
-answer_of (refuse n p) = Refused n p
+-- how many rules there are
+unfoldable pub answer_of : Res (List Rule) → Res ℕ
+answer_of (ok rs) = ok (length rs)
+answer_of (refuse n p) = refuse n p
 
 unfoldable pub table_for : ℕ → Res (List Rule) → List ℕ
 table_for room (ok rs) = filled room (rows_of rs)
 table_for room (refuse n p) = zeros room
 
-pub record Answered (room : ℕ) (x : Res (List Rule)) (r : RuleAnswer) (table : List ℕ) : Type 0 where
+pub record Answered (room : ℕ) (x : Res (List Rule)) (r : Res ℕ) (table : List ℕ) : Type 0 where
   pub is : r ≡ answer_of x
   pub holds : table ≡ table_for room x
 
@@ -142,12 +144,17 @@ pub record Answered (room : ℕ) (x : Res (List Rule)) (r : RuleAnswer) (table :
 unfoldable pub line_numbers : List ℕ → ℕ → Numbers
 line_numbers text at = elim (ltb (line_end text at) (length text)) [ true ↦ numbers rule_fields (line_fields text at) | false ↦ wrong ]
 
--- one line: its row and where the next line starts, or that it is bad and no numbers
-unfoldable pub line_of : ℕ → Option Rule → Line
-line_of next none = record { good = false; numbers = zeros row_size; next = 0 }
-line_of next (some r) = record { good = true; numbers = row_of r; next = next }
+-- what a table of any length starts with once the rows are read into it: the rules' rows, or what is cleared next
+abbrev pub Rows : List ℕ → List ℕ → List ℕ → Res ℕ → Type 0
+Rows text old new (ok n) = (table_size ≤ length old) × (n ≤ max_rules) × ((rs : List Rule) × (read_rules text ≡ ok rs) × (n ≡ length rs) × (take (n * row_size) new ≡ rows_of rs))
+Rows text old new (refuse n p) = read_into (length old) text ≡ refuse n p
 
-abbrev pub line_at : List ℕ → ℕ → Line
+-- one line, if it is good: its row and where the next line starts
+unfoldable pub line_of : ℕ → Option Rule → code.Option Line
+line_of next none = None
+line_of next (some r) = Some (record { numbers = row_of r; next = next })
+
+abbrev pub line_at : List ℕ → ℕ → code.Option Line
 line_at text at = line_of (line_end text at + 1) (rule_from (line_numbers text at))
 
 -- what the fields' ranges say of a line's numbers
@@ -164,9 +171,9 @@ used true n = n
 used false n = 0
 
 -- a line's numbers and where the next line starts, or that no rule is made of what the line holds
-unfoldable pub Numbered : List ℕ → ℕ → Bool → List ℕ → ℕ → Type 0
-Numbered text at true ns next = (line_numbers text at ≡ are ns) × (next ≡ line_end text at + 1)
-Numbered text at false ns next = rule_from (line_numbers text at) ≡ none
+abbrev pub Numbered : List ℕ → ℕ → code.Option Line → Type 0
+Numbered text at (Some l) = (line_numbers text at ≡ are l.numbers) × (l.next ≡ line_end text at + 1)
+Numbered text at None = rule_from (line_numbers text at) ≡ none
 
 -- ---- the rules of a table
 
@@ -197,6 +204,15 @@ pub record IsRules (table : List ℕ) (count : ℕ) : Type 0 where
   pub is : table ≡ table_of (rules_in table count)
   pub accepted : Each (rules_in table count)
 
+-- which holds in one way, so that it may be a ghost field
+pub Each-prop : (rs : List Rule) → IsProp (Each rs)
+unfolding Each
+Each-prop [] = Unit-prop
+Each-prop (r ∷ rs) = ×_prop (Prim.hlevel props) (Each-prop rs)
+
+pub IsRules-prop : (table : List ℕ) (count : ℕ) → IsProp (IsRules table count)
+IsRules-prop table count = Prim.hlevel (props, Each-prop)
+
 -- a row as reading leaves it: it is there, and its roles are roles
 pub record RowAt (table : List ℕ) (at : ℕ) : Type 0 where
   pub there : at < max_rules
@@ -220,11 +236,11 @@ row_fits pass row a b = row_starts pass a.role row && (eqb (get_or row second_at
     && def.test_holds (test_numbered (get_or row test_at 0) (get_or row number_at 0)) a.operand b.operand)
 
 -- the first of n rows that fits, where the first of them has number i
-unfoldable pub found_from : ℕ → Instruction → Instruction → ℕ → ℕ → List ℕ → Found
-found_from pass a b i zero table = Nothing
-found_from pass a b i (suc n) table = elim (row_fits pass (take row_size table) a b) [ true ↦ At i | false ↦ found_from pass a b (suc i) n (drop row_size table) ]
+unfoldable pub found_from : ℕ → Instruction → Instruction → ℕ → ℕ → List ℕ → code.Option ℕ
+found_from pass a b i zero table = None
+found_from pass a b i (suc n) table = elim (row_fits pass (take row_size table) a b) [ true ↦ Some i | false ↦ found_from pass a b (suc i) n (drop row_size table) ]
 
-unfoldable pub found_in : List ℕ → ℕ → ℕ → Instruction → Instruction → Found
+unfoldable pub found_in : List ℕ → ℕ → ℕ → Instruction → Instruction → code.Option ℕ
 found_in table count pass a b = found_from pass a b 0 (min count (row_count table)) table
 
 -- the actions of a row; a row that is not there changes nothing
@@ -232,15 +248,15 @@ unfoldable pub actions_in : List ℕ → ℕ → List def.Action
 actions_in table i = elim (ltb i (row_count table)) [ true ↦ (rule_at table i).one ∷ (rule_at table i).two ∷ [] | false ↦ keep ∷ keep ∷ [] ]
 
 -- what the lookup finds in a table that was read
-unfoldable pub Inside : ℕ → Found → Type 0
-Inside count (At i) = i < count
-Inside count Nothing = Unit {0}
+unfoldable pub Inside : ℕ → code.Option ℕ → Type 0
+Inside count (Some i) = i < count
+Inside count None = Unit {0}
 
-unfoldable pub pair_at : List ℕ → Found → Option (def.Action × def.Action)
-pair_at table Nothing = none
-pair_at table (At i) = some ((rule_at table i).one, (rule_at table i).two)
+unfoldable pub pair_at : List ℕ → code.Option ℕ → Option (def.Action × def.Action)
+pair_at table None = none
+pair_at table (Some i) = some ((rule_at table i).one, (rule_at table i).two)
 
-pub record Finds (table : List ℕ) (count pass : ℕ) (a b : Instruction) (r : Found) : Type 0 where
+pub record Finds (table : List ℕ) (count pass : ℕ) (a b : Instruction) (r : code.Option ℕ) : Type 0 where
   pub inside : Inside count r
   pub is : pair_at table r ≡ def.matches pass (rules_in table count) (instruction_view a) (instruction_view b)
 
@@ -285,3 +301,8 @@ pub record Indexed (table : List ℕ) (count pass : ℕ) (index : List ℕ) : Ty
 -- what an index has for a role; no_rule for a number that no role has
 unfoldable pub head_in : List ℕ → ℕ → ℕ
 head_in index role = elim (ltb role role_count) [ true ↦ get_or index role 0 | false ↦ no_rule ]
+
+-- what the rows, tests and actions are unfolded by
+unfoldable pub open_rules : Unit {0}
+unfolding opcode.open-Opcode def.open-Rules used row_starts row_fits head_in
+open_rules = tt

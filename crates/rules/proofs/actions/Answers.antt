@@ -1,3 +1,4 @@
+use Rattle.std.proofs.Common.{◌≡◌, ◌+◌, ◌-◌, ◌*◌, arith}
 use Rattle.rules.specs.View.{row_count}
 use Rattle.rules.proofs.Lookup.{actions-past, pair_is}
 use Rattle.rules.proofs.actions.Goals as goal
@@ -8,4 +9,6 @@ returns-then-at-table c = actions-past _ _ c.if-at-table.true
 
 pub returns : goal.returns
 unfolding row_count
-returns c = pair_is c.args.table.now _ c.action_of-one.result c.action_of-two.result c.if-at-table.false c.action_of-one.ensures c.action_of-two.ensures
+returns c =
+    let long : c.args.at * 9 + 9 - c.args.at * 9 ≡ 9 = omega arith in
+    pair_is c.args.table.now _ c.action_of-one.result c.action_of-two.result c.if-at-table.false (rw long at c.action_of-one.ensures) (rw long at c.action_of-two.ensures)

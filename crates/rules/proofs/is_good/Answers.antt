@@ -1,19 +1,18 @@
-use mathlib.Core.Path.{sym, ◌∙◌}
-use Rattle.rules.proofs.Good.{no-pass, no_test, no_one, no-two, heights, cancel-is}
-use borrow.Author.Rules.{rules}
+use Rattle.std.proofs.Common.{◌≡◌, ◌&&◌, get_or, arith}
+use Rattle.std.proofs.lemmas.Bool.Decides.{nat_tests}
+use Rattle.rules.proofs.Good.{Test, One, Two, good-heights, good-not}
 use Rattle.rules.proofs.is_good.Goals as goal
 
-pub returns-then-ns-lt1 : goal.returns-then-ns-lt1
-returns-then-ns-lt1 c = no-pass _ (search rules)
+pub returns-then-is_allowed-2 : goal.returns-then-is_allowed-2
+returns-then-is_allowed-2 c =
+    let v : c.if-ns-ge1.value ≡ Test c.args.ns c.numbered-first.ensures c.numbered-second.ensures = grind (arith, nat_tests) in
+    let w : c.if-is_testable.value ≡ (c.if-ns-ge1.value && One c.args.ns c.numbered-first.ensures c.numbered-second.ensures) = grind (arith, nat_tests) in
+    let x : c.if-is_allowed.value ≡ (c.if-is_testable.value && Two c.args.ns c.numbered-first.ensures c.numbered-second.ensures) = grind (arith, nat_tests) in
+    good-heights c.args.ns c.numbered-first.ensures c.numbered-second.ensures v w x c.if-is_allowed-2.true (rw (c.removed.ensures (get_or c.args.ns 6 0), c.removed-then-is_allowed-2.ensures (get_or c.args.ns 8 0)) at c.cancel.ensures)
 
-pub returns-then-not-is_testable : goal.returns-then-not-is_testable
-returns-then-not-is_testable c = no_test c.args.ns (search rules) c.numbered-first.ensures c.numbered-second.ensures (sym c.if-not-is_testable.true ∙ c.is_testable.ensures _)
-
-pub returns-then-not-is_allowed : goal.returns-then-not-is_allowed
-returns-then-not-is_allowed c = no_one c.args.ns c.if-ns-lt1.false c.numbered-first.ensures c.numbered-second.ensures (sym c.if-not-is_testable.false ∙ c.is_testable.ensures _) (sym c.if-not-is_allowed.true ∙ c.is_allowed.ensures)
-
-pub returns-then-not-is_allowed-2 : goal.returns-then-not-is_allowed-2
-returns-then-not-is_allowed-2 c = no-two c.args.ns c.if-ns-lt1.false c.numbered-first.ensures c.numbered-second.ensures (sym c.if-not-is_testable.false ∙ c.is_testable.ensures _) (sym c.if-not-is_allowed.false ∙ c.is_allowed.ensures) (sym c.if-not-is_allowed-2.true ∙ c.is_allowed-2.ensures)
-
-pub returns : goal.returns
-returns c = heights c.args.ns c.if-ns-lt1.false c.numbered-first.ensures c.numbered-second.ensures (sym c.if-not-is_testable.false ∙ c.is_testable.ensures _) (sym c.if-not-is_allowed.false ∙ c.is_allowed.ensures) (sym c.if-not-is_allowed-2.false ∙ c.is_allowed-2.ensures) (cancel-is c.cancel.ensures (c.removed.ensures _) (c.removed-2.ensures _))
+pub returns-else-is_allowed-2 : goal.returns-else-is_allowed-2
+returns-else-is_allowed-2 c =
+    let v : c.if-ns-ge1.value ≡ Test c.args.ns c.numbered-first.ensures c.numbered-second.ensures = grind (arith, nat_tests) in
+    let w : c.if-is_testable.value ≡ (c.if-ns-ge1.value && One c.args.ns c.numbered-first.ensures c.numbered-second.ensures) = grind (arith, nat_tests) in
+    let x : c.if-is_allowed.value ≡ (c.if-is_testable.value && Two c.args.ns c.numbered-first.ensures c.numbered-second.ensures) = grind (arith, nat_tests) in
+    good-not c.args.ns c.numbered-first.ensures c.numbered-second.ensures v w x c.if-is_allowed-2.false

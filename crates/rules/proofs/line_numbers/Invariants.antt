@@ -1,4 +1,4 @@
-use Prim.Native.Nat.{◌-◌}
+use Rattle.std.proofs.Common.{◌-◌}
 use Rattle.field.specs.View.{line_fields}
 use Rattle.field.proofs.Fields.{Walked}
 use Rattle.rules.specs.View.{row_size}
@@ -7,6 +7,3 @@ use Rattle.rules.proofs.line_numbers.Given as goal
 
 abbrev pub invariant-loop-k : goal.invariant-loop-k
 invariant-loop-k l = Walked l.text l.at (row_size - 1) l.k l.place × Reading (line_fields l.text l.at) l.numbers l.k
-
-abbrev pub decreases-loop-k : goal.decreases-loop-k
-decreases-loop-k l = row_size - l.k

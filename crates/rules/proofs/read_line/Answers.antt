@@ -1,19 +1,18 @@
-use mathlib.Core.Path.{sym, ◌∙◌}
-use borrow.Author.Tests.{not-true, not-false}
-use Rattle.rules.proofs.Lines.{line-bad, line-numbered, line-bounded, line-not-good, line-good}
+use Rattle.std.proofs.Common.{sym, ◌∙◌}
+use Rattle.rules.proofs.Lines.{none-line, line-bounded, line-not-good, line-good}
 use Rattle.rules.proofs.read_line.Goals as goal
 
-pub returns-then-not-l : goal.returns-then-not-l
-returns-then-not-l c = line-bad _ _ _ c.line_numbers-l.ensures (not-true _ c.if-not-l.true) c.bad_line.ensures
+pub returns-in_err-numbers : goal.returns-in_err-numbers
+returns-in_err-numbers c = rw c.from_residual.ensures (none-line _ _ c.in_err-numbers.ensures)
 
 pub is_good-requires : goal.is_good-requires
-is_good-requires c = line-bounded _ _ (line-numbered _ _ _ c.line_numbers-l.ensures (not-false _ c.if-not-l.false)).0
+is_good-requires c = line-bounded _ _ c.in_ok-numbers.ensures.0
 
 pub returns-then-not-is_good : goal.returns-then-not-is_good
-returns-then-not-is_good c = line-not-good _ _ (line-numbered _ _ _ c.line_numbers-l.ensures (not-false _ c.if-not-l.false)).0 (sym c.if-not-is_good.true ∙ c.is_good.ensures) c.bad_line-then-not-is_good.ensures
+returns-then-not-is_good c = line-not-good _ _ c.in_ok-numbers.ensures.0 (sym c.if-not-is_good.true ∙ c.is_good.ensures)
 
-pub table_row-numbers-requires : goal.table_row-numbers-requires
-table_row-numbers-requires c = line-bounded _ _ (line-numbered _ _ _ c.line_numbers-l.ensures (not-false _ c.if-not-l.false)).0
+pub table_row-requires : goal.table_row-requires
+table_row-requires c = line-bounded _ _ c.in_ok-numbers.ensures.0
 
 pub returns : goal.returns
-returns c = line-good _ _ (line-numbered _ _ _ c.line_numbers-l.ensures (not-false _ c.if-not-l.false)).0 (sym c.if-not-is_good.false ∙ c.is_good.ensures) c.table_row-numbers.ensures (line-numbered _ _ _ c.line_numbers-l.ensures (not-false _ c.if-not-l.false)).1
+returns c = line-good _ _ c.in_ok-numbers.ensures.0 (sym c.if-not-is_good.false ∙ c.is_good.ensures) c.table_row.ensures c.in_ok-numbers.ensures.1

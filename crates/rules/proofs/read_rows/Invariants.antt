@@ -1,7 +1,6 @@
-use Prim.Native.Nat.{◌-◌}
-use lib.ListN.{length}
+use Rattle.std.proofs.Common.{◌-◌, length}
 use Rattle.rules.proofs.File.{FileRead}
-use Rattle.rules.proofs.read_table.Given as goal
+use Rattle.rules.proofs.read_rows.Given as goal
 
 abbrev pub invariant-loop-at : goal.invariant-loop-at
 invariant-loop-at l = FileRead l.text l.table l.at l.count
