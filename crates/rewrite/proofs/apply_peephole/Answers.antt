@@ -22,4 +22,4 @@ pub loop-plan-preserved : goal.loop-plan-preserved
 loop-plan-preserved c = turns c.loop-plan.invariant c.in-Some.ensures c.apply-to.ensures
 
 pub returns : goal.returns
-returns c = finishes c.loop-plan.invariant c.in_default.ensures c.set_from.ensures
+returns c = rw (c.new-matcher.ensures.rules, c.new-matcher.ensures.pass) at (finishes c.loop-plan.invariant c.in_default.ensures c.set_from.ensures)
