@@ -1,63 +1,61 @@
 -- The laws behind the check: each answer is the definition's.
 use mathlib.Core.Path.{◌≡◌, refl, ap, sym, ◌∙◌}
-use mathlib.Core.Bool.{true, false, ◌&&◌}
+use mathlib.Core.Bool.{Bool, true, false, ◌&&◌}
 use mathlib.Core.Option.{Option, some, none}
 use mathlib.Core.List.{List, [], ◌∷◌}
-use Prim.Native.Nat.{ℕ, zero, suc, ◌+◌, ◌-◌, ◌≤◌, ◌<◌}
+use Prim.Native.Nat.{ℕ, suc, ◌+◌, ◌-◌, ◌≤◌, ◌<◌}
 use native.Mathlib.Omega.{arith}
-use borrow.Author.Tests.{le-leb, lt-leb, leb-true, ne_eqb, eq-eqb}
+use borrow.Author.Tests.{le-leb, lt-leb, leb-true, ne_eqb, eq-eqb, eqb-true, eqb-false}
 use lib.Dec.{eqb, leb}
-use lib.ListN.{length, get_or, drop}
+use lib.ListN.{length, drop}
+use lib.Pointwise.{pointwise}
 use Rattle.definition.specs.Limits.{max_program, max_nesting, bad_text, wrong_lines}
 use Rattle.definition.specs.Res.{Res, ok, refuse, ◌>>=◌, ◌>>◌, demand}
 use Rattle.definition.specs.Field.{lf, first_line}
-use Rattle.definition.specs.Tree.{Pos, Fault, Program, Block}
+use Rattle.definition.specs.Tree.{Fault, Program, Block}
 use Rattle.definition.specs.Program as def
 use Rattle.definition.specs.Program.{is, not, Header, line_at, header_forms, next_line, stmt_at, block_of, fault_of_block, ends_in_lf, header_of, no_fault, top_stmts, read_program}
 use Rattle.field.proofs.Parts.{line-ends}
 use Rattle.field.proofs.Results.{never, ok-is, ok-demand, ok-bind}
-use Rattle.field.proofs.Tests.{and_left}
-use Rattle.program.specs.declared.Walk.{Walk}
-use Rattle.program.specs.Walk.{cursor_in, stand_by, stand, Walked, outcome, many, over_stmt, Passed}
+use Rattle.field.proofs.Tests.{and_left, and_right}
+use Rattle.std.specs.Prelude.{Result, Ok, Err}
+use Rattle.std.specs.List.{ends_with}
+use Rattle.definition.specs.View.{refusal_number, res_of}
+use Rattle.definition.specs.declared.Refused.{Refused}
+use Rattle.program.specs.declared.Cursor.{Cursor}
+use Rattle.program.specs.Walk.{cursor_of, Skipped, Walked, outcome, many, over_stmt}
 use Rattle.program.specs.Check.{checked, Headed, program_of, Accepts}
-use Rattle.program.proofs.Laws.{block-many}
+use Rattle.program.proofs.Laws.{block-many, line-there}
 
 -- ---- 1
 
-last-is : (b : ℕ) (bs : List ℕ) → ends_in_lf (b ∷ bs) ≡ eqb (get_or (b ∷ bs) (length bs) 0) lf
+pub ends-lf : (text : List ℕ) → ends_with eqb text (lf ∷ []) ≡ ends_in_lf text
 unfolding ends_in_lf
-last-is b [] = refl
-last-is b (c ∷ bs) = last-is c bs
+ends-lf [] = refl
+ends-lf (b ∷ []) = go (eqb b lf) refl
+  where
+    go : (t : Bool) → eqb b lf ≡ t → eqb lf b && true ≡ eqb b lf
+    go true h = let e : lf ≡ b = sym (eqb-true _ _ h) in rw (eq-eqb _ _ e, h)
+    go false h = rw (ne_eqb lf b (λ e. eqb-false _ _ h (sym e)), h)
+ends-lf (b ∷ c ∷ bs) =
+    let n = length bs in
+    let one : suc (suc n) - 1 ≡ suc n = omega arith in
+    let none : n ≡ suc n - 1 = omega arith in
+    ap (λ (k : ℕ). pointwise eqb (lf ∷ []) (drop k (b ∷ c ∷ bs))) one ∙ ap (λ (k : ℕ). pointwise eqb (lf ∷ []) (drop k (c ∷ bs))) none ∙ ends-lf (c ∷ bs)
 
-pub ends-in-lf : (text : List ℕ) → 0 < length text → ends_in_lf text ≡ eqb (get_or text (length text - 1) 0) lf
-ends-in-lf [] h = absurd (omega arith)
-ends-in-lf (b ∷ bs) h =
-    let q : suc (length bs) - 1 ≡ length bs = omega arith in
-    rw q (last-is b bs)
-
+-- what 1 asks of a text
 module _ (text : List ℕ) where
-  bad-text : leb (length text) max_program && ends_in_lf text ≡ false → refuse bad_text 0 ≡ checked text
+  pub check-bad : leb (length text) max_program && ends_in_lf text ≡ false → refuse bad_text 0 ≡ checked text
   unfolding checked read_program demand ◌>>◌ ◌>>=◌
-  bad-text e = rw (checked, read_program, e)
+  check-bad e = rw (checked, read_program, e)
 
-  pub check-long : max_program < length text → refuse bad_text 0 ≡ checked text
-  check-long h = bad-text (rw (lt-leb _ _ h))
-
-  pub check-open : 0 < length text → length text ≤ max_program → (get_or text (length text - 1) 0 ≡ lf → ⊥) → refuse bad_text 0 ≡ checked text
-  check-open there short h = bad-text (rw (le-leb _ _ short, ends-in-lf text there, ne_eqb _ _ h))
-
-  module _ (there : 0 < length text) (short : length text ≤ max_program) (last : get_or text (length text - 1) 0 ≡ lf) where
-    pub headed : {v n : ℕ} {p : Pos} → line_at header_forms max_nesting text 0 ≡ is (record { variables = v; statements = n; pos = p }) → Headed text v n p
-    headed e = record { there = there; short = short; ended = ends-in-lf text there ∙ eq-eqb _ _ last; header = e }
+  module _ (fine : leb (length text) max_program && ends_in_lf text ≡ true) where
+    pub headed : {h : Header} → line_at header_forms max_nesting text 0 ≡ is h → Headed text h
+    headed e = record { there = (line-there header_forms max_nesting text 0 _ e).0; short = leb-true _ _ (and_left _ _ fine); ended = and_right _ _ fine; header = e }
 
     pub check-header : (n : ℕ) → line_at header_forms max_nesting text 0 ≡ not n → refuse n 1 ≡ checked text
     unfolding checked read_program demand ◌>>◌ ◌>>=◌ header_of
-    check-header n e = rw (checked, read_program, le-leb _ _ short, ends-in-lf text there, eq-eqb _ _ last, e)
-
-pub check-empty : (text : List ℕ) → length text ≡ 0 → refuse bad_text 0 ≡ checked text
-unfolding ends_in_lf
-check-empty [] e = bad-text [] refl
-check-empty (b ∷ bs) e = absurd (omega arith)
+    check-header n e = rw (checked, read_program, fine, e)
 
 -- ---- the lines behind the header
 
@@ -66,55 +64,46 @@ unfoldable behind : List ℕ → Program → Option Fault → def.Cursor → Res
 behind text p f c = no_fault f >> (demand (leb (length text) c.at) wrong_lines c.row >> ok p)
 
 -- where a walk that heeds faults stands, it is answered
-behind-refused : (text : List ℕ) (p : Program) (f : Option Fault) (c d : def.Cursor) (r : ℕ) → stand_by r d ≡ outcome true f c → (r ≡ 0 → ⊥) → behind text p f c ≡ refuse r d.row
-unfolding stand_by outcome behind no_fault ◌>>◌
-behind-refused text p none c d zero e h = absurd (h refl)
-behind-refused text p none c d (suc r) e h = never (cc)
-behind-refused text p (some f) c d zero e h = absurd (h refl)
-behind-refused text p (some f) c d (suc r) e h =
-    let a : f.number ≡ suc r = cc in
-    let b : f.place ≡ d.row = cc in
+behind-refused : (text : List ℕ) (p : Program) (f : Option Fault) (c : def.Cursor) (n r : ℕ) → refuse n r ≡ outcome true f c → behind text p f c ≡ refuse n r
+unfolding outcome behind no_fault ◌>>◌
+behind-refused text p none c n r e = never (cc)
+behind-refused text p (some f) c n r e =
+    let a : f.number ≡ n = cc in
+    let b : f.place ≡ r = cc in
     rw (a, b)
 
-behind-on : (text : List ℕ) (p : Program) (f : Option Fault) (c d : def.Cursor) → stand_by 0 d ≡ outcome true f c → behind text p f c ≡ demand (leb (length text) d.at) wrong_lines d.row >> ok p
-unfolding stand_by outcome behind no_fault ◌>>◌
+behind-on : (text : List ℕ) (p : Program) (f : Option Fault) (c d : def.Cursor) → ok d ≡ outcome true f c → behind text p f c ≡ demand (leb (length text) d.at) wrong_lines d.row >> ok p
+unfolding outcome behind no_fault ◌>>◌
 behind-on text p none c d e = let q : c ≡ d = cc in rw q
 behind-on text p (some f) c d e = never (cc)
 
-module _ {text : List ℕ} {v n : ℕ} {p : Pos} (h : Headed text v n p) {top : Walk} (passed : Passed text (record { at = 0; row = 1; refused = 0 }) top)
-    {w : Walk} (walked : Walked (many n (over_stmt true max_nesting v text)) text top w) where
-  abbrev head : Header
-  head = record { variables = v; statements = n; pos = p }
-
+module _ {text : List ℕ} {h : Header} (headed : Headed text h) {top : Cursor} (passed : Skipped text (next_line text (record { at = 0; row = 1 })) top) {n : ℕ} (all : n ≡ h.statements) where
   abbrev body : Block × def.Cursor
-  body = block_of (λ c. stmt_at max_nesting v text c) n (next_line text (record { at = 0; row = 1 }))
+  body = block_of (λ c. stmt_at max_nesting h.variables text c) h.statements (next_line text (record { at = 0; row = 1 }))
 
-  read_is : read_program text ≡ behind text (record { pos = p; body = body.0 }) (fault_of_block body.0) body.1
+  read_is : read_program text ≡ behind text (record { pos = h.pos; body = body.0 }) (fault_of_block body.0) body.1
   unfolding read_program demand ◌>>◌ ◌>>=◌ header_of behind top_stmts
-  read_is = rw (read_program, le-leb _ _ h.short, h.ended, h.header)
+  read_is = rw (read_program, le-leb _ _ headed.short, headed.ended, headed.header)
 
-  stands : stand w ≡ outcome true (fault_of_block body.0) body.1
-  unfolding stand_by ◌>>=◌
-  stands = walked.did ∙ rw (passed.same, passed.is) (sym (block-many true (λ c. stmt_at max_nesting v text c) n _))
+  stands : {r : Result Cursor Refused} → Walked (many n (over_stmt true max_nesting h.variables text)) text top r → res_of cursor_of r ≡ outcome true (fault_of_block body.0) body.1
+  stands walked = walked.did ∙ rw (all, passed.is) (sym (block-many true (λ c. stmt_at max_nesting h.variables text c) h.statements _))
 
-  checked-is : (r : Res Program) → read_program text ≡ r → checked text ≡ r >>= (λ p. ok (head, top.at))
+  checked-is : (x : Res Program) → read_program text ≡ x → checked text ≡ x >>= (λ p. ok (h, top.at))
   unfolding checked header_of ◌>>=◌
-  checked-is r e = rw (checked, e, h.header, ← passed.is)
+  checked-is x e = rw (checked, e, headed.header, ← passed.is)
 
-  pub check-faulty : (w.refused ≡ 0 → ⊥) → refuse w.refused w.row ≡ checked text
+  pub check-faulty : {e : Refused} → Walked (many n (over_stmt true max_nesting h.variables text)) text top (Err e) → refuse (refusal_number e.refusal) e.place ≡ checked text
   unfolding ◌>>=◌
-  check-faulty z = sym (checked-is _ (read_is ∙ behind-refused _ _ _ _ _ _ stands z))
+  check-faulty w = sym (checked-is _ (read_is ∙ behind-refused _ _ _ _ _ _ (stands w)))
 
-  on : w.refused ≡ 0 → stand_by 0 (cursor_in w) ≡ outcome true (fault_of_block body.0) body.1
-  on z = rw z at stands
+  module _ {d : Cursor} (w : Walked (many n (over_stmt true max_nesting h.variables text)) text top (Ok d)) where
+    pub check-left-over : d.at < length text → refuse wrong_lines d.row ≡ checked text
+    unfolding ◌>>=◌ demand ◌>>◌
+    check-left-over less = sym (checked-is (refuse wrong_lines d.row) (read_is ∙ behind-on _ _ _ _ _ (stands w) ∙ rw (lt-leb _ _ less)))
 
-  pub check-left-over : w.refused ≡ 0 → w.at < length text → refuse wrong_lines w.row ≡ checked text
-  unfolding ◌>>=◌ demand ◌>>◌
-  check-left-over z less = sym (checked-is (refuse wrong_lines w.row) (read_is ∙ behind-on _ _ _ _ _ (on z) ∙ rw (lt-leb _ _ less)))
-
-  pub check-fine : w.refused ≡ 0 → length text ≤ w.at → ok (head, top.at) ≡ checked text
-  unfolding ◌>>=◌ demand ◌>>◌
-  check-fine z all = sym (checked-is (ok (record { pos = p; body = body.0 })) (read_is ∙ behind-on _ _ _ _ _ (on z) ∙ rw (le-leb _ _ all)))
+    pub check-fine : length text ≤ d.at → ok (h, top.at) ≡ checked text
+    unfolding ◌>>=◌ demand ◌>>◌
+    check-fine more = sym (checked-is (ok (record { pos = h.pos; body = body.0 })) (read_is ∙ behind-on _ _ _ _ _ (stands w) ∙ rw (le-leb _ _ more)))
 
 -- ---- what the answer says of the text
 

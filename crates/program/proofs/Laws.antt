@@ -1,5 +1,5 @@
 -- The laws behind the walk: what the reading says of a line's parts, and what the walk has done there.
-use mathlib.Core.Path.{◌≡◌, refl, ap, sym, ◌∙◌, fun_ext}
+use mathlib.Core.Path.{◌≡◌, refl, ap, sym, ◌∙◌}
 use mathlib.Core.Bool.{Bool, true, false}
 use mathlib.Core.Option.{Option, some, none}
 use mathlib.Core.List.{List, ◌∷◌}
@@ -9,23 +9,28 @@ use native.Mathlib.Omega.{arith}
 use borrow.Author.Tests.{ltb-true, eqb-false}
 use lib.Dec.{eqb, ltb}
 use lib.ListN.{length, drop}
+use Rattle.std.specs.Prelude.{Result, Ok, Err}
 use Rattle.definition.specs.Limits.{wrong_lines, too_deep}
 use Rattle.definition.specs.Res.{Res, ok, refuse, ◌>>=◌}
 use Rattle.definition.specs.Field.{split, comma, first_line}
 use Rattle.definition.specs.Tree.{Fault, Expr, bad, Stmt, bad_stmt, Arms, CaseLabel, value, range, bad_label, Pos, Source}
 use Rattle.definition.specs.Program as def
 use Rattle.definition.specs.Program.{Form, Line, is, not, line_of, line_at, refusal, Reader, A, I, S, F, L, X, N, R, K, B, D, O, U, C, H, M, StmtLine, ExprLine, ArmLine, next_line, fault_at, expr_forms, stmt_forms, arm_forms, label_forms, expr_of, expr_by, expr_at, label_by, labels_at, block_of, arm_by, arms_at, stmt_of, stmt_by, stmt_at, or_else, fault_of_expr, fault_of_labels, fault_of_stmt, fault_of_block, fault_of_arms}
+use Rattle.definition.specs.View.{refusal_number}
+use Rattle.definition.specs.declared.Refusal.{Refusal}
+use Rattle.definition.specs.declared.Refused.{Refused}
 use Rattle.field.specs.View.{Ends, line_end}
 use Rattle.field.proofs.Parts.{line-ends}
 use Rattle.field.proofs.Results.{never}
 use Rattle.field.proofs.Refusals.{LineTold, anything, at_told}
-use Rattle.program_line.specs.Scan.{end_of, Found}
-use Rattle.program_line.proofs.Laws.{good-end}
+use Rattle.program_line.specs.declared.Next.{Next}
+use Rattle.program_line.specs.declared.LabelLine.{LabelLine}
+use Rattle.program_line.specs.declared.LabelLine.TheVariants.{Value, Range}
+use Rattle.program_line.specs.View.{label_line}
+use Rattle.program_line.specs.Scan.{Found}
 use Rattle.program.specs.declared.Cursor.{Cursor}
-use Rattle.program.specs.declared.Walk.{Walk}
 use Rattle.program.specs.declared.Parts.{Parts}
-use Rattle.program.specs.declared.Operands.{Operands}
-use Rattle.program.specs.Walk.{cursor_of, cursor_in, stand_by, stand, Near, Skipped, behind_line, Behind, lines_on, Counted, Walked, outcome, went, many, over_expr, over_stmt, fault_of_label, over_label, arm_with, over_arm, parts_of, operands_of, failed, Passed}
+use Rattle.program.specs.Walk.{cursor_of, Near, Skipped, behind_line, lines_on, Counted, Stands, Walked, outcome, went, many, over_expr, over_stmt, fault_of_label, over_label, arm_with, over_arm, parts_of, operands_of, failed}
 
 -- ---- answers in a row
 
@@ -69,7 +74,7 @@ follows heed f g c d k a b = rw (← a) (go heed f b)
 -- ---- the parts behind a line
 
 module _ (heed : Bool) where
-  expr-parts : (expr : Reader Expr) (c : def.Cursor) (l : ExprLine) → went heed fault_of_expr (expr_of expr c l) ≡ many (operands_of (is l)).count (λ d. went heed fault_of_expr (expr d)) c
+  expr-parts : (expr : Reader Expr) (c : def.Cursor) (l : ExprLine) → went heed fault_of_expr (expr_of expr c l) ≡ many (operands_of l) (λ d. went heed fault_of_expr (expr d)) c
   unfolding expr_of fault_of_expr operands_of many
   expr-parts expr c (K k) = fine heed c
   expr-parts expr c (B b) = fine heed c
@@ -131,7 +136,7 @@ module _ (heed : Bool) where
         >>= (λ f. many p.second (over_stmt heed left v text) f)))
 
     stmt-parts : (s : Pos → Source) (c : def.Cursor) (l : StmtLine)
-        → went heed fault_of_stmt (stmt_of (λ d. expr_at left v text d) (λ d. stmt_at left v text d) (λ n d. arms_at left text (λ x. stmt_at left v text x) n d) s c l) ≡ over_parts (parts_of (is l)) c
+        → went heed fault_of_stmt (stmt_of (λ d. expr_at left v text d) (λ d. stmt_at left v text d) (λ n d. arms_at left text (λ x. stmt_at left v text x) n d) s c l) ≡ over_parts (parts_of l) c
     unfolding stmt_of fault_of_stmt parts_of many ◌>>=◌
     stmt-parts s c (A p i) = sym (bind_ok _ ∙ bind_ok _)
     stmt-parts s c (I p n m) = follows heed _ _ _ _ _ (sym (bind_ok _)) (follows heed _ _ _ _ _ (block-many _ n _) (block-many _ m _))
@@ -231,176 +236,7 @@ counted-then {text} {c} {d} {e} a b =
 
 -- ---- what the walk has done
 
-pub walked_then : {f g : def.Cursor → Res def.Cursor} {text : List ℕ} {w v u : Walk} → Walked f text w v → Walked g text v u → Walked (λ c. f c >>= g) text w u
-walked_then {f} {g} {w = w} a b = record { near = b.near; did = b.did ∙ ap (λ (m : Res def.Cursor). m >>= g) a.did ∙ bind_assoc (stand w) f g; lines = counted-then a.lines b.lines }
-
-module _ {text : List ℕ} {w : Walk} (near : Near text w.at w.row) where
-  -- it was refused before
-  pub stays-refused : (f : def.Cursor → Res def.Cursor) → (w.refused ≡ 0 → ⊥) → Walked f text w w
-  unfolding stand_by ◌>>=◌
-  stays-refused f h = record { near = near; did = go w.refused h; lines = here text (cursor_in w) }
-    where
-      go : (n : ℕ) → (n ≡ 0 → ⊥) → stand_by n (cursor_in w) ≡ stand_by n (cursor_in w) >>= f
-      go zero h = absurd (h refl)
-      go (suc n) h = refl
-
-  module _ (on : w.refused ≡ 0) where
-    -- it stood at a line that is at fault
-    pub fails : (f : def.Cursor → Res def.Cursor) (heed : Bool) (n : ℕ) → f (cursor_in w) ≡ outcome heed (some (fault_at (cursor_in w) n)) (cursor_in w) → (n ≡ 0 → ⊥)
-        → Walked f text w (failed heed w n)
-    unfolding stand_by ◌>>=◌ failed outcome fault_at
-    fails f true zero e h = absurd (h refl)
-    fails f true (suc n) e h = record { near = near; did = rw (on) (sym e); lines = here text (cursor_in w) }
-    fails f false n e h = record { near = near; did = rw (on) (sym e); lines = here text (cursor_in w) }
-
--- it went over a line, and on
-goes_over : {text : List ℕ} {w : Walk} → w.refused ≡ 0 → {f g : def.Cursor → Res def.Cursor} {v u : Walk} → Passed text w v → Walked g text v u
-    → f (cursor_in w) ≡ g (next_line text (cursor_in w)) → Walked f text w u
-unfolding stand_by ◌>>=◌
-goes_over {text} {w} on {v = v} p d e =
-    let one : Counted text (cursor_in w) (cursor_in v) = rw p.is (line_on text (cursor_in w)) in
-    record { near = d.near; did = d.did ∙ rw (p.same, on, p.is) (sym e); lines = counted-then one d.lines }
-
--- ---- one line, and what follows it
-
--- going over f is going over a line whose refusal is `bad`, and then over g
-pub record Step (f g : def.Cursor → Res def.Cursor) (heed : Bool) (text : List ℕ) (left : ℕ) (c : def.Cursor) (bad : ℕ) : Type 0 where
-  pub there : bad ≡ 0 → (c.at < length text) × (0 < left)
-  pub on : bad ≡ 0 → f c ≡ g (next_line text c)
-  pub off : (bad ≡ 0 → ⊥) → f c ≡ outcome heed (some (fault_at c bad)) c
-
-module _ {f g : def.Cursor → Res def.Cursor} {heed : Bool} {text : List ℕ} {left : ℕ} {w : Walk} {bad : ℕ} (s : Step f g heed text left (cursor_in w) bad) (on : w.refused ≡ 0) where
-  pub step-fails : Near text w.at w.row → (bad ≡ 0 → ⊥) → Walked f text w (failed heed w bad)
-  step-fails near h = fails near on f heed bad (s.off h) h
-
-  pub step-walks : {u r : Walk} → bad ≡ 0 → Passed text w u → Walked g text u r → Walked f text w r
-  step-walks h p d = goes_over on p d (s.on h)
-
--- a line that is not at fault, or one that is
-module _ {P : Type 0} (forms : List (Form P)) (f g : def.Cursor → Res def.Cursor) (heed : Bool) (text : List ℕ) (left : ℕ) (c : def.Cursor) where
-  step_is : (l : P) → line_at forms left text c.at ≡ is l → f c ≡ g (next_line text c) → Step f g heed text left c 0
-  step_is l e h = record { there = λ z. line-there forms left text c.at l e; on = λ z. h; off = λ h. absurd (h refl) }
-
-  step-not : (n : ℕ) → line_at forms left text c.at ≡ not n → f c ≡ outcome heed (some (fault_at c n)) c → Step f g heed text left c n
-  step-not n e h = record { there = λ z. absurd (line-some forms left text c.at n e z); on = λ z. absurd (line-some forms left text c.at n e z); off = λ z. h }
-
-operands-good : (l : ExprLine) → (operands_of (is l)).bad ≡ 0
-unfolding operands_of
-operands-good (K k) = refl
-operands-good (B b) = refl
-operands-good (D v) = refl
-operands-good (O o) = refl
-operands-good (U o) = refl
-operands-good (C o) = refl
-operands-good (H o) = refl
-
-parts-good : (l : StmtLine) → (parts_of (is l)).bad ≡ 0
-unfolding parts_of
-parts-good (A p v) = refl
-parts-good (I p n m) = refl
-parts-good (S p n m) = refl
-parts-good (F p i v k n) = refl
-parts-good (L p i n m) = refl
-parts-good (X p i) = refl
-parts-good (N p i) = refl
-parts-good (R p) = refl
-
-module _ (heed : Bool) (left v : ℕ) (text : List ℕ) (c : def.Cursor) where
-  expr-step-at : (x : Line ExprLine) → line_at (expr_forms v) left text c.at ≡ x
-      → Step (over_expr heed left v text) (many (operands_of x).count (over_expr heed (left - 1) v text)) heed text left c (operands_of x).bad
-  unfolding operands_of fault_of_expr
-  expr-step-at (not n) e = step-not (expr_forms v) _ _ heed text left c n e (rw (expr-bad left v text c n e))
-  expr-step-at (is l) e = rw (operands-good l) (step_is (expr_forms v) _ _ heed text left c l e (rw (expr-is left v text c l e) (expr-parts heed _ _ l)))
-
-  pub expr-step : (p : Operands) (x : Line ExprLine) → p ≡ operands_of x → x ≡ line_at (expr_forms v) left text c.at
-      → Step (over_expr heed left v text) (many p.count (over_expr heed (left - 1) v text)) heed text left c p.bad
-  expr-step p x e k = rw e (expr-step-at x (sym k))
-
-  stmt-step-at : (x : Line StmtLine) → line_at (stmt_forms v) left text c.at ≡ x
-      → Step (over_stmt heed left v text) (over_parts heed (left - 1) v text (parts_of x)) heed text left c (parts_of x).bad
-  unfolding parts_of fault_of_stmt
-  stmt-step-at (not n) e = step-not (stmt_forms v) _ _ heed text left c n e (rw (stmt-bad left v text c n e))
-  stmt-step-at (is l) e = rw (parts-good l) (step_is (stmt_forms v) _ _ heed text left c l e (rw (stmt-is left v text c l e) (stmt-parts heed _ _ _ _ _ l)))
-
-  pub stmt-step : (p : Parts) (x : Line StmtLine) → p ≡ parts_of x → x ≡ line_at (stmt_forms v) left text c.at → Step (over_stmt heed left v text) (over_parts heed (left - 1) v text p) heed text left c p.bad
-  stmt-step p x e k = rw e (stmt-step-at x (sym k))
-
-  pub arm_step : (n m : ℕ) → line_at arm_forms left text c.at ≡ is (M n m)
-      → Step (over_arm heed left v text) (λ d. many n (over_label heed left text) d >>= (λ e. many m (over_stmt heed left v text) e)) heed text left c 0
-  unfolding arm_with
-  arm_step n m e = step_is arm_forms _ _ heed text left c (M n m) e (rw e)
-
-module _ (heed : Bool) (left : ℕ) (text : List ℕ) (c : def.Cursor) where
-  pub label-value : (k : ℕ) → line_at label_forms left text c.at ≡ is (value k) → Step (over_label heed left text) (λ d. ok d) heed text left c 0
-  unfolding label_by fault_of_labels
-  label-value k e = step_is label_forms _ _ heed text left c _ e (rw e (fine heed _))
-
-  pub label-range : (a b : ℕ) → line_at label_forms left text c.at ≡ is (range a b) → Step (over_label heed left text) (λ d. ok d) heed text left c 0
-  unfolding label_by fault_of_labels
-  label-range a b e = step_is label_forms _ _ heed text left c _ e (rw e (fine heed _))
-
--- a label's or an arm's line that is at fault
-pub label-fails : (heed : Bool) (left : ℕ) {text : List ℕ} {w : Walk} → w.refused ≡ 0 → Near text w.at w.row → (n : ℕ)
-    → line_at label_forms left text w.at ≡ not n → Walked (over_label heed left text) text w (failed heed w n)
-unfolding label_by fault_of_labels
-label-fails heed left on near n e = fails near on _ heed n (rw e) (line-some label_forms left _ _ n e)
-
-pub arm-fails : (heed : Bool) (left v : ℕ) {text : List ℕ} {w : Walk} → w.refused ≡ 0 → Near text w.at w.row → (n : ℕ)
-    → line_at arm_forms left text w.at ≡ not n → Walked (over_arm heed left v text) text w (failed heed w n)
-unfolding arm_with
-arm-fails heed left v on near n e = fails near on _ heed n (rw e) (line-some arm_forms left _ _ n e)
-
-pub walked_none : {text : List ℕ} {w : Walk} → Near text w.at w.row → Walked (λ c. ok c) text w w
-walked_none {text} {w} near = record { near = near; did = sym (bind_ok (stand w)); lines = here text (cursor_in w) }
-
--- ---- so many parts: what is left to go over
-
-pub record Going (n : ℕ) (f : def.Cursor → Res def.Cursor) (text : List ℕ) (w₀ w : Walk) (more : ℕ) : Type 0 where
-  pub near : Near text w.at w.row
-  pub left : stand w >>= many more f ≡ stand w₀ >>= many n f
-  pub lines : Counted text (cursor_in w₀) (cursor_in w)
-
-pub begins : (n : ℕ) (f : def.Cursor → Res def.Cursor) {text : List ℕ} {w : Walk} → Near text w.at w.row → Going n f text w w n
-begins n f {text} {w} near = record { near = near; left = refl; lines = here text (cursor_in w) }
-
-many_more : (f : def.Cursor → Res def.Cursor) (k : ℕ) → 0 < k → (c : def.Cursor) → many k f c ≡ f c >>= (λ d. many (k - 1) f d)
-unfolding many
-many_more f zero h c = absurd (omega arith)
-many_more f (suc k) h c = rw sub-one
-
-module _ {n : ℕ} {f : def.Cursor → Res def.Cursor} {text : List ℕ} {w₀ w : Walk} {more : ℕ} (g : Going n f text w₀ w more) where
-  pub goes_on : {v : Walk} → Walked f text w v → 0 < more → Going n f text w₀ v (more - 1)
-  goes_on d h = record {
-    near = d.near;
-    left = rw d.did (bind_assoc (stand w) f (many (more - 1) f)) ∙ ap (λ (k : def.Cursor → Res def.Cursor). stand w >>= k) (fun_ext (λ c. sym (many_more f more h c))) ∙ g.left;
-    lines = counted-then g.lines d.lines;
-  }
-
-  pub ends : more ≤ 0 → Walked (many n f) text w₀ w
-  unfolding many
-  ends h =
-      let z : more ≡ 0 = omega arith in
-      record { near = g.near; did = sym (bind_ok (stand w)) ∙ rw z at g.left; lines = g.lines }
-
-  pub breaks : (w.refused ≡ 0 → ⊥) → Walked (many n f) text w₀ w
-  breaks h = record { near = g.near; did = (stays-refused g.near (many more f) h).did ∙ g.left; lines = g.lines }
-
--- ---- over a line
-
--- where a line ends whose refusal is 0
-module _ (v left : ℕ) (text : List ℕ) (at : ℕ) {end stop : ℕ} where
-  line-end : {L : Type 0} (forms : List (Form L)) (refusal : Line L → ℕ) → ((n : ℕ) → refusal (not n) ≡ n) → (x : Line L) → Found x end (line_at forms left text at) stop → refusal x ≡ 0 → end ≡ stop
-  line-end forms refusal h (is l) f z = good-end l f refl
-  line-end forms refusal h (not n) f z = absurd (line-some forms left text at n (sym f.is) (sym (h n) ∙ z))
-
-  pub expr-end : (p : Operands) (x : Line ExprLine) → p ≡ operands_of x → Found x end (line_at (expr_forms v) left text at) stop → p.bad ≡ 0 → end ≡ stop
-  unfolding operands_of
-  expr-end p x e f z = line-end (expr_forms v) (λ y. (operands_of y).bad) (λ n. refl) x f (rw (← e) z)
-
-  pub stmt-end : (p : Parts) (x : Line StmtLine) → p ≡ parts_of x → Found x end (line_at (stmt_forms v) left text at) stop → p.bad ≡ 0 → end ≡ stop
-  unfolding parts_of
-  stmt-end p x e f z = line-end (stmt_forms v) (λ y. (parts_of y).bad) (λ n. refl) x f (rw (← e) z)
-
+-- the place behind a line
 pub next-is : {text : List ℕ} {c : Cursor} {end : ℕ} → Ends first_line text c.at end → Near text c.at c.row → c.at < length text
     → Skipped text (next_line text (cursor_of c)) (record { at = end + 1; row = c.row + 1 })
 unfolding next_line
@@ -409,35 +245,131 @@ next-is e near h = record {
   near = record { short = near.short; within = omega (arith, e.high); rows = omega (arith, near.rows, e.low) };
 }
 
-module _ {L : Type 0} (forms : List (Form L)) (left : ℕ) (text : List ℕ) (c : Cursor) {end : ℕ} where
-  pub end-inside : (x : Line L) → Found x end (line_at forms left text c.at) (line_end text c.at) → end ≤ length text
-  unfolding end_of
-  end-inside (is l) f = omega (arith, f.ends, (line-ends text c.at).high, (line-there forms left text c.at l (sym f.is)).0)
-  end-inside (not n) f = omega (arith, f.ends)
+stands-on : {text : List ℕ} {c d : def.Cursor} → Counted text c d → (r : Result Cursor Refused) → Stands text d r → Stands text c r
+stands-on k (Ok e) (near, l) = (near, counted-then k l)
+stands-on k (Err e) (at, near, l) = (at, near, counted-then k l)
 
-  pub goes-behind : {on : Cursor} (x : Line L) → Found x end (line_at forms left text c.at) (line_end text c.at) → Near text c.at c.row → on ≡ behind_line c end → Behind x text c on
-  unfolding end_of
-  goes-behind (is l) f near e = rw e (next-is (rw f.ends (line-ends text c.at)) near (line-there forms left text c.at l (sym f.is)).0)
-  goes-behind (not n) f near e = tt
+pub walked_then : {f g : def.Cursor → Res def.Cursor} {text : List ℕ} {c d : Cursor} → Walked f text c (Ok d) → (r : Result Cursor Refused) → Walked g text d r → Walked (λ x. f x >>= g) text c r
+unfolding ◌>>=◌
+walked_then {g = g} a r b = record { did = b.did ∙ ap (λ (m : Res def.Cursor). m >>= g) a.did; stands = stands-on a.stands.1 r b.stands }
 
-pub good-behind : {L : Type 0} (text : List ℕ) (c : Cursor) {on : Cursor} (x : Line L) (l : L) → Behind x text c on → x ≡ is l → Skipped text (next_line text (cursor_of c)) on
-good-behind text c (is m) l b e = b
-good-behind text c (not n) l b e = never (cc)
+pub walked-off : {f : def.Cursor → Res def.Cursor} (g : def.Cursor → Res def.Cursor) {text : List ℕ} {c : Cursor} (e : Refused) → Walked f text c (Err e) → Walked (λ x. f x >>= g) text c (Err e)
+unfolding ◌>>=◌
+walked-off g e a = record { did = ap (λ (m : Res def.Cursor). m >>= g) a.did; stands = a.stands }
 
-pub passes : {text : List ℕ} {w : Walk} {c : Cursor} → Skipped text (next_line text (cursor_in w)) c → Passed text w (record { at = c.at; row = c.row; refused = w.refused })
-passes s = record { near = s.near; is = s.is; same = refl }
+-- it went over a line, and on
+pub goes_over : {f g : def.Cursor → Res def.Cursor} {text : List ℕ} {c on : Cursor} → Skipped text (next_line text (cursor_of c)) on → f (cursor_of c) ≡ g (next_line text (cursor_of c))
+    → (r : Result Cursor Refused) → Walked g text on r → Walked f text c r
+goes_over {g = g} {text} {c} s e r w = record { did = w.did ∙ ap g s.is ∙ sym e; stands = stands-on (rw s.is (line_on text (cursor_of c))) r w.stands }
+
+-- it stood at a line that is at fault
+pub fails : {f : def.Cursor → Res def.Cursor} {text : List ℕ} {c : Cursor} (heed : Bool) (e : Refusal) → Near text c.at c.row → f (cursor_of c) ≡ outcome heed (some (fault_at (cursor_of c) (refusal_number e))) (cursor_of c)
+    → Walked f text c (failed heed c e)
+unfolding failed outcome fault_at
+fails {text = text} {c} true e near h = record { did = sym h; stands = (c.at, near, here text (cursor_of c)) }
+fails {text = text} {c} false e near h = record { did = sym h; stands = (near, here text (cursor_of c)) }
+
+pub walked_none : {text : List ℕ} {c : Cursor} → Near text c.at c.row → Walked (λ d. ok d) text c (Ok c)
+walked_none {text} {c} near = record { did = refl; stands = (near, here text (cursor_of c)) }
+
+-- ---- one line, and what follows it
+
+module _ (heed : Bool) (left v : ℕ) (text : List ℕ) (c : def.Cursor) where
+  pub expr-fault : (n : ℕ) → line_at (expr_forms v) left text c.at ≡ not n → over_expr heed left v text c ≡ outcome heed (some (fault_at c n)) c
+  unfolding fault_of_expr
+  expr-fault n e = rw (expr-bad left v text c n e)
+
+  pub expr-over : (l : ExprLine) → line_at (expr_forms v) left text c.at ≡ is l → over_expr heed left v text c ≡ many (operands_of l) (over_expr heed (left - 1) v text) (next_line text c)
+  expr-over l e = rw (expr-is left v text c l e) (expr-parts heed _ _ l)
+
+  pub stmt-fault : (n : ℕ) → line_at (stmt_forms v) left text c.at ≡ not n → over_stmt heed left v text c ≡ outcome heed (some (fault_at c n)) c
+  unfolding fault_of_stmt
+  stmt-fault n e = rw (stmt-bad left v text c n e)
+
+  pub stmt-over : (l : StmtLine) → line_at (stmt_forms v) left text c.at ≡ is l → (p : Parts) → p ≡ parts_of l → over_stmt heed left v text c ≡ over_parts heed (left - 1) v text p (next_line text c)
+  stmt-over l e p q = rw (q, stmt-is left v text c l e) (stmt-parts heed _ _ _ _ _ l)
+
+  pub arm-fault : (n : ℕ) → line_at arm_forms left text c.at ≡ not n → over_arm heed left v text c ≡ outcome heed (some (fault_at c n)) c
+  unfolding arm_with
+  arm-fault n e = rw e
+
+  pub arm_over : (i j n m : ℕ) → line_at arm_forms left text c.at ≡ is (M i j) → n ≡ i → m ≡ j
+      → over_arm heed left v text c ≡ many n (over_label heed left text) (next_line text c) >>= (λ e. many m (over_stmt heed left v text) e)
+  unfolding arm_with
+  arm_over i j n m e a b = rw (a, b, e)
+
+module _ (heed : Bool) (left : ℕ) (text : List ℕ) (c : def.Cursor) where
+  pub label-fault : (n : ℕ) → line_at label_forms left text c.at ≡ not n → over_label heed left text c ≡ outcome heed (some (fault_at c n)) c
+  unfolding label_by fault_of_labels
+  label-fault n e = rw e
+
+  pub label-over : (l : LabelLine) → line_at label_forms left text c.at ≡ is (label_line l) → over_label heed left text c ≡ ok (next_line text c)
+  unfolding label_by fault_of_labels
+  label-over (Value k) e = rw e (fine heed _)
+  label-over (Range a b) e = rw e (fine heed _)
+
+-- ---- so many parts: what is left to go over, after i of n of them
+
+pub record Going (n : ℕ) (f : def.Cursor → Res def.Cursor) (text : List ℕ) (first c : Cursor) (i : ℕ) : Type 0 where
+  pub near : Near text c.at c.row
+  pub left : many (n - i) f (cursor_of c) ≡ many n f (cursor_of first)
+  pub lines : Counted text (cursor_of first) (cursor_of c)
+
+pub begins : (n : ℕ) (f : def.Cursor → Res def.Cursor) {text : List ℕ} {c : Cursor} → Near text c.at c.row → Going n f text c c 0
+begins n f {text} {c} near = let whole : n - 0 ≡ n = omega arith in record { near = near; left = rw whole; lines = here text (cursor_of c) }
+
+many_more : (f : def.Cursor → Res def.Cursor) (k : ℕ) → 0 < k → (c : def.Cursor) → many k f c ≡ f c >>= (λ d. many (k - 1) f d)
+unfolding many
+many_more f zero h c = absurd (omega arith)
+many_more f (suc k) h c = rw sub-one
+
+module _ {n : ℕ} {f : def.Cursor → Res def.Cursor} {text : List ℕ} {first c : Cursor} {i : ℕ} (g : Going n f text first c i) where
+  pub goes_on : i < n → (d : Cursor) → Walked f text c (Ok d) → Going n f text first d (i + 1)
+  unfolding ◌>>=◌
+  goes_on h d w =
+      let less : n - (i + 1) ≡ n - i - 1 = omega arith in
+      record {
+        near = w.stands.0;
+        left = rw less (ap (λ (m : Res def.Cursor). m >>= (λ x. many (n - i - 1) f x)) w.did ∙ sym (many_more f (n - i) (omega arith) (cursor_of c)) ∙ g.left);
+        lines = counted-then g.lines w.stands.1;
+      }
+
+  pub ends : n ≤ i → Walked (many n f) text first (Ok c)
+  unfolding many
+  ends h = let none : n - i ≡ 0 = omega arith in record { did = rw none at g.left; stands = (g.near, g.lines) }
+
+  pub breaks : i < n → (e : Refused) → Walked f text c (Err e) → Walked (many n f) text first (Err e)
+  unfolding ◌>>=◌
+  breaks h e w = record {
+    did = ap (λ (m : Res def.Cursor). m >>= (λ x. many (n - i - 1) f x)) w.did ∙ sym (many_more f (n - i) (omega arith) (cursor_of c)) ∙ g.left;
+    stands = stands-on g.lines (Err e) w.stands;
+  }
+
+-- ---- over a line
+
+-- what `next_line` asks, of a line that was read
+module _ {T P : Type 0} (of : T → P) (forms : List (Form P)) (left : ℕ) (text : List ℕ) (at : ℕ) (n : Next T) {stop : ℕ} where
+  pub line-inside : Found of (Ok n) (line_at forms left text at) stop → (at < length text) × (0 < left)
+  line-inside f = line-there forms left text at (of n.line) (sym f.is)
+
+module _ {T P : Type 0} (of : T → P) (forms : List (Form P)) (left : ℕ) (text : List ℕ) (c : Cursor) (n : Next T) (f : Found of (Ok n) (line_at forms left text c.at) (line_end text c.at)) where
+  pub end-inside : n.end ≤ length text
+  end-inside = omega (arith, f.ends, (line-ends text c.at).high, line-inside of forms left text c.at n f)
+
+  pub goes-behind : {on : Cursor} → Near text c.at c.row → on ≡ behind_line c n.end → Skipped text (next_line text (cursor_of c)) on
+  goes-behind near e = rw e (next-is (rw f.ends (line-ends text c.at)) near (line-inside of forms left text c.at n f).0)
 
 -- ---- a walk that heeds no fault goes to the place that is read
 
-stands_at_lem : (n : ℕ) (c d : def.Cursor) → stand_by n c ≡ ok d → c ≡ d
-unfolding stand_by
-stands_at_lem zero c d e = cc
-stands_at_lem (suc n) c d e = never (cc)
+pub unrefused : {f : def.Cursor → Res def.Cursor} {text : List ℕ} {c : Cursor} (d : def.Cursor) (e : Refused) → Walked f text c (Err e) → f (cursor_of c) ≡ ok d → ⊥
+unrefused d e w k = let p = w.did ∙ k in never (cc)
 
-pub skipped : {f : def.Cursor → Res def.Cursor} {text : List ℕ} {w v : Walk} (d : def.Cursor) → w.refused ≡ 0 → Walked f text w v → f (cursor_in w) ≡ ok d → Skipped text d (record { at = v.at; row = v.row })
-unfolding stand_by ◌>>=◌
-skipped {v = v} d on w e = record { is = stands_at_lem v.refused (cursor_in v) d (w.did ∙ rw on e); near = w.near }
+pub skipped : {f : def.Cursor → Res def.Cursor} {text : List ℕ} {c : Cursor} (d : def.Cursor) (r : Cursor) → Walked f text c (Ok r) → f (cursor_of c) ≡ ok d → Skipped text d r
+skipped d r w e = let p = w.did ∙ e in record { is = cc; near = w.stands.0 }
 
-pub skipped-block : (left v n : ℕ) {text : List ℕ} {b c : Walk} → b.refused ≡ 0 → Walked (many n (over_stmt false left v text)) text b c → Skipped text (block_of (λ d. stmt_at left v text d) n (cursor_in b)).1 (record { at = c.at; row = c.row })
+pub block-ok : (left v n : ℕ) (text : List ℕ) (b : def.Cursor) → many n (over_stmt false left v text) b ≡ ok (block_of (λ d. stmt_at left v text d) n b).1
 unfolding outcome
-skipped-block left v n {b = b} on w = skipped _ on w (sym (block-many false (λ d. stmt_at left v _ d) n (cursor_in b)))
+block-ok left v n text b = sym (block-many false (λ d. stmt_at left v text d) n b)
+
+pub skipped-block : (left v n : ℕ) {text : List ℕ} {b : Cursor} (c : Cursor) → Walked (many n (over_stmt false left v text)) text b (Ok c) → Skipped text (block_of (λ d. stmt_at left v text d) n (cursor_of b)).1 c
+skipped-block left v n c w = skipped _ c w (block-ok left v n _ _)

@@ -1,3 +1,3 @@
 pub mod Laws
-pub mod Check
 pub mod Noted
+pub mod Check

@@ -1,17 +1,15 @@
 -- What the check of a program text answers.
 use Rattle.std.specs.Prelude.{ℕ, ◌≤◌, ◌<◌, ◌≡◌, true, List, length}
 use Rattle.definition.specs.Limits.{max_program, max_nesting}
-use Rattle.definition.specs.Res.{Res, ok, refuse, ◌>>=◌}
-use Rattle.definition.specs.Tree.{Pos, Program}
+use Rattle.definition.specs.Res.{Res, ok, ◌>>=◌}
+use Rattle.definition.specs.Tree.{Program}
 use Rattle.definition.specs.Program.{is, Header, Cursor, header_of, line_at, header_forms, next_line, ends_in_lf, top_stmts, read_program}
 use Rattle.line_map.specs.View.{pos_view}
 use Rattle.program.specs.Walk.{Near}
 use Rattle.program.specs.declared.Checked.{Checked}
-use Rattle.program.specs.declared.Checked.TheVariants.{Refused, Accepted}
 
-abbrev pub checked_view : Checked → Res (Header × ℕ)
-checked_view (Refused n p) = refuse n p
-checked_view (Accepted v n p next) = ok (record { variables = v; statements = n; pos = pos_view p }, next)
+abbrev pub checked_view : Checked → Header × ℕ
+checked_view c = (record { variables = c.variables; statements = c.statements; pos = pos_view c.pos }, c.next)
 
 -- the definition's reading of the text: what its header says, and where the first top statement stands
 unfoldable pub checked : List ℕ → Res (Header × ℕ)
@@ -21,11 +19,11 @@ checked text = do
   ok (h, (next_line text (record { at = 0; row = 1 })).at)
 
 -- a text that 1 does not refuse, with this header
-pub record Headed (text : List ℕ) (v n : ℕ) (p : Pos) : Type 0 where
+pub record Headed (text : List ℕ) (h : Header) : Type 0 where
   pub there : 0 < length text
   pub short : length text ≤ max_program
   pub ended : ends_in_lf text ≡ true
-  pub header : line_at header_forms max_nesting text 0 ≡ is (record { variables = v; statements = n; pos = p })
+  pub header : line_at header_forms max_nesting text 0 ≡ is h
 
 -- the program behind a header
 abbrev pub program_of : List ℕ → Header → Program

@@ -1,32 +1,22 @@
 -- The walk over a program's lines: where it stands, and what it has gone over.
-use Rattle.std.specs.Prelude.{ℕ, zero, suc, ◌+◌, ◌-◌, ◌≤◌, ◌≡◌, List, [], ◌∷◌, Bool, true, false, length}
+use Rattle.std.specs.Prelude.{ℕ, zero, suc, ◌+◌, ◌-◌, ◌≤◌, ◌≡◌, List, [], ◌∷◌, Bool, true, false, length, Result, Ok, Err}
 use Rattle.std.proofs.Math.Option.{Option, some, none}
 use Rattle.definition.specs.Limits.{max_program}
 use Rattle.definition.specs.Res.{Res, ok, refuse, ◌>>=◌}
 use Rattle.definition.specs.Tree.{Fault, CaseLabel}
 use Rattle.definition.specs.Program as def
 use Rattle.definition.specs.Program.{Line, is, not, A, I, S, F, L, X, N, R, K, B, D, O, U, C, H, M, ArmLine, next_line, fault_at, line_at, arm_forms, label_forms, label_by, expr_at, stmt_at, fault_of_expr, fault_of_labels, fault_of_stmt}
+use Rattle.definition.specs.View.{res_of}
+use Rattle.definition.specs.declared.Refusal.{Refusal}
+use Rattle.definition.specs.declared.Refused.{Refused}
 use Rattle.program.specs.declared.Cursor.{Cursor}
-use Rattle.program.specs.declared.Walk.{Walk}
 use Rattle.program.specs.declared.Parts.{Parts}
-use Rattle.program.specs.declared.Operands.{Operands}
 
 abbrev pub cursor_of : Cursor → def.Cursor
 cursor_of c = record { at = c.at; row = c.row }
 
 abbrev pub place_of : def.Cursor → Cursor
 place_of c = record { at = c.at; row = c.row }
-
-abbrev pub cursor_in : Walk → def.Cursor
-cursor_in w = record { at = w.at; row = w.row }
-
-unfoldable pub stand_by : ℕ → def.Cursor → Res def.Cursor
-stand_by zero c = ok c
-stand_by (suc n) c = refuse (suc n) c.row
-
--- a walk goes on at its place, or was refused there
-abbrev pub stand : Walk → Res def.Cursor
-stand w = stand_by w.refused (cursor_in w)
 
 -- a place that a walk may stand at: so near the text that nothing wraps. The line number is at most one past the byte
 pub record Near (text : List ℕ) (at row : ℕ) : Type 0 where
@@ -56,11 +46,15 @@ lines_on text (suc n) c = lines_on text n (next_line text c)
 pub record Counted (text : List ℕ) (c d : def.Cursor) : Type 0 where
   pub is : d ≡ lines_on text (d.row - c.row) c
 
--- what a walk has done: `did` gives its refusal and its line, and where it goes on; after a refusal too its byte is that of its line
-pub record Walked (f : def.Cursor → Res def.Cursor) (text : List ℕ) (w v : Walk) : Type 0 where
-  pub near : Near text v.at v.row
-  pub did : stand v ≡ stand w >>= f
-  pub lines : Counted text (cursor_in w) (cursor_in v)
+-- where a walk stands: at the place it went to, or at the line that it is refused for, whose byte is that of its number too
+abbrev pub Stands : List ℕ → def.Cursor → Result Cursor Refused → Type 0
+Stands text c (Ok d) = Near text d.at d.row × Counted text c (cursor_of d)
+Stands text c (Err e) = (at : ℕ) × Near text at e.place × Counted text c (record { at = at; row = e.place })
+
+-- what a walk from c has done: `did` gives its refusal and its line, or where it goes on
+pub record Walked (f : def.Cursor → Res def.Cursor) (text : List ℕ) (c : Cursor) (r : Result Cursor Refused) : Type 0 where
+  pub did : res_of cursor_of r ≡ f (cursor_of c)
+  pub stands : Stands text (cursor_of c) r
 
 -- ---- what is gone over
 
@@ -98,41 +92,38 @@ arm_with heed left v text c (is (M n m)) = many n (over_label heed left text) (n
 abbrev pub over_arm : Bool → ℕ → ℕ → List ℕ → def.Cursor → Res def.Cursor
 over_arm heed left v text c = arm_with heed left v text c (line_at arm_forms left text c.at)
 
--- ---- what follows a line: its refusal, 0 if there is none, and how many parts of each kind
+-- ---- what follows a line: how many parts of each kind
 
-unfoldable pub parts_of : Line def.StmtLine → Parts
-parts_of (is (A p v)) = record { bad = 0; exprs = 1; arms = 0; first = 0; second = 0 }
-parts_of (is (I p n m)) = record { bad = 0; exprs = 1; arms = 0; first = n; second = m }
-parts_of (is (S p n m)) = record { bad = 0; exprs = 1; arms = n; first = 0; second = m }
-parts_of (is (F p i v k n)) = record { bad = 0; exprs = 2; arms = 0; first = n; second = 0 }
-parts_of (is (L p i n m)) = record { bad = 0; exprs = 0; arms = 0; first = n; second = m }
-parts_of (is (X p i)) = record { bad = 0; exprs = 0; arms = 0; first = 0; second = 0 }
-parts_of (is (N p i)) = record { bad = 0; exprs = 0; arms = 0; first = 0; second = 0 }
-parts_of (is (R p)) = record { bad = 0; exprs = 0; arms = 0; first = 0; second = 0 }
-parts_of (not n) = record { bad = n; exprs = 0; arms = 0; first = 0; second = 0 }
+unfoldable pub parts_of : def.StmtLine → Parts
+parts_of (A p v) = record { exprs = 1; arms = 0; first = 0; second = 0 }
+parts_of (I p n m) = record { exprs = 1; arms = 0; first = n; second = m }
+parts_of (S p n m) = record { exprs = 1; arms = n; first = 0; second = m }
+parts_of (F p i v k n) = record { exprs = 2; arms = 0; first = n; second = 0 }
+parts_of (L p i n m) = record { exprs = 0; arms = 0; first = n; second = m }
+parts_of (X p i) = record { exprs = 0; arms = 0; first = 0; second = 0 }
+parts_of (N p i) = record { exprs = 0; arms = 0; first = 0; second = 0 }
+parts_of (R p) = record { exprs = 0; arms = 0; first = 0; second = 0 }
 
-unfoldable pub operands_of : Line def.ExprLine → Operands
-operands_of (is (K k)) = record { bad = 0; count = 0 }
-operands_of (is (B b)) = record { bad = 0; count = 0 }
-operands_of (is (D v)) = record { bad = 0; count = 0 }
-operands_of (is (O o)) = record { bad = 0; count = 2 }
-operands_of (is (U o)) = record { bad = 0; count = 1 }
-operands_of (is (C c)) = record { bad = 0; count = 2 }
-operands_of (is (H o)) = record { bad = 0; count = 2 }
-operands_of (not n) = record { bad = n; count = 0 }
+unfoldable pub operands_of : def.ExprLine → ℕ
+operands_of (K k) = 0
+operands_of (B b) = 0
+operands_of (D v) = 0
+operands_of (O o) = 2
+operands_of (U o) = 1
+operands_of (C c) = 2
+operands_of (H o) = 2
 
-unfoldable pub blocks : ℕ → ℕ → ℕ → Parts
-blocks exprs first second = record { bad = 0; exprs = exprs; arms = 0; first = first; second = second }
+abbrev pub blocks : ℕ → ℕ → ℕ → Parts
+blocks exprs first second = record { exprs = exprs; arms = 0; first = first; second = second }
 
 -- ---- one step
 
 -- at a line that is at fault
-unfoldable pub failed : Bool → Walk → ℕ → Walk
-failed true w n = record { at = w.at; row = w.row; refused = n }
-failed false w n = w
+unfoldable pub failed : Bool → Cursor → Refusal → Result Cursor Refused
+failed true c e = Err (record { refusal = e; place = c.row })
+failed false c e = Ok c
 
--- over a line
-pub record Passed (text : List ℕ) (w v : Walk) : Type 0 where
-  pub near : Near text v.at v.row
-  pub is : cursor_in v ≡ next_line text (cursor_in w)
-  pub same : v.refused ≡ w.refused
+-- `unfolding open_parts` names the definitions that code mirrors
+unfoldable pub open_parts : Unit {0}
+unfolding parts_of operands_of failed
+open_parts = tt

@@ -1,35 +1,34 @@
-use mathlib.Core.Bool.{true}
+use mathlib.Core.Path.{sym}
 use native.Mathlib.Omega.{arith}
-use Rattle.program.specs.Walk.{cursor_in}
-use Rattle.program.proofs.Laws.{begins, goes_on, ends, breaks, stays-refused, expr-step, expr-end, step-fails, step-walks}
+use Rattle.std.proofs.lemmas.Result.{err_from_is_err_and}
+use Rattle.definition.specs.Program.{expr_forms}
+use Rattle.program_line.specs.View.{expr_line}
+use Rattle.program.proofs.Laws.{begins, goes_on, ends, breaks, fails, goes_over, line-inside, expr-fault, expr-over}
 use Rattle.program.proofs.+exprs.Goals as goal
 
-pub walk_expr-returns-then-w-ne0 : goal.walk_expr-returns-then-w-ne0
-walk_expr-returns-then-w-ne0 t c = stays-refused c.requires _ c.if-w-ne0.true
-
-pub walk_expr-returns-then-p-ne0 : goal.walk_expr-returns-then-p-ne0
-walk_expr-returns-then-p-ne0 t c = rw c.fail.ensures (step-fails (expr-step _ _ _ _ _ _ _ c.operands_of-p.ensures c.next_expr-r.ensures.is) c.if-w-ne0.false c.requires c.if-p-ne0.true)
-
-pub walk_expr-pass_line-next-requires : goal.walk_expr-pass_line-next-requires
-walk_expr-pass_line-next-requires t c = record { near = c.requires; at_in_bounds = ((expr-step true _ _ _ (cursor_in c.args.w) _ _ c.operands_of-p.ensures c.next_expr-r.ensures.is).there c.if-p-ne0.false).0; end_value = expr-end _ _ _ _ _ _ c.operands_of-p.ensures c.next_expr-r.ensures c.if-p-ne0.false }
+pub walk_expr-next_line-on-requires-clause-at_in_bounds : goal.walk_expr-next_line-on-requires-clause-at_in_bounds
+walk_expr-next_line-on-requires-clause-at_in_bounds t c = (line-inside expr_line (expr_forms c.args.variables) _ _ _ _ c.in-Ok.ensures).0
 
 pub walk_expr-overflow_sub-left : goal.walk_expr-overflow_sub-left
-walk_expr-overflow_sub-left t c = ((expr-step true _ _ _ (cursor_in c.args.w) _ _ c.operands_of-p.ensures c.next_expr-r.ensures.is).there c.if-p-ne0.false).1
+walk_expr-overflow_sub-left t c = (line-inside expr_line (expr_forms c.args.variables) _ _ _ _ c.in-Ok.ensures).1
 
 pub walk_expr-walk_exprs-requires : goal.walk_expr-walk_exprs-requires
-walk_expr-walk_exprs-requires t c = (omega (arith, c.decreases, (expr-step true _ _ _ (cursor_in c.args.w) _ _ c.operands_of-p.ensures c.next_expr-r.ensures.is).there c.if-p-ne0.false), c.pass_line-next.ensures.near)
+walk_expr-walk_exprs-requires t c = (omega (arith, c.decreases, line-inside expr_line (expr_forms c.args.variables) _ _ _ _ c.in-Ok.ensures), c.next_line-on.ensures.near)
 
-pub walk_expr-returns : goal.walk_expr-returns
-walk_expr-returns t c = step-walks (expr-step _ _ _ _ _ _ _ c.operands_of-p.ensures c.next_expr-r.ensures.is) c.if-w-ne0.false c.if-p-ne0.false c.pass_line-next.ensures c.walk_exprs.ensures
+pub walk_expr-returns-in-Err : goal.walk_expr-returns-in-Err
+walk_expr-returns-in-Err t c = rw c.fail.ensures (fails _ _ c.requires (expr-fault _ _ _ _ _ _ (sym c.in-Err.ensures.is)))
 
-pub walk_exprs-loop-more-init : goal.walk_exprs-loop-more-init
-walk_exprs-loop-more-init t c = begins _ _ c.requires
+pub walk_expr-returns-in-Ok : goal.walk_expr-returns-in-Ok
+walk_expr-returns-in-Ok t c = goes_over c.next_line-on.ensures (expr-over _ _ _ _ _ _ (sym c.in-Ok.ensures.is)) _ (rw c.operands_of.ensures at c.walk_exprs.ensures)
 
-pub walk_exprs-returns-then-on-ne0 : goal.walk_exprs-returns-then-on-ne0
-walk_exprs-returns-then-on-ne0 t c = breaks c.loop-more.invariant c.if-on-ne0.true
+pub walk_exprs-loop-init : goal.walk_exprs-loop-init
+walk_exprs-loop-init t c = begins _ _ c.requires
 
-pub walk_exprs-loop-more-preserved : goal.walk_exprs-loop-more-preserved
-walk_exprs-loop-more-preserved t c = goes_on c.loop-more.invariant c.walk_expr-on.ensures c.loop-more-test.true
+pub walk_exprs-returns-in_err-on : goal.walk_exprs-returns-in_err-on
+walk_exprs-returns-in_err-on t c = let p = err_from_is_err_and c.from_residual.result c.from_residual.ensures.1 in rw (p.1, p.2) (breaks c.loop.invariant c.loop-test.true _ c.in_err-on.ensures)
+
+pub walk_exprs-loop-preserved : goal.walk_exprs-loop-preserved
+walk_exprs-loop-preserved t c = goes_on c.loop.invariant c.loop-test.true _ c.in_ok-on.ensures
 
 pub walk_exprs-returns : goal.walk_exprs-returns
-walk_exprs-returns t c = ends c.loop-more.invariant c.loop-more-test.false
+walk_exprs-returns t c = ends c.loop.invariant c.loop-test.false

@@ -10,8 +10,5 @@ decreases-walk_expr l = 2 * l.left
 abbrev pub decreases-walk_exprs : goal.decreases-walk_exprs
 decreases-walk_exprs l = 2 * l.left + 1
 
-abbrev pub invariant-walk_exprs-loop-more : goal.invariant-walk_exprs-loop-more
-invariant-walk_exprs-loop-more l = Going l.n (over_expr l.heed l.left l.variables l.text) l.text l.initial.on l.on l.more
-
-abbrev pub decreases-walk_exprs-loop-more : goal.decreases-walk_exprs-loop-more
-decreases-walk_exprs-loop-more l = l.more
+abbrev pub invariant-walk_exprs-loop : goal.invariant-walk_exprs-loop
+invariant-walk_exprs-loop l = Going l.n (over_expr l.heed l.left l.variables l.text) l.text l.initial.on l.on l.counter

@@ -17,14 +17,8 @@ decreases-walk_stmt l = 4 * l.left
 abbrev pub decreases-walk_stmts : goal.decreases-walk_stmts
 decreases-walk_stmts l = 4 * l.left + 1
 
-abbrev pub invariant-walk_arms-loop-more : goal.invariant-walk_arms-loop-more
-invariant-walk_arms-loop-more l = Going l.n (over_arm l.heed l.left l.variables l.text) l.text l.initial.on l.on l.more × Sound l.text l.variables l.ends
+abbrev pub invariant-walk_arms-loop : goal.invariant-walk_arms-loop
+invariant-walk_arms-loop l = Going l.n (over_arm l.heed l.left l.variables l.text) l.text l.initial.on l.on l.counter × Sound l.text l.variables l.ends
 
-abbrev pub decreases-walk_arms-loop-more : goal.decreases-walk_arms-loop-more
-decreases-walk_arms-loop-more l = l.more
-
-abbrev pub invariant-walk_stmts-loop-more : goal.invariant-walk_stmts-loop-more
-invariant-walk_stmts-loop-more l = Going l.n (over_stmt l.heed l.left l.variables l.text) l.text l.initial.on l.on l.more × Sound l.text l.variables l.ends
-
-abbrev pub decreases-walk_stmts-loop-more : goal.decreases-walk_stmts-loop-more
-decreases-walk_stmts-loop-more l = l.more
+abbrev pub invariant-walk_stmts-loop : goal.invariant-walk_stmts-loop
+invariant-walk_stmts-loop l = Going l.n (over_stmt l.heed l.left l.variables l.text) l.text l.initial.on l.on l.counter × Sound l.text l.variables l.ends

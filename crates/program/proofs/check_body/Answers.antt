@@ -1,15 +1,16 @@
+use Rattle.std.proofs.lemmas.Result.{err_from_is_err_and}
 use Rattle.program.proofs.Check.{check-faulty, check-left-over, check-fine}
 use Rattle.program.proofs.Noted.{sound_none}
 use Rattle.program.proofs.check_body.Goals as goal
 
-pub walk_stmts-w-requires : goal.walk_stmts-w-requires
-walk_stmts-w-requires c = record { near = c.pass_line-top.ensures.near; sound = sound_none _ _ c.requires.headed.short }
+pub walk_stmts-requires-clause-sound : goal.walk_stmts-requires-clause-sound
+walk_stmts-requires-clause-sound c = rw c.new-ends.ensures (sound_none _ _ c.requires.headed.short)
 
-pub returns-then-w-ne0 : goal.returns-then-w-ne0
-returns-then-w-ne0 c = check-faulty c.requires.headed c.pass_line-top.ensures c.walk_stmts-w.ensures.walked c.if-w-ne0.true
+pub returns-in_err-last : goal.returns-in_err-last
+returns-in_err-last c = let p = err_from_is_err_and c.from_residual.result c.from_residual.ensures.1 in rw (p.1, p.2) (check-faulty c.requires.headed c.next_line-top.ensures c.from-n.ensures c.in_err-last.ensures.walked)
 
-pub returns-then-w-text : goal.returns-then-w-text
-returns-then-w-text c = check-left-over c.requires.headed c.pass_line-top.ensures c.walk_stmts-w.ensures.walked c.if-w-ne0.false c.if-w-text.true
+pub returns-then-last-text : goal.returns-then-last-text
+returns-then-last-text c = check-left-over c.requires.headed c.next_line-top.ensures c.from-n.ensures c.in_ok-last.ensures.walked c.if-last-text.true
 
 pub returns : goal.returns
-returns c = check-fine c.requires.headed c.pass_line-top.ensures c.walk_stmts-w.ensures.walked c.if-w-ne0.false c.if-w-text.false
+returns c = check-fine c.requires.headed c.next_line-top.ensures c.from-n.ensures c.in_ok-last.ensures.walked c.if-last-text.false

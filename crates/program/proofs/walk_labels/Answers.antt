@@ -1,14 +1,15 @@
+use Rattle.std.proofs.lemmas.Result.{err_from_is_err_and}
 use Rattle.program.proofs.Laws.{begins, goes_on, ends, breaks}
 use Rattle.program.proofs.walk_labels.Goals as goal
 
-pub loop-more-init : goal.loop-more-init
-loop-more-init c = begins _ _ c.requires
+pub loop-init : goal.loop-init
+loop-init c = begins _ _ c.requires
 
-pub returns-then-on-ne0 : goal.returns-then-on-ne0
-returns-then-on-ne0 c = breaks c.loop-more.invariant c.if-on-ne0.true
+pub returns-in_err-on : goal.returns-in_err-on
+returns-in_err-on c = let p = err_from_is_err_and c.from_residual.result c.from_residual.ensures.1 in rw (p.1, p.2) (breaks c.loop.invariant c.loop-test.true _ c.in_err-on.ensures)
 
-pub loop-more-preserved : goal.loop-more-preserved
-loop-more-preserved c = goes_on c.loop-more.invariant c.walk_label-on.ensures c.loop-more-test.true
+pub loop-preserved : goal.loop-preserved
+loop-preserved c = goes_on c.loop.invariant c.loop-test.true _ c.in_ok-on.ensures
 
 pub returns : goal.returns
-returns c = ends c.loop-more.invariant c.loop-more-test.false
+returns c = ends c.loop.invariant c.loop-test.false

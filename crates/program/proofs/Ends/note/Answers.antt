@@ -1,0 +1,5 @@
+use Rattle.program.proofs.Noted.{noted-first}
+use Rattle.program.proofs.Ends.note.Goals as goal
+
+pub returns-then-replaces : goal.returns-then-replaces
+returns-then-replaces c = noted-first c.set_aside.ensures c.if-heed.false c.in-Some.ensures
