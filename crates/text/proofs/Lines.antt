@@ -1,11 +1,11 @@
 -- Fields and lines put into a store.
 use mathlib.Core.Path.{◌≡◌, refl, ap, sym, ◌∙◌}
 use mathlib.Core.List.{List, [], ◌∷◌, ◌++◌, map, append_assoc}
-use Prim.Native.Nat.{ℕ, suc, ◌+◌, ◌-◌, ◌≤◌, ◌<◌}
+use Prim.Native.Nat.{ℕ, suc, ◌+◌, ◌≤◌, ◌<◌}
 use Prim.Native.Char.{code}
 use native.Mathlib.Numerals.{add-one}
 use native.Mathlib.Omega.{arith}
-use lib.ListN.{length, take, drop, get_or, length-drop, drop_of_length-le}
+use lib.ListN.{length, drop, get_or, drop_of_length-le}
 use lib.Seq.{drop-cons, take_all}
 use Rattle.std.proofs.lemmas.List.{get_or-map}
 use Rattle.definition.specs.Field.{lf, comma}
@@ -145,7 +145,7 @@ pub put-by-sheet : {text table : List ℕ} (s : Store) {t : Store} (l : List ℕ
 unfolding instructions_by
 put-by-sheet s l d p = rw d.is p
 
-pub put-no-sheet : {text table : List ℕ} (r : Result (Unit {0}) Refused) (s : Store) (l : List ℕ) → Reads text table (res_of (λ u. u) r) → ((u : Unit {0}) → r ≡ Ok u → ⊥) → s ≡ push_all s (instructions_by (read_sheet text) l)
+pub put-no-sheet : (text table : List ℕ) (r : Result (Unit {0}) Refused) (s : Store) (l : List ℕ) → Reads text table (res_of (λ u. u) r) → ((u : Unit {0}) → r ≡ Ok u → ⊥) → s ≡ push_all s (instructions_by (read_sheet text) l)
 unfolding instructions_by push_all
-put-no-sheet (Ok u) s l d h = absurd (h u refl)
-put-no-sheet (Err e) s l d h = rw d.is
+put-no-sheet text table (Ok u) s l d h = absurd (h u refl)
+put-no-sheet text table (Err e) s l d h = rw d.is

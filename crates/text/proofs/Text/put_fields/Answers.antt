@@ -1,5 +1,4 @@
 use mathlib.Core.Path.{◌∙◌}
-use native.Mathlib.Omega.{arith}
 use lib.ListN.{length-map}
 use Rattle.text.proofs.Lines.{fields-on, fields-end, value-at}
 use Rattle.text.proofs.Text.put_fields.Goals as goal

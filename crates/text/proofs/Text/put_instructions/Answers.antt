@@ -12,4 +12,4 @@ pub returns-in-Ok-clause-is : goal.returns-in-Ok-clause-is
 returns-in-Ok-clause-is c = put-by-sheet _ _ (read_whole (length-replicate {A = ℕ} table_size 0) c.in-Ok.ensures) c.put_decoded.ensures.is
 
 pub returns-in_default-clause-is : goal.returns-in_default-clause-is
-returns-in_default-clause-is c = put-no-sheet c.read_sheet.result _ _ (read_whole (length-replicate {A = ℕ} table_size 0) c.read_sheet.ensures) c.in_default.not-Ok
+returns-in_default-clause-is c = put-no-sheet _ _ c.read_sheet.result _ _ (read_whole (length-replicate {A = ℕ} table_size 0) c.read_sheet.ensures) c.in_default.not-Ok
