@@ -134,10 +134,10 @@ unfolding done passes
 done-all s rules p = refl
 
 -- what the next pass is lent
-pub runnable : {sheet rules : List ℕ} {count : ℕ} {code c p p₀ t : List ℕ} {n : ℕ} {q : Pipeline} → Runnable sheet rules count code p₀ → Ran q code c p t n → Runnable sheet rules count (take n c) p
+pub runnable : {sheet code c p p₀ t : List ℕ} {n : ℕ} {q : Pipeline} → Runnable sheet code p₀ → Ran q code c p t n → Runnable sheet (take n c) p
 runnable {code = code} {c = c} {n = n} {q = q} r a =
     let here : take n c ≡ q.bytecode = rw a.bytes (front (length code) q.bytecode n (sym a.end)) in
-    record { table = r.table; held = r.held; few = rw here (omega (arith, a.end, a.within, r.few)); small = rw (here, ← a.end) a.small }
+    record { table = r.table; few = rw here (omega (arith, a.end, a.within, r.few)); small = rw (here, ← a.end) a.small }
 
 pub ran-long : {code c p t : List ℕ} {n : ℕ} {q : Pipeline} → Ran q code c p t n → length c ≡ length code
 ran-long {code} {c} {q = q} a = ap length a.bytes ∙ length-filled (length code) q.bytecode (omega (arith, a.end, a.within))

@@ -1,8 +1,8 @@
 // Rewriting and line mapping called alone: refusals in their order (14, 7, 9, 10, 11, 12, 8), then the passes.
-ghost use Rattle.std.specs.Prelude.{◌≡◌, ◌≤◌, suc, length};
+ghost use Rattle.std.specs.Prelude.{◌≡◌, ◌≤◌, ◌<◌, suc, length};
 ghost use Rattle.definition.specs.Alone.{roomy, Rewrites};
 ghost use Rattle.definition.specs.View.{res_of};
-ghost use Rattle.rewrite.specs.View.{Clear};
+ghost use Rattle.rewrite.specs.View.{Clear, slot_count};
 ghost use Rattle.opcode.specs.Table.{IsTable, sheet_in};
 ghost use Rattle.rules.specs.View.{rules_in};
 ghost use Rattle.optimize.specs.View.{given, room, room_of, limited, answer_view, Gives, Finds, Within, Roomy, after_limits, after_rules};
@@ -103,6 +103,7 @@ fn rewrite_over<const N: usize>(
     requires table { IsTable sheet.now }
     requires within { Within (given code.now protected.now lines.now) (room bytes.old offsets.old entries.old) }
     requires slots { length code.now < N }
+    requires few { N ≤ slot_count }
     ensures { Gives (room bytes.old offsets.old entries.old) (after_limits (sheet_in sheet.now) (rules_in rules.entry.table.now rules.entry.count) (given code.now protected.now lines.now)) result bytes.new offsets.new entries.new }
 {
     let end = code.len() + 1;

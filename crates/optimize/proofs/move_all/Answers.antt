@@ -1,4 +1,3 @@
-use mathlib.Core.Path.{refl}
 use native.Mathlib.Omega.{arith}
 use Rattle.optimize.proofs.Tables.{move-begins, move-goes-on, move-ends}
 use Rattle.optimize.proofs.move_all.Goals as goal

@@ -14,7 +14,7 @@ pub loop-pass-preserved : goal.loop-pass-preserved
 loop-pass-preserved c =
     let h : 1 ≤ c.loop-pass.pass = omega arith in
     record {
-      ran = rw done-more (then-run (sheet_in c.args.sheet.now) (rules_in c.args.rules.now c.args.count) c.loop-pass.pass c.loop-pass.invariant.ran c.run-n.ensures.ran);
+      ran = rw done-more (then-run (sheet_in c.args.sheet.now) (rules_in c.args.rules.table.now c.args.rules.count) c.loop-pass.pass c.loop-pass.invariant.ran c.run-n.ensures.ran);
       marks = shorter c.run-n.ensures.ran.within c.run-n.ensures.clear_3;
       moves = shorter c.run-n.ensures.ran.within c.run-n.ensures.clear_4;
     }
