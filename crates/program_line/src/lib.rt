@@ -160,9 +160,9 @@ fn short_circuit_op(n: u16) -> ShortCircuitOp
 
 // ---- the fields behind a line's letter
 
-// How the numbers of a line stand so far: a malformed one (2) wins over one outside its range (3), whatever their order. So a field at fault
+// How the numbers of a line stand so far, from good to bad: a malformed one (2) wins over one outside its range (3), whatever their order. So a field at fault
 // does not end the line's reading with `?`, and its fault is kept here until the line's end.
-#[derive(Clone, Copy)]
+#[derive(Clone, Copy, PartialEq, Eq, PartialOrd, Ord)]
 pub enum Verdict {
     Good,
     Far,
@@ -203,11 +203,8 @@ fn worse(verdict: Verdict, read: Result<u32, Fault>) -> Verdict
 {
     match read {
         Ok(_) => verdict,
+        Err(Fault::Outside) => verdict.max(Verdict::Far),
         Err(Fault::Malformed) => Verdict::Wrong,
-        Err(Fault::Outside) => match verdict {
-            Verdict::Wrong => Verdict::Wrong,
-            Verdict::Good | Verdict::Far => Verdict::Far,
-        },
     }
 }
 
