@@ -13,27 +13,26 @@ use Rattle.text.specs.Text.{text_room, Told}
 use Rattle.text.proofs.Told.{told-put}
 use Rattle.input_machine.specs.Machine.{State, Ending, ending, concluded}
 use Rattle.passes_answer.specs.View.{handed, full_room, answer_text, Known}
-use Rattle.input_reader.specs.View.{handed_count, handed_rules}
-use Rattle.input_reader.proofs.Handing.{handed-used}
+use Rattle.input_reader.specs.Handed.{handed as part}
+use Rattle.input_reader.specs.View.{handed_rules}
 use Rattle.passes_answer.proofs.Conclusion.{concluded-text}
 use Rattle.passes_answer.proofs.Short.{Sized, text-short}
 
-pub finished-by : (st : State) (before mid : List ℕ) {after : List ℕ} {m : ℕ} {room : Room} {a : Answer} {n : ℕ} (v : Ending) → length before ≡ text_room → v ≡ ending st.head → room ≡ full_room
-    → n ≡ handed_count true st.stores.sheet.used (length st.stores.sheet.cells)
+pub finished-by : (st : State) (before mid : List ℕ) {after : List ℕ} {m : ℕ} {room : Room} {a : Answer} {sheet : List ℕ} (v : Ending) → length before ≡ text_room → v ≡ ending st.head → room ≡ full_room
+    → sheet ≡ part true st.stores.sheet
     → Rewrites room (contents st.stores.sheet) (handed_rules (ending st.head) st.stores) (handed (ending st.head) st.stores) a
-    → at mid m ≡ push_all (at before 0) (answer_text v (read_sheet (take n st.stores.sheet.cells)) a)
+    → at mid m ≡ push_all (at before 0) (answer_text v (read_sheet sheet) a)
     → Sized a → Known a.code a.protected a.lines → after ≡ zeroed_from m mid
     → Told text_room text (contents st.stores.sheet) (λ place. concluded place st) after m
-unfolding concluded
-finished-by st before mid {m = m} {room = room} {a = a} {n = n} v long h full c r p z k rest =
+unfolding concluded part
+finished-by st before mid {m = m} {room = room} {a = a} {sheet = sheet} v long h full c r p z k rest =
     let e = ending st.head in
     let s = st.stores in
-    let sheet : take n s.sheet.cells ≡ contents s.sheet = rw c (handed-used s.sheet.used s.sheet.cells) in
     let called : a ≡ answer full_room (rewrite_into r.place full_room (contents s.sheet) (handed_rules e s) (handed e s)) =
     r.is ∙ ap (λ (q : Room). answer q (rewrite_into r.place q (contents s.sheet) (handed_rules e s) (handed e s))) full in
     let put = p
-    ∙ ap (λ (w : Ending). push_all (at before 0) (answer_text w (read_sheet (take n s.sheet.cells)) a)) h
-    ∙ ap (λ (l : List ℕ). push_all (at before 0) (answer_text e (read_sheet l) a)) sheet
+    ∙ ap (λ (w : Ending). push_all (at before 0) (answer_text w (read_sheet sheet) a)) h
+    ∙ ap (λ (l : List ℕ). push_all (at before 0) (answer_text e (read_sheet l) a)) c
     ∙ ap (λ (b : Answer). push_all (at before 0) (answer_text e (read_sheet (contents s.sheet)) b)) called
     ∙ ap (push_all (at before 0)) (concluded-text e r.place s) in
     let short = text-short e r.place s a called z k in

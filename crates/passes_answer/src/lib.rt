@@ -23,45 +23,25 @@ use text::TEXT_ROOM;
 // Numbers that a full line list takes.
 const LINE_NUMBERS: usize = MAX_LINES * ENTRY_SIZE;
 
+#[tactic(auto, unfolding(crate::specs::View::is_whole))]
 fn is_whole(e: Ending) -> bool
     ensures { result ≡ is_whole (ending_view e) }
 {
-    match e {
-        Ending::Whole => true,
-        Ending::Cut(_) => false,
-        Ending::Countless => false,
-    }
+    matches!(e, Ending::Whole)
 }
 
 // What was read, rewritten: all of it after a whole input; else only the sheet and the rules can be refused.
-fn rewrite_read(
-    reader: Reader,
-    sheet: &[u8],
-    rules: &[u8],
-    code: &[u8],
-    offsets: &[u16],
-    entries: &[u16],
-    bytes: &mut [u8],
-    moved: &mut [u16],
-    lines: &mut [u16],
-) -> Answer
-    ensures { Rewrites (room bytes.old moved.old lines.old) (contents (at sheet.now reader.used.sheet)) (handed_rules (ending (head_view reader.head)) (stores_view reader.used sheet.now rules.now code.now offsets.now entries.now)) (handed (ending (head_view reader.head)) (stores_view reader.used sheet.now rules.now code.now offsets.now entries.now)) (answer_view result bytes.new moved.new lines.new) }
+fn rewrite_read(reader: &Reader, bytes: &mut [u8], moved: &mut [u16], lines: &mut [u16]) -> Answer
+    ensures { let s = stores_view reader.now in let e = ending (head_view reader.now.head) in Rewrites (room bytes.old moved.old lines.old) (contents s.sheet) (handed_rules e s) (handed e s) (answer_view result bytes.new moved.new lines.new) }
 {
-    let used = reader.used;
     let end = input_reader::ending_of(reader.head);
-    let counted = input_reader::is_counted(end);
     let whole = is_whole(end);
-    let a = input_reader::handed_count(true, used.sheet, sheet.len());
-    let b = input_reader::handed_count(counted, used.rules, rules.len());
-    let c = input_reader::handed_count(whole, used.code, code.len());
-    let d = input_reader::handed_count(whole, used.offsets, offsets.len());
-    let e = input_reader::handed_count(whole, used.entries, entries.len());
     optimize::rewrite_alone(
-        &sheet[..a],
-        &rules[..b],
-        &code[..c],
-        &offsets[..d],
-        &entries[..e],
+        reader.sheet.handed(true),
+        reader.rules.handed(input_reader::is_counted(end)),
+        reader.code.handed(whole),
+        reader.offsets.handed(whole),
+        reader.entries.handed(whole),
         bytes,
         moved,
         lines,
@@ -78,8 +58,8 @@ fn put_whole(
 ) -> usize
     ensures { at out.new result ≡ push_all (at out.old 0) (whole_text (read_sheet sheet.now) (answer_view a bytes.now moved.now lines.now)) }
 {
-    let n = numbers::least(a.bytes, bytes.len());
-    let k = numbers::least(a.protected, moved.len());
+    let n = a.bytes.min(bytes.len());
+    let k = a.protected.min(moved.len());
     let m = text::entry_numbers(a.entries, lines.len());
     let one = text::put_counts(out, 0, a.bytes as u64, a.protected as u64, a.entries as u64);
     let two = text::put_offsets(out, one, &moved[..k]);
@@ -87,6 +67,7 @@ fn put_whole(
     text::put_instructions(out, three, sheet, &bytes[..n])
 }
 
+#[tactic(auto, using(std::proofs::lemmas::Bool::Decides::nat_tests), unfolding(crate::specs::View::answer_text, crate::specs::View::ending_text))]
 fn put_answer(
     end: Ending,
     a: Answer,
@@ -96,7 +77,8 @@ fn put_answer(
     lines: &[u16],
     out: &mut [u8],
 ) -> usize
-    ensures { at out.new result ≡ push_all (at out.old 0) (answer_text (ending_view end) (read_sheet sheet.now) (answer_view a bytes.now moved.now lines.now)) }
+    ensures put { at out.new result ≡ push_all (at out.old 0) (answer_text (ending_view end) (read_sheet sheet.now) (answer_view a bytes.now moved.now lines.now)) }
+    ensures known { Known bytes.now moved.now lines.now }
 {
     if a.number != 0 {
         return text::put_refusal(out, 0, a.number as u64, a.place as u64);
@@ -108,44 +90,18 @@ fn put_answer(
     }
 }
 
-// The same, with what the types of the outputs say of their elements: the text is then short.
-fn put_short(
-    end: Ending,
-    a: Answer,
-    sheet: &[u8],
-    bytes: &[u8],
-    moved: &[u16],
-    lines: &[u16],
-    out: &mut [u8],
-) -> usize
-    ensures result_after { at out.new result ≡ push_all (at out.old 0) (answer_text (ending_view end) (read_sheet sheet.now) (answer_view a bytes.now moved.now lines.now)) }
-    ensures known { Known bytes.now moved.now lines.now }
-{
-    put_answer(end, a, sheet, bytes, moved, lines, out)
-}
-
 // The text for what a reader has read, from the output's start, and 0 behind it; its length is answered. Every text fits.
-pub fn finish(
-    reader: Reader,
-    sheet: &[u8],
-    rules: &[u8],
-    code: &[u8],
-    offsets: &[u16],
-    entries: &[u16],
-    out: &mut [u8; TEXT_ROOM],
-) -> usize
-    ensures { Told text_room text (contents (at sheet.now reader.used.sheet)) (λ place. concluded place (state_view reader sheet.now rules.now code.now offsets.now entries.now)) out.new result }
+pub fn finish(reader: &Reader, out: &mut [u8; TEXT_ROOM]) -> usize
+    ensures { Told text_room text (contents (at reader.now.sheet.cells.now reader.now.sheet.used)) (λ place. concluded place (state_view reader.now)) out.new result }
 {
     let mut bytes = [0u8; MAX_CODE];
     let mut moved = [0u16; MAX_PROTECTED];
     let mut lines = [0u16; LINE_NUMBERS];
-    let a = rewrite_read(
-        reader, sheet, rules, code, offsets, entries, &mut bytes, &mut moved, &mut lines,
-    );
+    let a = rewrite_read(reader, &mut bytes, &mut moved, &mut lines);
     let end = input_reader::ending_of(reader.head);
-    let used = input_reader::handed_count(true, reader.used.sheet, sheet.len());
-    let n = put_short(end, a, &sheet[..used], &bytes, &moved, &lines, out);
-    store::zero_bytes(out, n);
+    let sheet = reader.sheet.handed(true);
+    let n = put_answer(end, a, sheet, &bytes, &moved, &lines, out);
+    store::set_from(out, n, 0);
     n
 }
 
@@ -158,16 +114,14 @@ pub fn answer(input: &[u8], out: &mut [u8; TEXT_ROOM]) -> usize
     let mut code = [0u8; CODE_ROOM];
     let mut offsets = [0u16; OFFSET_ROOM];
     let mut entries = [0u16; ENTRY_ROOM];
-    let start = input_reader::start();
-    let reader = input_reader::feed(
+    let mut reader = Reader::start(
         Phase::CodeLine,
-        start,
-        input,
         &mut sheet,
         &mut rules,
         &mut code,
         &mut offsets,
         &mut entries,
     );
-    finish(reader, &sheet, &rules, &code, &offsets, &entries, out)
+    reader.feed(input);
+    finish(&reader, out)
 }
