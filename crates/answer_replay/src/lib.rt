@@ -8,11 +8,12 @@ ghost use Rattle.replay.specs.Case.{case_count, Replayed};
 
 use definition::{MAX_CODE, MAX_OUTCOMES};
 use replay::INPUT_ROOM;
+use slowest::Measured;
 use std::io;
 use std::io::{Read, Write};
-use text::{LISTING_ROOM, TEXT_ROOM};
+use text::{LISTING_ROOM, TEXT_ROOM, Text};
 
-// Whose answers they are.
+// Whose answers they are. A closure in its place would make public what it stands for here, one function of this crate for each.
 #[derive(Clone, Copy)]
 pub enum Asked {
     Listing,
@@ -28,45 +29,56 @@ const ANSWER_ROOM: usize = 48;
 // More than the text of four numbers and of the outcomes takes.
 const MEASURED_ROOM: usize = 96 + 2 * MAX_OUTCOMES;
 
-const MAX_DEPTH: u64 = 18446744073709551615;
+// An image: the sheet, the depth, and the code's bytes by commas.
+#[derive(Clone, Copy)]
+struct Image<'a> {
+    sheet: &'a [u8],
+    depth: u64,
+    bytes: &'a [u8],
+}
+
+fn is_told(out: &[u8], used: usize, expected: &[u8]) -> bool {
+    out.get(..used).is_some_and(|told| told == expected)
+}
 
 fn is_listed(input: &[u8], expected: &[u8]) -> bool {
     let mut out = [0u8; LISTING_ROOM];
     let n = listing_answer::answer(input, &mut out);
-    &out[..n] == expected
+    is_told(&out, n, expected)
 }
 
 fn is_passed(input: &[u8], expected: &[u8]) -> bool {
     let mut out = [0u8; TEXT_ROOM];
     let n = passes_answer::answer(input, &mut out);
-    &out[..n] == expected
+    is_told(&out, n, expected)
 }
 
-fn digit(b: u8) -> u64
-    ensures { result ≤ 9 }
-{
-    if b < b'0' {
-        return 0;
+fn digit(b: u8) -> u64 {
+    if b.is_ascii_digit() {
+        u64::from(b - b'0')
+    } else {
+        0
     }
-    if b > b'9' {
-        return 0;
-    }
-    (b - b'0') as u64
 }
 
 // The number that some digits spell; the largest depth where that is larger.
 fn number(bytes: &[u8]) -> u64 {
-    let mut n = 0u64;
-    let mut i = 0;
-    while i < bytes.len() {
-        let d = digit(bytes[i]);
-        if n > (MAX_DEPTH - d) / 10 {
-            return MAX_DEPTH;
-        }
-        n = n * 10 + d;
-        i += 1;
-    }
-    n
+    bytes.iter().fold(0u64, |n, b| {
+        n.saturating_mul(10).saturating_add(digit(*b))
+    })
+}
+
+// An image's three lines: the sheet, the depth, and the code's bytes; none where a line is missing.
+fn read_image(input: &[u8]) -> Option<Image<'_>> {
+    let first = input.iter().position(|b| *b == b'\n')?;
+    let (sheet, rest) = input.split_at(first + 1);
+    let second = rest.iter().position(|b| *b == b'\n')?;
+    let bytes = &rest[second + 1..];
+    Some(Image {
+        sheet,
+        depth: number(&rest[..second]),
+        bytes: &bytes[..field::line_end(bytes, 0)],
+    })
 }
 
 // The bytes that a line spells, as far as there is room; how many is answered.
@@ -74,101 +86,80 @@ fn read_code(line: &[u8], code: &mut [u8]) -> usize
     ensures { result ≤ length code.new }
 {
     let mut n = 0;
-    let mut at = 0;
-    while at < line.len() {
+    for part in line.split_inclusive(|b| *b == b',') {
         if n >= code.len() {
-            return n;
+            break;
         }
-        let end = field::field_end(line, at);
-        code[n] = (number(&line[at..end]) % 256) as u8;
+        let digits = part.strip_suffix(b",").unwrap_or(part);
+        code[n] = (number(digits) % 256) as u8;
         n += 1;
-        at = end + 1;
     }
     n
 }
 
-fn is_checked(sheet: &[u8], code: &[u8], depth: u64, expected: &[u8]) -> bool {
-    let r = image_check::check_image(sheet, code, depth);
+// Number and place.
+fn is_checked(i: Image<'_>, expected: &[u8]) -> bool {
+    let mut code = [0u8; CODE_ROOM];
+    let n = read_code(i.bytes, &mut code);
+    let (number, place) = match image_check::check_image(i.sheet, &code[..n], i.depth) {
+        Ok(()) => (0, 0),
+        Err(r) => (r.refusal.number(), r.place),
+    };
     let mut out = [0u8; ANSWER_ROOM];
-    let used = text::put_refusal(&mut out, 0, r.number as u64, r.place as u64);
-    if used > ANSWER_ROOM {
-        return false;
-    }
-    &out[..used] == expected
-}
-
-fn bit(b: bool) -> u64 {
-    if b {
-        return 1;
-    }
-    0
+    let mut told = Text::new(&mut out);
+    told.put_refusal(u64::from(number), place as u64);
+    let used = told.used;
+    is_told(&out, used, expected)
 }
 
 // Number, place, is it 'loops', instructions, and the outcomes.
-fn is_measured(sheet: &[u8], code: &[u8], depth: u64, expected: &[u8]) -> bool {
-    let mut outcomes = [0u8; MAX_OUTCOMES];
-    let r = slowest::slowest(sheet, code, depth, &mut outcomes);
-    let n = r.outcomes;
-    if n > MAX_OUTCOMES {
-        return false;
-    }
-    let mut out = [0u8; MEASURED_ROOM];
-    let number = text::put_decimal(&mut out, 0, r.number as u64);
-    let place = text::put_field(&mut out, number, r.place as u64);
-    let loops = text::put_field(&mut out, place, bit(r.loops));
-    let count = text::put_field(&mut out, loops, r.instructions as u64);
-    let used = text::put_bytes(&mut out, count, &outcomes[..n]);
-    if used > MEASURED_ROOM {
-        return false;
-    }
-    &out[..used] == expected
-}
-
-// An image's input is three lines: the sheet, the depth, and the code's bytes by commas.
-fn is_imaged(slowest: bool, input: &[u8], expected: &[u8]) -> bool {
-    let first = field::line_end(input, 0);
-    if first >= input.len() {
-        return false;
-    }
-    let depth = first + 1;
-    let second = field::line_end(input, depth);
-    if second >= input.len() {
-        return false;
-    }
-    let bytes = second + 1;
-    let third = field::line_end(input, bytes);
+fn is_measured(i: Image<'_>, expected: &[u8]) -> bool {
     let mut code = [0u8; CODE_ROOM];
-    let n = read_code(&input[bytes..third], &mut code);
-    let high = number(&input[depth..second]);
-    if slowest {
-        return is_measured(&input[..depth], &code[..n], high, expected);
-    }
-    is_checked(&input[..depth], &code[..n], high, expected)
+    let n = read_code(i.bytes, &mut code);
+    let mut outcomes = [0u8; MAX_OUTCOMES];
+    let (numbers, count) = match slowest::slowest(i.sheet, &code[..n], i.depth, &mut outcomes) {
+        Err(r) => ([u64::from(r.refusal.number()), r.place as u64, 0, 0], 0),
+        Ok(Measured::Loops) => ([0, 0, 1, 0], 0),
+        Ok(
+            Measured::Run {
+                instructions,
+                outcomes,
+            },
+        ) => ([0, 0, 0, u64::from(instructions)], outcomes),
+    };
+    let mut out = [0u8; MEASURED_ROOM];
+    let mut told = Text::new(&mut out);
+    told.put_decimal(numbers[0]);
+    told.put_field(numbers[1]);
+    told.put_field(numbers[2]);
+    told.put_field(numbers[3]);
+    told.put_fields(&outcomes[..count.min(MAX_OUTCOMES)]);
+    let used = told.used;
+    is_told(&out, used, expected)
 }
 
 fn is_answered(asked: Asked, input: &[u8], expected: &[u8]) -> bool {
     match asked {
         Asked::Listing => is_listed(input, expected),
         Asked::Passes => is_passed(input, expected),
-        Asked::Images => is_imaged(false, input, expected),
-        Asked::Slowest => is_imaged(true, input, expected),
+        Asked::Images => read_image(input).is_some_and(|i| is_checked(i, expected)),
+        Asked::Slowest => read_image(input).is_some_and(|i| is_measured(i, expected)),
     }
 }
 
 // How many cases there were is answered; which of them differ is printed. An error is the writer's.
+#[tactic(auto, unfolding(replay::specs::Case::missing))]
 pub fn replay_all<W: Write>(out: &mut W, asked: Asked, input: &[u8]) -> io::Result<u64>
     ensures { IfOk result (λ n. n ≡ case_count input.now) }
 {
     let mut at = 0;
     let mut cases = 0u64;
     let mut differ = 0u64;
+    // Each case says where the next one starts, so the step varies.
     while at < input.len() {
         let case = replay::case_at(input, at);
-        let end = case.end;
-        let answer = case.answer;
-        let stop = case.stop;
         cases += 1;
-        let same = is_answered(asked, &input[at..end], &input[answer..stop]);
+        let same = is_answered(asked, &input[at..case.end], &input[case.answer..case.stop]);
         differ += replay::missed(out, cases, same)?;
         at = case.next;
     }

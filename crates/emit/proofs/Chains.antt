@@ -116,9 +116,6 @@ module _ (pool : List ℕ) (n k : ℕ) (c : Chained pool n) where
     pub search-less : {next : ℕ} → next ≡ get_or pool (link_base + (left - 1)) 0 → next < left
     search-less e = let m = last-most pool (bucket_of k) (left - 1) in let b = before e in omega arith
 
-    pub search-in : left - 1 < n
-    search-in = omega (arith, s.most)
-
     search-step : {next now : ℕ} → next ≡ get_or pool (link_base + (left - 1)) 0 → now ≤ n → (now < n → get_or pool now 0 ≡ k) → left - 1 ≤ now → now ≤ found
         → (get_or pool (left - 1) 0 ≡ k → now ≤ left - 1) → Searching pool n k now next
     search-step {next} {now} e within hit far less here =

@@ -23,7 +23,6 @@ use Rattle.line_map.specs.declared.LineEntry as code
 use Rattle.line_map.proofs.Entries.{length-one}
 use Rattle.emit.specs.declared.Emitter.{Emitter}
 use Rattle.emit.specs.declared.Last.{Last}
-use Rattle.emit.specs.declared.Last.TheVariants.{Other, Loaded, Stored}
 use Rattle.emit.specs.Book.{label_size, patch_size, label_base, patch_base, line_base, book_size, label_in, patch_in, row, lines_in}
 use Rattle.emit.specs.View.{world, last_view, state}
 use Rattle.emit.specs.Steps.{◌>->◌, met_at, once, LastAt, Fine, Bare, Coded}
@@ -249,11 +248,6 @@ pushed-cmp-br s0 b c v i {s1} {s2} {s3} {s4} {s5} e1 e2 e3 e4 e5 =
 pub cmp-bytes : (s : Sheet) (c : CompareOp) (v i : ℕ) (t : Store) {u : Store} {b d : ℕ} → b ≡ opcode s cmp_br → d ≡ comparison_byte s c → u ≡ push_all t (b ∷ (d ∷ le16 v ++ le16 i) ++ le16 0) → u ≡ push_all t (opcode s cmp_br ∷ cmp_operand s c v i)
 unfolding cmp_operand
 cmp-bytes s c v i t is_b is-d e = rw (is_b, is-d) at e
-
-pub last-at : (l : Last) (n : ℕ) → LastAt l (n + 3)
-last-at Other n = tt
-last-at (Loaded v) n = tt
-last-at (Stored v) n = omega arith
 
 -- ---- a step under another name
 

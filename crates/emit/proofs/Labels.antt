@@ -1,8 +1,11 @@
 -- Labels created and bound.
+use Rattle.std.specs.Prelude as code
+use Rattle.std.proofs.Common.{Some, None, is_some, unwrap_or, Bool, set}
+use Rattle.std.specs.Int.{from_bool}
 use Rattle.std.proofs.Common.{None}
 use mathlib.Core.Path.{◌≡◌, refl, ◌∙◌}
 use mathlib.Core.Option.{some, none}
-use mathlib.Core.List.{List, [], ◌∷◌}
+use mathlib.Core.List.{List}
 use Prim.Native.Nat.{ℕ, ◌+◌, ◌*◌, ◌≤◌, ◌<◌}
 use native.Mathlib.Omega.{arith}
 use borrow.Author.Tests.{le-ltb, lt-ltb}
@@ -14,11 +17,11 @@ use Rattle.definition.specs.Emit.{create_label, bind_label, refused, act, labell
 use Rattle.definition.specs.Lent.{entry_in}
 use Rattle.emit.specs.declared.Emitter.{Emitter}
 use Rattle.emit.specs.declared.Last.TheVariants.{Other}
-use Rattle.emit.specs.Book.{label_size, patch_size, label_base, patch_base, line_base, book_size, label_in, patch_in, labels_in, patches_in, lines_in}
+use Rattle.emit.specs.Book.{label_size, patch_size, label_base, patch_base, line_base, book_size, label_numbers, label_in, patch_in, labels_in, patches_in, lines_in}
 use Rattle.emit.specs.View.{world}
 use Rattle.emit.specs.Steps.{call, Fine, Bare, Booked, Created}
 use Rattle.emit.specs.Parts.{altered, counted}
-use Rattle.emit.proofs.Tables.{length-rows, rows_more, rows-set, rows_before}
+use Rattle.emit.proofs.Tables.{length-rows, rows_more, rows-set, rows_before, two-stores}
 use Rattle.emit.proofs.Kept.{pool-self, grown-self, kept_self, kept-bare, label-tails}
 use Rattle.emit.proofs.Steps.{stays, goes, stops, size_of}
 use Rattle.emit.proofs.State.{fine-altered}
@@ -114,10 +117,21 @@ module _ {e : Emitter} {book : List ℕ} {l : ℕ} (h : Fine e) (slots : length 
             ));
       })
 
-pub free-label : label_in (0 ∷ 0 ∷ []) ≡ none
-unfolding label_in
+-- a label's numbers
+pub label-long : (o : code.Option ℕ) → length (label_numbers o) ≡ label_size
+unfolding label_numbers
+label-long None = refl
+label-long (Some p) = refl
+
+pub free-label : label_in (label_numbers None) ≡ none
+unfolding label_in label_numbers
 free-label = refl
 
-pub bound-label : (p : ℕ) → label_in (1 ∷ p ∷ []) ≡ some p
-unfolding label_in
+pub bound-label : (p : ℕ) → label_in (label_numbers (Some p)) ≡ some p
+unfolding label_in label_numbers
 bound-label p = refl
+
+pub label-stores : (l : List ℕ) (i : ℕ) (o : code.Option ℕ) {s : Bool} {b p : ℕ} → s ≡ is_some o → b ≡ from_bool s → p ≡ unwrap_or o 0 → set (set l i b) (i + 1) p ≡ sets l i (label_numbers o)
+unfolding label_numbers
+label-stores l i None is bit at = rw (bit, is, at) (two-stores l i 0 0)
+label-stores l i (Some x) is bit at = rw (bit, is, at) (two-stores l i 1 x)

@@ -1,16 +1,16 @@
 -- Loads with their two foldings, and stores.
 use Rattle.std.proofs.Common.{Option, Some, None}
 use Rattle.definition.specs.declared.Refused.{Refused}
-use mathlib.Core.Path.{◌≡◌, refl, ap, ◌∙◌}
+use mathlib.Core.Path.{◌≡◌, refl, ap, sym, ◌∙◌}
 use mathlib.Core.Bool.{Bool, true, false}
-use mathlib.Core.List.{List, [], ◌∷◌, ◌++◌}
+use mathlib.Core.List.{List, [], ◌∷◌, ◌++◌, append_assoc}
 use Prim.Native.Nat.{ℕ, zero, suc, ◌+◌, ◌-◌, ◌≤◌, ◌<◌, max}
 use native.Mathlib.Numerals.{add-one}
 use native.Mathlib.Omega.{arith}
 use borrow.Author.Tests.{le-ltb, lt-ltb}
 use lib.Dec.{eqb}
-use lib.ListN.{length, take, drop, set, get_or, length-drop}
-use lib.Seq.{sets, length-sets, length-take-le, take-take, take-nil, drop-cons}
+use lib.ListN.{length, take, drop, set, length-drop, length-append}
+use lib.Seq.{sets, sets-eq, paste, length-sets, length-take-le, take-take, take-nil, take-set-lt, take-suc-set, set-append_left}
 use Rattle.definition.specs.Limits.{max_code, code_full}
 use Rattle.definition.specs.Res.{Res, ok, refuse, ◌>>=◌, ◌>>◌, demand}
 use Rattle.definition.specs.Opcode.{Sheet, Role, dup, load_var, store_var, opcode}
@@ -41,19 +41,21 @@ drop-take zero k l = let e : 0 + k ≡ k = omega arith in rw e
 drop-take (suc i) k [] = let e : suc i + k ≡ suc (i + k) = omega arith in rw (e, take-nil k)
 drop-take (suc i) k (x ∷ l) = let e : suc i + k ≡ suc (i + k) = omega arith in rw e (drop-take i k l)
 
-pub four-stores : (l : List ℕ) (i a b c d : ℕ) → set (set (set (set l i a) (i + 1) b) (i + 2) c) (i + 3) d ≡ sets l i (a ∷ b ∷ c ∷ d ∷ [])
-four-stores l i a b c d =
-    let two : i + 2 ≡ suc (suc i) = omega arith in
-    let three : i + 3 ≡ suc (suc (suc i)) = omega arith in
-    rw (three, two, add-one)
-
-three-there : (l : List ℕ) (i : ℕ) → i + 3 ≤ length l → take 3 (drop i l) ≡ get_or l i 0 ∷ get_or l (i + 1) 0 ∷ get_or l (i + 2) 0 ∷ []
-three-there l i h =
-    let two : i + 2 ≡ suc (suc i) = omega arith in
-    rw (two, add-one, drop-cons l i 0 (omega arith), drop-cons l (suc i) 0 (omega arith), drop-cons l (suc (suc i)) 0 (omega arith))
-
-pub inserts : (l : List ℕ) (i x : ℕ) → i + 4 ≤ length l → set (set (set (set l i x) (i + 1) (get_or l i 0)) (i + 2) (get_or l (i + 1) 0)) (i + 3) (get_or l (i + 2) 0) ≡ sets l i (x ∷ take 3 (drop i l))
-inserts l i x h = rw (three-there l i (omega arith)) (four-stores l i x (get_or l i 0) (get_or l (i + 1) 0) (get_or l (i + 2) 0))
+pub inserts : (l : List ℕ) (i x n : ℕ) {m : List ℕ} → i + 4 ≤ length l → n ≡ 3 → m ≡ paste l (i + 1) (drop i l) n → set m i x ≡ sets l i (x ∷ take 3 (drop i l))
+inserts l i x n {m} h three e =
+    let part : List ℕ = take 3 (drop i l) in
+    let rest : List ℕ = drop (i + 4) l in
+    let long : length part ≡ 3 = length-take-le 3 (drop i l) (rw (length-drop i l) (omega arith)) in
+    let front : length (take (i + 1) l) ≡ i + 1 = length-take-le (i + 1) l (omega arith) in
+    let far : i + 1 + 3 ≡ i + 4 = omega arith in
+    let moved : m ≡ (take (i + 1) l ++ part) ++ rest = e ∙ rw (three, far) in
+    let first : set (take (i + 1) l) i x ≡ take i l ++ (x ∷ []) = sym (take-set-lt (i + 1) l i x (omega arith)) ∙ rw add-one (take-suc-set l i x (omega arith)) in
+    let four : i + 4 ≡ i + length (x ∷ part) = omega (arith, long) in
+    rw moved
+    (set-append_left (take (i + 1) l ++ part) rest i x (omega (arith, length-append (take (i + 1) l) part, front))
+    ∙ ap (λ (t : List ℕ). t ++ rest) (set-append_left (take (i + 1) l) part i x (omega (arith, front)) ∙ ap (λ (t : List ℕ). t ++ part) first ∙ append_assoc (take i l) (x ∷ []) part)
+    ∙ ap (λ (k : ℕ). (take i l ++ (x ∷ part)) ++ drop k l) four
+    ∙ sym (sets-eq (x ∷ part) l i (omega (arith, four))))
 
 -- ---- the store folding
 

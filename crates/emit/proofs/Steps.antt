@@ -2,22 +2,20 @@
 use Rattle.std.proofs.Common.{Bool, true, false, Option, Some, None, is_some}
 use mathlib.Core.Path.{◌≡◌, refl, ap, sym, ◌∙◌}
 use mathlib.Core.List.{List, []}
-use Prim.Native.Nat.{ℕ, ◌^◌, ◌≤◌, ◌<◌}
+use Prim.Native.Nat.{ℕ}
 use native.Mathlib.Omega.{arith}
 use lib.ListN.{length, take}
 use lib.Seq.{length-take-le}
-use Rattle.definition.specs.Limits.{max_code, max_branches}
+use Rattle.definition.specs.Limits.{max_code}
 use Rattle.definition.specs.Res.{Res, ok, refuse, ◌>>=◌}
 use Rattle.definition.specs.Opcode.{Sheet}
-use Rattle.definition.specs.Tree.{Pos}
 use Rattle.definition.specs.declared.Refused.{Refused}
 use Rattle.definition.specs.Emit as def
 use Rattle.definition.specs.Emit.{Call, create_label, refused, act, emitter_at}
 use Rattle.emit.specs.declared.Emitter.{Emitter}
-use Rattle.emit.specs.Book.{book_size}
 use Rattle.emit.specs.Pool.{Held}
 use Rattle.emit.specs.View.{World, world, state, Stage, going, halted, stage_of, stage}
-use Rattle.emit.specs.Steps.{Step, ◌>->◌, Did, met_at, once, call, Fine, Ready, Bare, Booked, Created, Pooled, Coded, Filled, Begun}
+use Rattle.emit.specs.Steps.{Step, ◌>->◌, Did, met_at, once, call, Fine, Ready, Bare, Booked, Created, Pooled, Coded, Filled}
 
 bind_assoc : (m : Stage) (f g : Step) → (m >-> f) >-> g ≡ m >-> (λ x. f x >-> g)
 unfolding ◌>->◌
@@ -114,20 +112,8 @@ module _ {e r : Emitter} {code book pool : List ℕ} (w : Ready (world e code bo
   pub coded-filled : {f : Step} {code' book' : List ℕ} → Coded f e code book r code' book' → Filled f (world e code book pool) (world r code' book' pool)
   coded-filled b = record { ready = record { fine = b.fine; room = b.room; slots = b.slots; held = w.held }; kept = b.kept pool; did = b.did pool }
 
--- the first state of a call
-pub begun-ready : {p : Pos} {r : Emitter} {code book pool : List ℕ} → Begun p r → length code ≡ max_code → length book ≡ book_size → Held pool → Ready (world r code book pool)
-begun-ready b room slots held = record { fine = b.fine; room = room; slots = slots; held = held }
+-- ---- the lists of the state are as long as their counts
 
--- ---- what is fine fits
-
--- the greatest depth has 32 bits
-pub depth-fits : {e : Emitter} → Fine e → e.deepest < 2 ^ 32
-depth-fits h = omega (arith, h.deepest, h.size)
-
-pub patches-fit : {e : Emitter} → Fine e → e.patches ≤ max_branches
-patches-fit h = omega (arith, h.patches, h.size)
-
--- the lists of the state are as long as their counts
 pub size_of : {e : Emitter} (code : List ℕ) → Fine e → length code ≡ max_code → length (take e.size code) ≡ e.size
 size_of {e} code h room = length-take-le e.size code (omega (arith, h.size))
 

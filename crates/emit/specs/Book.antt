@@ -1,6 +1,8 @@
 -- The book: labels, pending patches and line entries in one lent list of 16-bit numbers, a table each. A table has a base, and rows of one size; all
 -- follow from the limits.
 use Rattle.std.specs.Prelude.{ℕ, zero, suc, ◌+◌, ◌*◌, true, false, List, [], ◌∷◌, ◌++◌, eqb, take, drop, get_or}
+use Rattle.std.specs.Prelude as code
+use Rattle.std.specs.Prelude.{Some, None}
 use Rattle.std.proofs.Math.Option.{Option, some, none}
 use Rattle.definition.specs.Limits.{max_labels, max_branches, max_lines, entry_size}
 use Rattle.definition.specs.Emit.{PendingPatch, LineEntry}
@@ -28,9 +30,9 @@ book_size = line_base + entry_size * max_lines
 -- ---- what a row stands for
 
 -- a label: whether it is bound, and its place. That it is bound is a number of its own, since each number up to the code's limit is a place
-unfoldable pub label_numbers : Option ℕ → List ℕ
-label_numbers none = 0 ∷ 0 ∷ []
-label_numbers (some p) = 1 ∷ p ∷ []
+unfoldable pub label_numbers : code.Option ℕ → List ℕ
+label_numbers None = 0 ∷ 0 ∷ []
+label_numbers (Some p) = 1 ∷ p ∷ []
 
 unfoldable pub label_in : List ℕ → Option ℕ
 label_in ns = elim (eqb (get_or ns 0 0) 0) [ true ↦ none | false ↦ some (get_or ns 1 0) ]

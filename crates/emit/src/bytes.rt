@@ -36,11 +36,6 @@ pub fn insert_before_three(code: &mut [u8], place: usize, x: u8)
     requires { place + 4 ≤ length code.old }
     ensures { code.new ≡ sets code.old place (x ∷ take 3 (drop place code.old)) }
 {
-    let a = code[place];
-    let b = code[place + 1];
-    let c = code[place + 2];
+    code.copy_within(place..place + 3, place + 1);
     code[place] = x;
-    code[place + 1] = a;
-    code[place + 2] = b;
-    code[place + 3] = c;
 }

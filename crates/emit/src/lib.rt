@@ -105,19 +105,6 @@ impl Emitter {
         }
     }
 
-    // With another size, last instruction and depths.
-    fn with(self, size: usize, last: Last, depth: usize, deepest: usize) -> Emitter
-        ensures { result ≡ altered self size last depth deepest }
-    {
-        Emitter {
-            size,
-            last,
-            depth,
-            deepest,
-            ..self
-        }
-    }
-
     // Refused for good, unless it was before.
     pub fn refuse(self, refusal: Refusal, place: usize) -> Emitter
         requires { Fine self }
@@ -179,7 +166,7 @@ impl Emitter {
                 label,
             };
         }
-        book::put_label(book, n, 0, 0);
+        book::put_label(book, n, None);
         NewLabel {
             emitter: Emitter {
                 labels: n + 1,
@@ -199,7 +186,7 @@ impl Emitter {
         }
         let n = usize::from(label.0);
         if n < self.labels {
-            book::put_label(book, n, 1, self.size as u16);
+            book::put_label(book, n, Some(self.size as u16));
         }
         Emitter {
             last: Last::Other,
@@ -284,8 +271,13 @@ impl Emitter {
         ensures value { result ≡ altered self (self.size + bytes) last (shift (effect (role_view role)) self.depth) (max self.deepest (shift (effect (role_view role)) self.depth)) }
     {
         let depth = role.traits().effect.shift(self.depth as u32) as usize;
-        let deepest = self.deepest.max(depth);
-        self.with(self.size + bytes, last, depth, deepest)
+        Emitter {
+            size: self.size + bytes,
+            last,
+            depth,
+            deepest: self.deepest.max(depth),
+            ..self
+        }
     }
 
     fn add_plain(self, sheet: &[u8], code: &mut [u8], book: &mut Book, role: Role) -> Emitter
@@ -377,8 +369,13 @@ impl Emitter {
         }
         let opcode = sheet::opcode_of(sheet, Role::Dup);
         bytes::insert_before_three(code, self.size - STORE_SIZE, opcode);
-        let deepest = self.deepest.max(self.depth + 2);
-        self.with(self.size + 1, Last::Other, self.depth + 1, deepest)
+        Emitter {
+            size: self.size + 1,
+            last: Last::Other,
+            depth: self.depth + 1,
+            deepest: self.deepest.max(self.depth + 2),
+            ..self
+        }
     }
 
     // `emit_load_with_dup_check`: a load, a DUP of the last load, or a DUP before the last store.

@@ -52,7 +52,7 @@ fn nearer(x: Constant, k: Constant, i: usize, found: usize) -> usize
     if x == k { i } else { found }
 }
 
-// The same along its bucket, from the last to the first.
+// The same along its bucket, from the last to the first: each link says where to go on, so it is no `for`.
 fn search(pool: &Pool, n: usize, k: Constant) -> usize
     requires chained { Chained pool.now n }
     ensures value { result ≡ index_of k (take n pool.now) }

@@ -14,9 +14,9 @@ use mir.Val.{bool_byte}
 use Rattle.definition.specs.Field as def
 use Rattle.definition.specs.Field.{lf, comma, minus, onto, split, first_line, natural, natural_within, negative, field, up_to, below, value}
 use Rattle.field.specs.View.{cap, is_digit, count, capped, spelt, signs, past, decided, Passes, Capped, until, separates, first_field, Sums, Stops, Counts, Reads, line_end, line_fields, separator}
-use Rattle.field.proofs.Lists.{first-left, there, no_bytes}
+use Rattle.field.proofs.Lists.{first-left, there}
+use Rattle.std.proofs.lemmas.List.{nil_from_length}
 use Rattle.field.proofs.Numbers.{digit_low, count-digit, count-other, natural-some, natural-none, up-to-is, below-is, value-plain, value-minus}
-use Rattle.field.proofs.Results.{never}
 use Rattle.field.proofs.Parts.{finds-start, finds-next, finds-rest, until-never, until-next, until-here, until_end, until-first, split-sep, split-other, Some, some-part, split-some}
 
 -- ---- the digits of a field, byte by byte
@@ -48,7 +48,7 @@ module _ {text : List ℕ} {at n i : ℕ} (s : Sums separates text at n i) where
     unfolding count
     sums-whole h {o} q =
         let bs = first_field (drop at text) in
-        let none_left : first_field (drop i text) ≡ [] = no_bytes _ (omega (arith, e.ends.is)) in
+        let none_left : first_field (drop i text) ≡ [] = nil_from_length _ (omega (arith, e.ends.is)) in
         let long : i - at ≡ length bs = omega (arith, s.finding.more, ap length none_left) in
         record { makes = q ∙ ap (λ (k : ℕ). spelt (get_or text at 0) k n) long ∙ by_first (get_or text at 0) n bs (λ l. sym (first-left at text 0) ∙ sym (until-first separates (drop at text) l)) ∙ natural-some bs (s.makes ∙ ap (count n) none_left); stops = ends_there }
 
@@ -120,8 +120,8 @@ past-is false at = omega arith
 pub sign-there : (f : def.Field) (text : List ℕ) (at : ℕ) {s : Bool} → s ≡ signs f (get_or text at 0) → at + bool_byte s ≤ at + (length text - at)
 unfolding signs
 sign-there f text at {s = false} e = omega arith
-sign-there (up_to m) text at {s = true} e = never (cc)
-sign-there (below m) text at {s = true} e = never (cc)
+sign-there (up_to m) text at {s = true} e = absurd (cc)
+sign-there (below m) text at {s = true} e = absurd (cc)
 sign-there (value w) text at {s = true} e = omega (arith, there text at (λ z. omega (arith, z, eqb-true (get_or text at 0) minus (sym e))))
 
 -- ---- a field and its line

@@ -1,7 +1,7 @@
 -- Lists: taking and dropping; an element that is there.
 use mathlib.Core.Path.{◌≡◌, refl, ap, sym}
 use mathlib.Core.Bool.{Bool, true, false}
-use mathlib.Core.List.{List, [], ◌∷◌, map}
+use mathlib.Core.List.{List, [], ◌∷◌}
 use Prim.Native.Nat.{ℕ, zero, suc, ◌-◌, ◌<◌}
 use native.Mathlib.Omega.{arith}
 use borrow.Author.Tests.{eq-eqb}
@@ -10,28 +10,12 @@ use lib.ListN.{length, get_or, take, drop}
 use lib.Seq.{take-nil}
 use Rattle.definition.specs.Field.{has}
 
-pub take-map : {A B : Type 0} (f : A → B) (k : ℕ) (l : List A) → take k (map f l) ≡ map f (take k l)
-take-map f zero l = refl
-take-map f (suc k) [] = refl
-take-map f (suc k) (x ∷ l) = ap (λ (r : List _). f x ∷ r) (take-map f k l)
-
-pub drop-map : {A B : Type 0} (f : A → B) (k : ℕ) (l : List A) → drop k (map f l) ≡ map f (drop k l)
-drop-map f zero l = refl
-drop-map f (suc k) [] = refl
-drop-map f (suc k) (x ∷ l) = drop-map f k l
-
 -- a part of a list, from its front
 pub drop-take : {A : Type 0} (n m : ℕ) (l : List A) → drop n (take m l) ≡ take (m - n) (drop n l)
 drop-take zero m l = let z : m - 0 ≡ m = omega arith in rw z
 drop-take (suc n) zero l = let z : 0 - suc n ≡ 0 = omega arith in rw z
 drop-take (suc n) (suc m) [] = sym (take-nil (suc m - suc n))
 drop-take (suc n) (suc m) (x ∷ l) = let z : suc m - suc n ≡ m - n = omega arith in rw z (drop-take n m l)
-
--- no other element is read inside a list
-pub inside : (l : List ℕ) (i d e : ℕ) → i < length l → get_or l i d ≡ get_or l i e
-inside [] i d e h = absurd (omega arith)
-inside (x ∷ l) zero d e h = refl
-inside (x ∷ l) (suc i) d e h = inside l i d e (omega arith)
 
 -- the first that is left
 pub first-left : {A : Type 0} (i : ℕ) (l : List A) (d : A) → get_or (drop i l) 0 d ≡ get_or l i d
@@ -44,10 +28,6 @@ pub there : (l : List ℕ) (i : ℕ) → (get_or l i 0 ≡ 0 → ⊥) → i < le
 there [] i n = absurd (n refl)
 there (x ∷ l) zero n = omega arith
 there (x ∷ l) (suc i) n = omega (arith, there l i n)
-
-pub no_bytes : (l : List ℕ) → length l ≡ 0 → l ≡ []
-no_bytes [] h = refl
-no_bytes (x ∷ l) h = absurd (omega arith)
 
 pub has_here : (y : ℕ) (ys : List ℕ) → has (y ∷ ys) y ≡ true
 unfolding has

@@ -118,7 +118,7 @@ up-to-malformed bs e m = go (natural bs) e
   where
     go : (n : Option ℕ) → none ≡ capped n → malformed ≡ natural_within (λ k. leb k m) n
     go none e = refl
-    go (some n) e = absurd (let z : ◌≡◌ {A = ℕ} 0 1 = cc in omega arith)
+    go (some n) e = absurd (cc)
 
 signed-plain : (w : ℕ) (bs : List ℕ) → (get_or bs 0 0 ≡ 45 → ⊥) → signed w bs ≡ natural_within (λ n. ltb n (2 ^ (w - 1))) (natural bs)
 unfolding signed natural_within natural
@@ -144,11 +144,11 @@ module _ (w : ℕ) (bs : List ℕ) {o : Option ℕ} (low : 2 ^ (w - 1) < cap) {x
 within-is : (t : Bool) (k n : ℕ) → within t k ≡ is n → (t ≡ true) × (k ≡ n)
 unfolding within
 within-is true k n e = (refl, cc)
-within-is false k n e = absurd (let z : ◌≡◌ {A = ℕ} 0 1 = cc in omega arith)
+within-is false k n e = absurd (cc)
 
 natural-is : (ok : ℕ → Bool) (o : Option ℕ) (n : ℕ) → natural_within ok o ≡ is n → ok n ≡ true
 unfolding natural_within
-natural-is ok none n e = absurd (let z : ◌≡◌ {A = ℕ} 0 1 = cc in omega arith)
+natural-is ok none n e = absurd (cc)
 natural-is ok (some k) n e = let p = within-is (ok k) k n e in ap ok (sym p.1) ∙ p.0
 
 module _ (bs : List ℕ) {n : ℕ} where

@@ -1,8 +1,6 @@
 -- Two tests: both hold; one holds, or neither.
 use mathlib.Core.Path.{◌≡◌, refl}
 use mathlib.Core.Bool.{Bool, true, false, ◌&&◌, ◌||◌}
-use native.Mathlib.Omega.{arith}
-use Prim.Native.Nat.{ℕ}
 
 pub and_left : (a b : Bool) → (a && b) ≡ true → a ≡ true
 and_left true b e = refl
@@ -10,18 +8,18 @@ and_left false b e = e
 
 pub and_right : (a b : Bool) → (a && b) ≡ true → b ≡ true
 and_right true b e = e
-and_right false b e = absurd (let z : ◌≡◌ {A = ℕ} 0 1 = cc in omega arith)
+and_right false b e = absurd (cc)
 
 pub or_left : (a b : Bool) → a ≡ true → (a || b) ≡ true
 or_left true b e = refl
-or_left false b e = absurd (let z : ◌≡◌ {A = ℕ} 0 1 = cc in omega arith)
+or_left false b e = absurd (cc)
 
 pub or_right : (a b : Bool) → b ≡ true → (a || b) ≡ true
 or_right true b e = refl
 or_right false b e = e
 
 pub or-false : (a b : Bool) → (a || b) ≡ false → (a ≡ false) × (b ≡ false)
-or-false true b e = absurd (let z : ◌≡◌ {A = ℕ} 0 1 = cc in omega arith)
+or-false true b e = absurd (cc)
 or-false false b e = (refl, e)
 
 pub or-none : (a : Bool) → (a || false) ≡ a

@@ -29,7 +29,7 @@ use Rattle.image_check.proofs.Starts.{start-holds}
 use Rattle.image_check.proofs.Nodes.{node_end, node-role}
 
 pub looks-end : (sheet code : List ℕ) (p : ℕ) → p ≡ length code → Looks sheet code p (record { size = 0; needs = 0; effect = Same; flow = Stop })
-unfolding end_node exits halts branches
+unfolding end_node exits branches
 looks-end sheet code p e = record { nd = end_node; is = node_end (sheet_in sheet) code p e; needed = refl; shifts = refl; leads = refl; stopped = refl; offset = λ b. never (cc) }
 
 -- what stands at a start has a role

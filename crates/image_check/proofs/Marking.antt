@@ -22,11 +22,9 @@ use Rattle.rewrite.proofs.Decoding.{first}
 use Rattle.image_check.specs.View.{flagged, Marking, Image}
 
 flag-set : (flags : List ℕ) (at q : ℕ) → at < length flags → q ≡ at → flagged (set flags at 1) q ≡ true
-unfolding flagged
 flag-set flags at q lt e = ap (λ x. not (eqb x 0)) (ap (λ y. get_or (set flags at 1) y 0) e ∙ get_or-set_same flags at 1 0 lt) ∙ ap not (ne_eqb 1 0 (λ k. omega arith))
 
 flag-other : (flags : List ℕ) (at q : ℕ) → (q ≡ at → ⊥) → flagged (set flags at 1) q ≡ flagged flags q
-unfolding flagged
 flag-other flags at q n = ap (λ x. not (eqb x 0)) (get_or-set_other flags at q 1 0 n)
 
 module _ (sheet code : List ℕ) (table : IsTable sheet) (small : length code ≤ max_code) where
@@ -37,12 +35,12 @@ module _ (sheet code : List ℕ) (table : IsTable sheet) (small : length code �
   rest at = decode s (drop at code)
 
   pub mark-begins : (flags : List ℕ) → Clear (length code) flags → Marking sheet code flags 0
-  unfolding flagged starts
+  unfolding starts
   mark-begins flags c = record { room = c.slots; within = zero-le; known = λ q. sym (ap (λ x. not (eqb x 0) || has (starts s code) q) (c.none q) ∙ ap (λ b. not b || has (starts s code) q) (eq-eqb 0 0 refl)) }
 
   -- nothing is to come
   marked : (flags : List ℕ) (at : ℕ) → Marking sheet code flags at → up_to_unlisted s (rest at) ≡ [] → Image sheet code flags
-  unfolding flagged starts_from has
+  unfolding starts_from has
   marked flags at m e = record {
     table = table;
     small = small;
@@ -54,13 +52,13 @@ module _ (sheet code : List ℕ) (table : IsTable sheet) (small : length code �
     long : length i ≡ length (first_of (rest at))
     long = ap length is
 
-    pub mark-none : length i ≡ 0 → Image sheet code flags
+    pub mark-none : i ≡ [] → Image sheet code flags
     unfolding up_to_unlisted
-    mark-none z = marked flags at m (ap (λ x. up_to_unlisted s x) ((first s code at).none (sym long ∙ z)))
+    mark-none z = marked flags at m (ap (λ x. up_to_unlisted s x) ((first s code at).none (sym long ∙ ap length z)))
 
-    module _ (z : length i ≡ 0 → ⊥) where
+    module _ (z : 1 ≤ length i) where
       one : 1 ≤ length (first_of (rest at))
-      one = let l = long in omega (arith, z)
+      one = let l = long in omega arith
 
       pub inside : at + length i ≤ length code
       inside = let l = long in let w = (first s code at).within one in omega arith
@@ -86,5 +84,5 @@ module _ (sheet code : List ℕ) (table : IsTable sheet) (small : length code �
           more = starts_from (at + length i) (up_to_unlisted s (rest (at + length i)))
 
           by : (q : ℕ) (b : Bool) → eqb q at ≡ b → (flagged flags q || has (at ∷ more) q) ≡ (flagged (set flags at 1) q || has more q)
-          by q true k = let e = eqb-true q at k in ap (λ x. flagged flags q || x) (has_first at more q e) ∙ (or-any (flagged flags q) ∙ sym (ap (λ x. x || has more q) (flag-set flags at q (let a = m.room in let b = inside in omega (arith, z)) e)))
+          by q true k = let e = eqb-true q at k in ap (λ x. flagged flags q || x) (has_first at more q e) ∙ (or-any (flagged flags q) ∙ sym (ap (λ x. x || has more q) (flag-set flags at q (let a = m.room in let b = inside in omega arith) e)))
           by q false k = ap (λ x. flagged flags q || x) (has-past q at more (eqb-false q at k)) ∙ sym (ap (λ x. x || has more q) (flag-other flags at q (eqb-false q at k)))

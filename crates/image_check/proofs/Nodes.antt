@@ -148,7 +148,7 @@ module _ (s : Sheet) (code : List ℕ) where
     branch-stepped (false ∷ os) a b = some-stepped (p + size r) os a
 
     follow-stepped : (f : Flow) (os : List Bool) → flow r ≡ f → Stepped p h (follow f code (p + size r) (shift (effect r) h) os)
-    unfolding follow exits role_node halts
+    unfolding follow exits role_node
     follow-stepped onward os e = some-stepped (p + size r) os (subst (λ y. OneOf (some (p + size r)) (exits y code (p + size r))) (sym e) (here refl))
     follow-stepped away os e = jump-stepped os (target code (p + size r)) (subst (λ y. OneOf (target code (p + size r)) (exits y code (p + size r))) (sym e) (here refl))
     follow-stepped either os e = branch-stepped os (subst (λ y. OneOf (some (p + size r)) (exits y code (p + size r))) (sym e) (here refl)) (subst (λ y. OneOf (target code (p + size r)) (exits y code (p + size r))) (sym e) (later (here refl)))
@@ -301,7 +301,6 @@ module _ (s : Sheet) (code : List ℕ) where
   out_some stop = refl
 
   halts-stop : (f : Flow) → halts f ≡ true → f ≡ stop
-  unfolding halts
   halts-stop onward e = never (cc)
   halts-stop away e = never (cc)
   halts-stop either e = never (cc)

@@ -6,7 +6,7 @@ use Rattle.definition.specs.Opcode.{Role, Sheet, role_of, size, needs, same, eff
 use Rattle.definition.specs.Check.{exits}
 use Rattle.image_check.specs.Graph.{Node}
 
-unfoldable pub halts : Flow → Bool
+abbrev pub halts : Flow → Bool
 halts onward = false
 halts away = false
 halts either = false
@@ -31,5 +31,5 @@ node_at s code starts p = elim (eqb p (length code)) [
 
 -- `unfolding open-Place` names all of this module's definitions at once
 unfoldable pub open-Place : Unit {0}
-unfolding halts end_node role_node node_of node_at
+unfolding end_node role_node node_of node_at
 open-Place = tt

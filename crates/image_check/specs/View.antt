@@ -1,5 +1,7 @@
 -- The traversal's tables as code holds them.
 use Rattle.std.specs.Prelude.{ℕ, ◌+◌, ◌-◌, suc, zero, ◌≤◌, ◌<◌, ◌≡◌, List, [], ◌∷◌, Bool, true, false, not, ◌&&◌, ◌||◌, length, get_or, drop, eqb, ltb}
+use Rattle.std.specs.Prelude as std
+use Rattle.std.specs.Prelude.{Some, None, IfSome, Result, Ok, Err}
 use Rattle.std.proofs.Math.Option.{Option, some, none}
 use Rattle.definition.specs.Limits.{max_code}
 use Rattle.definition.specs.Field.{has}
@@ -8,13 +10,33 @@ use Rattle.definition.specs.Rewrite.{decode, starts_from}
 use Rattle.definition.specs.Claims.{branches}
 use Rattle.definition.specs.Sheet.{read_sheet}
 use Rattle.definition.specs.Check.{up_to_unlisted, starts, exits, Checks}
+use Rattle.definition.specs.View.{refusal_number}
+use Rattle.definition.specs.declared.Refusal.{Refusal}
+use Rattle.definition.specs.declared.Refused.{Refused}
 use Rattle.opcode.specs.View.{effect_view, flow_view, AreTraits}
 use Rattle.opcode.specs.Table.{sheet_in, IsTable}
 use Rattle.opcode.specs.declared.Effect.{Effect}
 use Rattle.opcode.specs.declared.Traits.{Traits}
 use Rattle.image_check.specs.Place.{halts, node_at}
-use Rattle.image_check.specs.Graph.{Node, Table, and_then, blank, meet_at, expand, traverse}
+use Rattle.image_check.specs.Graph.{Node, Table, blank, meet_at, expand, traverse}
 use Rattle.image_check.specs.declared.Trip.{Trip}
+
+-- ---- answers
+
+-- the number of a fault, or 0
+abbrev pub fault_of : Result (Unit {0}) Refusal → ℕ
+fault_of (Ok x) = 0
+fault_of (Err r) = refusal_number r
+
+-- the number of a refusal with its place, or 0
+abbrev pub number_of : {A : Type 0} → Result A Refused → ℕ
+number_of (Ok x) = 0
+number_of (Err e) = refusal_number e.refusal
+
+-- and the place, or 0
+abbrev pub place_of : {A : Type 0} → Result A Refused → ℕ
+place_of (Ok x) = 0
+place_of (Err e) = e.place
 
 -- ---- the table
 
@@ -27,8 +49,9 @@ unfoldable pub table_of : Trip → List ℕ → List ℕ → Table
 table_of t marks work = record { marks = λ x. get_or marks x 0; work = stack_of work t.count; bad = t.bad }
 
 -- none once a walk went astray
-unfoldable pub view : Trip → List ℕ → List ℕ → Option Table
-view t marks work = elim t.lost [ true ↦ none | false ↦ some (table_of t marks work) ]
+unfoldable pub view : std.Option Trip → List ℕ → List ℕ → Option Table
+view None marks work = none
+view (Some t) marks work = some (table_of t marks work)
 
 -- places that were not met
 abbrev pub blanks : List ℕ → ℕ → ℕ
@@ -45,11 +68,11 @@ pub record Ready (end : ℕ) (flags marks work : List ℕ) (count : ℕ) : Type 
 
 -- ---- starts
 
-unfoldable pub flagged : List ℕ → ℕ → Bool
+abbrev pub flagged : List ℕ → ℕ → Bool
 flagged flags q = not (eqb (get_or flags q 0) 0)
 
 -- is a place a start or the end?
-unfoldable pub is_place : List ℕ → ℕ → ℕ → Bool
+abbrev pub is_place : List ℕ → ℕ → ℕ → Bool
 is_place flags end q = elim (eqb q end) [ true ↦ true | false ↦ elim (ltb end q) [ true ↦ false | false ↦ flagged flags q ] ]
 
 -- the starts before `at` are flagged, and the others are to come
@@ -72,10 +95,10 @@ unfoldable pub met_if : Bool → ℕ → ℕ → Table → Option Table
 met_if false h q t = none
 met_if true h q t = meet_at h t q (some (record { needs = 0; effect = same; exits = []; stops = false })) (t.marks q)
 
-pub record Meets (end : ℕ) (flags marks work : List ℕ) (t : Trip) (h q : ℕ) (marks' work' : List ℕ) (r : Trip) : Type 0 where
-  pub ready : Ready end flags marks' work' r.count
+pub record Meets (end : ℕ) (flags marks work : List ℕ) (t : Trip) (h q : ℕ) (marks' work' : List ℕ) (r : std.Option Trip) : Type 0 where
+  pub ready : IfSome r (λ u. Ready end flags marks' work' u.count)
   pub fewer : blanks marks' end ≤ blanks marks end
-  pub is : view r marks' work' ≡ and_then (view t marks work) (λ u. met_if (is_place flags end q) h q u)
+  pub is : view r marks' work' ≡ met_if (is_place flags end q) h q (table_of t marks work)
 
 -- ---- a place is looked at
 
@@ -98,19 +121,15 @@ pub record Looks (sheet code : List ℕ) (p : ℕ) (r : Traits) : Type 0 where
   pub stopped : halts (flow_view r.flow) ≡ nd.stops
   pub offset : branches (flow_view r.flow) ≡ true → 2 ≤ r.size
 
-unfoldable pub place_or : ℕ → Option ℕ → ℕ
-place_or other none = other
-place_or other (some q) = q
-
-unfoldable pub wrong_by : ℕ → ℕ → Bool → ℕ → Bool
+abbrev pub wrong_by : ℕ → ℕ → Bool → ℕ → Bool
 wrong_by depth needs stops g = ltb depth g || (ltb g needs || (stops && ltb 0 g))
 
-unfoldable pub behind_by : Bool → Effect → ℕ → ℕ
+abbrev pub behind_by : Bool → Effect → ℕ → ℕ
 behind_by w e g = elim w [ true ↦ 0 | false ↦ shift (effect_view e) g ]
 
-pub record Expands (sheet code flags marks work : List ℕ) (t : Trip) (depth p : ℕ) (marks' work' : List ℕ) (r : Trip) : Type 0 where
-  pub ready : Ready (length code) flags marks' work' r.count
-  pub is : view r marks' work' ≡ and_then (view t marks work) (λ x. expand (node_in sheet code) depth (node_in sheet code p) (x.marks p - 1) x)
+pub record Expands (sheet code flags marks work : List ℕ) (t : Trip) (depth p : ℕ) (marks' work' : List ℕ) (r : std.Option Trip) : Type 0 where
+  pub ready : IfSome r (λ u. Ready (length code) flags marks' work' u.count)
+  pub is : view r marks' work' ≡ expand (node_in sheet code) depth (node_in sheet code p) (get_or marks p 0 - 1) (table_of t marks work)
 
 -- ---- until no place is left
 
@@ -120,21 +139,19 @@ on_from sheet code depth n x = traverse (node_in sheet code) depth n x.marks x.w
 
 pub record Going (sheet code flags marks₀ work₀ : List ℕ) (t₀ : Trip) (depth : ℕ) (marks work : List ℕ) (t : Trip) (n : ℕ) : Type 0 where
   pub ready : Ready (length code) flags marks work t.count
-  pub more : and_then (view t₀ marks₀ work₀) (λ x. on_from sheet code depth (suc (length code)) x) ≡ and_then (view t marks work) (λ x. on_from sheet code depth n x)
+  pub more : on_from sheet code depth (suc (length code)) (table_of t₀ marks₀ work₀) ≡ on_from sheet code depth n (table_of t marks work)
 
-unfoldable pub Traverses : List ℕ → List ℕ → List ℕ → List ℕ → Trip → ℕ → List ℕ → List ℕ → Trip → Type 0
-Traverses sheet code marks₀ work₀ t₀ depth marks work t = view t marks work ≡ and_then (view t₀ marks₀ work₀) (λ x. on_from sheet code depth (suc (length code)) x)
+unfoldable pub Traverses : List ℕ → List ℕ → List ℕ → List ℕ → Trip → ℕ → List ℕ → List ℕ → std.Option Trip → Type 0
+Traverses sheet code marks₀ work₀ t₀ depth marks work r = view r marks work ≡ on_from sheet code depth (suc (length code)) (table_of t₀ marks₀ work₀)
 
 -- ---- what stands before the check
 
 -- the table is the sheet's, and the code is within its limit
-pub record Admitted (sheet code table : List ℕ) (place : ℕ) : Type 0 where
+pub record Admitted (sheet code table : List ℕ) : Type 0 where
   pub ready : IsTable table
   pub read : read_sheet sheet ≡ some (sheet_in table)
   pub small : length code ≤ max_code
-  pub nowhere : place ≡ 0
 
 -- else it is refused, whatever the depth
-pub record Admits (sheet code table : List ℕ) (number place : ℕ) : Type 0 where
-  pub admits : number ≡ 0 → Admitted sheet code table place
-  pub refuses : (number ≡ 0 → ⊥) → (depth : ℕ) → Checks sheet code depth number place
+abbrev pub Rejects : List ℕ → List ℕ → Refused → Type 0
+Rejects sheet code e = (depth : ℕ) → Checks sheet code depth (refusal_number e.refusal) e.place

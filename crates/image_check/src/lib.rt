@@ -1,28 +1,36 @@
 // An image checked (document 02, L11): every place that a walk reaches is met, and looked at once, at the height of the first walk that is followed.
 #![tactic(auto)]
 
-ghost use Rattle.std.specs.Prelude.{◌≡◌, true, ◌||◌, ◌+◌, ◌-◌, ◌≤◌, ◌<◌, length};
+ghost use Rattle.std.specs.Prelude.{◌≡◌, true, ◌+◌, ◌≤◌, ◌<◌, length, MatchResult};
 ghost use Rattle.definition.specs.Limits.{max_code};
 ghost use Rattle.definition.specs.Field.{has};
 ghost use Rattle.definition.specs.Runs.{target};
 ghost use Rattle.definition.specs.Check.{starts, listed, Answers, Checks};
 ghost use Rattle.definition.specs.Claims.{Either};
+ghost use Rattle.field.specs.View.{option_of};
 ghost use Rattle.opcode.specs.View.{flow_view};
 ghost use Rattle.opcode.specs.Table.{table_size, IsTable, sheet_in};
 ghost use Rattle.rewrite.specs.View.{Clear};
 ghost use Rattle.image_check.specs.Place.{halts};
-ghost use Rattle.image_check.specs.View.{is_place, place_or, wrong_by, behind_by, blanks, Ready, Meets, TraitsAt, Looks, Image, Expands, Traverses, Admits};
+ghost use Rattle.image_check.specs.View.{fault_of, number_of, place_of, is_place, wrong_by, behind_by, blanks, Ready, Meets, TraitsAt, Looks, Image, Expands, Traverses, Admitted, Rejects};
 
-use definition::{ASTRAY, BAD_HEIGHT, CODE_FULL, MAX_CODE};
-use opcode::sheet::SheetRead;
+use definition::{MAX_CODE, Refusal, Refused};
 use opcode::{Effect, Flow, Role, Traits, sheet};
 
-// How far a traversal is: places still to be looked at; was a height at fault; did a walk go astray.
+// Code with its sheet's table and a flag at each start.
+#[derive(Clone, Copy)]
+pub struct Flagged<'a> {
+    pub sheet: &'a [u8],
+    pub code: &'a [u8],
+    pub flags: &'a [u8],
+    pub ghost image: { Image sheet.now code.now flags.now },
+}
+
+// How far a traversal is: places still to be looked at; was a height at fault. There is none once a walk went astray.
 #[derive(Clone, Copy)]
 pub struct Trip {
     pub count: usize,
     pub bad: bool,
-    pub lost: bool,
 }
 
 // Is a place a start or the end?
@@ -30,26 +38,7 @@ fn is_place(flags: &[u8], end: usize, q: usize) -> bool
     requires { end < length flags.now }
     ensures { result ≡ is_place flags.now end q }
 {
-    if q == end {
-        return true;
-    }
-    if end < q {
-        return false;
-    }
-    flags[q] != 0
-}
-
-// A walk went astray.
-fn astray(t: Trip) -> Trip
-    ensures { result ≡ record { count = t.count; bad = t.bad; lost = true } }
-{
-    let count = t.count;
-    let bad = t.bad;
-    Trip {
-        count: count,
-        bad: bad,
-        lost: true,
-    }
+    q == end || (q < end && flags[q] != 0)
 }
 
 // A place is met at a height: the first time it is marked with it, and is to be looked at.
@@ -61,58 +50,46 @@ fn meet(
     t: Trip,
     h: u32,
     q: usize,
-) -> Trip
+) -> Option<Trip>
     requires ready { Ready end flags.now marks.old work.old t.count }
     requires end_bound { h + blanks marks.old end ≤ end + 2 }
     ensures { Meets end flags.now marks.old work.old t h q marks.new work.new result }
 {
-    let count = t.count;
-    let bad = t.bad;
-    if t.lost {
-        return t;
-    }
-    let here = is_place(flags, end, q);
-    if !here {
-        return astray(t);
+    if !is_place(flags, end, q) {
+        return None;
     }
     let mark = marks[q];
     if mark == 0 {
         marks[q] = h + 1;
-        work[count] = q as u16;
-        return Trip {
-            count: count + 1,
-            bad: bad,
-            lost: false,
-        };
+        work[t.count] = q as u16;
+        return Some(Trip {
+            count: t.count + 1,
+            bad: t.bad,
+        });
     }
     if mark == h + 1 {
-        return t;
+        return Some(t);
     }
-    Trip {
-        count: count,
+    Some(Trip {
+        count: t.count,
         bad: true,
-        lost: false,
-    }
+    })
 }
 
-// Where a branch leads, whose offset bytes stand before `next`; `other` where that is below 0.
-pub fn target_of(code: &[u8], next: usize, other: usize) -> usize
+// Where a branch leads, whose offset bytes stand before `next`; None is below 0.
+pub fn target_of(code: &[u8], next: usize) -> Option<usize>
     requires le_next { 2 ≤ next }
     requires next_in_bounds { next ≤ length code.now + 255 }
     requires code_len_bound { length code.now ≤ max_code }
-    ensures { result ≡ place_or other (target code.now next) }
+    ensures { option_of result ≡ target code.now next }
 {
     let low = field::byte_or(code, next - 2, 0);
     let high = field::byte_or(code, next - 1, 0);
-    let d = low as usize + 256 * (high as usize);
+    let d = usize::from(low) + 256 * usize::from(high);
     if d < 32768 {
-        return next + d;
+        return Some(next + d);
     }
-    let back = 65536 - d;
-    if back <= next {
-        return next - back;
-    }
-    other
+    next.checked_sub(65536 - d)
 }
 
 // The traits of the instruction at a start.
@@ -121,9 +98,7 @@ pub fn traits_at(sheet: &[u8], code: &[u8], p: usize) -> Traits
     requires p_value { has (starts (sheet_in sheet.now) code.now) p ≡ true }
     ensures { TraitsAt sheet.now code.now p result }
 {
-    let n = sheet::role_number(sheet, code[p]);
-    let role = Role::numbered(n);
-    role.traits()
+    Role::numbered(sheet::role_number(sheet, code[p])).traits()
 }
 
 // The traits of what stands at a place, a start or the end: a run stops at the end as at a RET.
@@ -148,28 +123,14 @@ fn look(sheet: &[u8], code: &[u8], p: usize) -> Traits
 fn stops(flow: Flow) -> bool
     ensures { result ≡ halts (flow_view flow) }
 {
-    match flow {
-        Flow::Onward => false,
-        Flow::Away => false,
-        Flow::Either => false,
-        Flow::Stop => true,
-    }
+    matches!(flow, Flow::Stop)
 }
 
 // Is a height at fault at a place?
 fn is_wrong(depth: u64, needs: u8, stops: bool, g: u32) -> bool
     ensures { result ≡ wrong_by depth needs stops g }
 {
-    if depth < g as u64 {
-        return true;
-    }
-    if g < needs as u32 {
-        return true;
-    }
-    if stops {
-        return 0 < g;
-    }
-    false
+    depth < u64::from(g) || g < u32::from(needs) || (stops && 0 < g)
 }
 
 // The height behind an instruction; behind a fault it no longer matters.
@@ -180,117 +141,75 @@ fn height_behind(wrong: bool, effect: Effect, g: u32) -> u32
     if wrong {
         return 0;
     }
-    let h = effect.shift(g);
-    h as u32
-}
-
-fn either(a: bool, b: bool) -> bool
-    ensures { result ≡ (a || b) }
-{
-    if a {
-        return true;
-    }
-    b
-}
-
-// The height that a mark stands for.
-fn height_of(mark: u32) -> u32
-    ensures { result ≡ mark - 1 }
-{
-    if mark == 0 {
-        return 0;
-    }
-    mark - 1
+    effect.shift(g) as u32
 }
 
 // A place is looked at: its exits are met.
 fn expand(
-    sheet: &[u8],
-    code: &[u8],
-    flags: &[u8],
+    image: Flagged,
     marks: &mut [u32],
     work: &mut [u16],
     t: Trip,
     depth: u64,
     p: usize,
-) -> Trip
-    requires ready { Ready (length code.now) flags.now marks.old work.old t.count }
-    requires image { Image sheet.now code.now flags.now }
-    ensures { Expands sheet.now code.now flags.now marks.old work.old t depth p marks.new work.new result }
+) -> Option<Trip>
+    requires { Ready (length image.code.now) image.flags.now marks.old work.old t.count }
+    ensures { Expands image.entry.sheet.now image.entry.code.now image.entry.flags.now marks.old work.old t depth p marks.new work.new result }
 {
-    let end = code.len();
-    let here = is_place(flags, end, p);
-    if !here {
-        return astray(t);
+    let flags = image.flags;
+    let end = image.code.len();
+    if !is_place(flags, end, p) {
+        return None;
     }
-    let count = t.count;
-    let was = t.bad;
-    let lost = t.lost;
-    let seen = look(sheet, code, p);
-    let next = p + seen.size as usize;
-    let needs = seen.needs;
-    let effect = seen.effect;
-    let flow = seen.flow;
-    let g = height_of(marks[p]);
-    let wrong = is_wrong(depth, needs, stops(flow), g);
-    let h = height_behind(wrong, effect, g);
-    let bad = either(was, wrong);
+    let seen = look(image.sheet, image.code, p);
+    let next = p + usize::from(seen.size);
+    let g = marks[p].saturating_sub(1);
+    let wrong = is_wrong(depth, seen.needs, stops(seen.flow), g);
+    let h = height_behind(wrong, seen.effect, g);
     let u = Trip {
-        count: count,
-        bad: bad,
-        lost: lost,
+        count: t.count,
+        bad: t.bad | wrong,
     };
-    match flow {
+    match seen.flow {
         Flow::Onward => meet(flags, end, marks, work, u, h, next),
         Flow::Away => {
-            let q = target_of(code, next, end + 1);
+            let q = target_of(image.code, next)?;
             meet(flags, end, marks, work, u, h, q)
         }
         Flow::Either => {
-            let v = meet(flags, end, marks, work, u, h, next);
-            let q = target_of(code, next, end + 1);
+            let v = meet(flags, end, marks, work, u, h, next)?;
+            let q = target_of(image.code, next)?;
             meet(flags, end, marks, work, v, h, q)
         }
-        Flow::Stop => u,
+        Flow::Stop => Some(u),
     }
 }
 
-// Until no place is left.
+// Until no place is left: each was met once, so that there are no more than places.
 fn traverse(
-    sheet: &[u8],
-    code: &[u8],
-    flags: &[u8],
+    image: Flagged,
     marks: &mut [u32],
     work: &mut [u16],
     first: Trip,
     depth: u64,
-) -> Trip
-    requires ready { Ready (length code.now) flags.now marks.old work.old first.count }
-    requires image { Image sheet.now code.now flags.now }
-    ensures { Traverses sheet.now code.now marks.old work.old first depth marks.new work.new result }
+) -> Option<Trip>
+    requires { Ready (length image.code.now) image.flags.now marks.old work.old first.count }
+    ensures { Traverses image.entry.sheet.now image.entry.code.now marks.old work.old first depth marks.new work.new result }
 {
     let mut t = first;
-    let mut n = code.len() + 1;
-    while n > 0 {
-        let count = t.count;
-        if t.lost {
-            return t;
+    for _step in 0..=image.code.len() {
+        if t.count == 0 {
+            return Some(t);
         }
-        if count == 0 {
-            return t;
-        }
-        let bad = t.bad;
-        let last = count - 1;
-        let p = work[last] as usize;
+        let last = t.count - 1;
+        let p = usize::from(work[last]);
         let u = Trip {
             count: last,
-            bad: bad,
-            lost: false,
+            bad: t.bad,
         };
-        t = expand(sheet, code, flags, marks, work, u, depth, p);
-        n -= 1;
+        t = expand(image, marks, work, u, depth, p)?;
     }
-    t
+    Some(t)
 }
 
 // Is an instruction's comparison byte listed, if it is a CMP_BR?
@@ -299,9 +218,7 @@ fn is_listed(sheet: &[u8], i: &[u8]) -> bool
     requires in_bounds { 1 ≤ length i.now }
     ensures { result ≡ listed (sheet_in sheet.now) i.now }
 {
-    let n = sheet::role_number(sheet, i[0]);
-    let fused = Role::CmpBr;
-    if n != fused.number() {
+    if sheet::role_number(sheet, i[0]) != Role::CmpBr.number() {
         return true;
     }
     let c = field::byte_or(i, 1, 0);
@@ -316,123 +233,101 @@ pub fn mark_starts(sheet: &[u8], code: &[u8], flags: &mut [u8])
     ensures { Image sheet.now code.now flags.new }
 {
     let mut at = 0;
-    loop {
-        let i = rewrite::decode(sheet, code, at);
-        let size = i.len();
-        if size == 0 {
-            return;
-        }
-        let ok = is_listed(sheet, i);
-        if !ok {
+    while let Some(i) = rewrite::decode(sheet, code, at) {
+        if !is_listed(sheet, i) {
             return;
         }
         flags[at] = 1;
-        at += size;
+        at += i.len();
     }
 }
 
-// The answer's number for code whose starts are flagged, over lent tables.
+// Is code at fault whose starts are flagged, and why? Over lent tables.
 pub fn check_over(
-    sheet: &[u8],
-    code: &[u8],
+    image: Flagged,
     depth: u64,
-    flags: &[u8],
     marks: &mut [u32],
     work: &mut [u16],
-) -> u8
-    requires image { Image sheet.now code.now flags.now }
-    requires clear { Clear (length code.now) marks.old }
-    requires code_in_bounds { length code.now < length work.old }
-    ensures { Answers (sheet_in sheet.now) code.now depth result }
+) -> Result<(), Refusal>
+    requires clear { Clear (length image.code.now) marks.old }
+    requires code_in_bounds { length image.code.now < length work.old }
+    ensures { Answers (sheet_in image.entry.sheet.now) image.entry.code.now depth (fault_of result) }
 {
-    let end = code.len();
     let none = Trip {
         count: 0,
         bad: false,
-        lost: false,
     };
-    let first = meet(flags, end, marks, work, none, 0, 0);
-    let last = traverse(sheet, code, flags, marks, work, first, depth);
-    if last.lost {
-        return ASTRAY;
-    }
+    let Some(first) = meet(image.flags, image.code.len(), marks, work, none, 0, 0) else {
+        return Err(Refusal::Astray);
+    };
+    let Some(last) = traverse(image, marks, work, first, depth) else {
+        return Err(Refusal::Astray);
+    };
     if last.bad {
-        return BAD_HEIGHT;
+        return Err(Refusal::BadHeight);
     }
-    0
+    Ok(())
 }
 
-// The answer's number for code of at most MAX_CODE bytes.
-fn check_table(sheet: &[u8], code: &[u8], depth: u64) -> u8
+// The same of code that tables of `N` slots hold. Never inlined, so that each size has a frame of its own, and short code doesn't pay for the longest tables.
+#[inline(never)]
+fn check_in<const N: usize>(sheet: &[u8], code: &[u8], depth: u64) -> Result<(), Refusal>
     requires table { IsTable sheet.now }
     requires code_len_bound { length code.now ≤ max_code }
-    ensures { Answers (sheet_in sheet.now) code.now depth result }
+    requires slots { length code.now < N }
+    requires most { N ≤ max_code + 1 }
+    ensures { Answers (sheet_in sheet.now) code.now depth (fault_of result) }
+{
+    let mut flags = [0u8; N];
+    let mut marks = [0u32; N];
+    let mut work = [0u16; N];
+    mark_starts(sheet, code, &mut flags);
+    let image = Flagged {
+        sheet,
+        code,
+        flags: &flags,
+    };
+    check_over(image, depth, &mut marks, &mut work)
+}
+
+// The same of code of at most MAX_CODE bytes.
+fn check_table(sheet: &[u8], code: &[u8], depth: u64) -> Result<(), Refusal>
+    requires table { IsTable sheet.now }
+    requires code_len_bound { length code.now ≤ max_code }
+    ensures { Answers (sheet_in sheet.now) code.now depth (fault_of result) }
 {
     if code.len() <= rewrite::SMALL_CODE {
-        let mut flags = [0u8; rewrite::SMALL_SLOTS];
-        let mut marks = [0u32; rewrite::SMALL_SLOTS];
-        let mut work = [0u16; rewrite::SMALL_SLOTS];
-        mark_starts(sheet, code, &mut flags);
-        check_over(sheet, code, depth, &flags, &mut marks, &mut work)
+        check_in::<{ rewrite::SMALL_SLOTS }>(sheet, code, depth)
     } else if code.len() <= rewrite::MIDDLE_CODE {
-        let mut flags = [0u8; rewrite::MIDDLE_SLOTS];
-        let mut marks = [0u32; rewrite::MIDDLE_SLOTS];
-        let mut work = [0u16; rewrite::MIDDLE_SLOTS];
-        mark_starts(sheet, code, &mut flags);
-        check_over(sheet, code, depth, &flags, &mut marks, &mut work)
+        check_in::<{ rewrite::MIDDLE_SLOTS }>(sheet, code, depth)
     } else {
-        let mut flags = [0u8; rewrite::SLOTS];
-        let mut marks = [0u32; rewrite::SLOTS];
-        let mut work = [0u16; rewrite::SLOTS];
-        mark_starts(sheet, code, &mut flags);
-        check_over(sheet, code, depth, &flags, &mut marks, &mut work)
+        check_in::<{ rewrite::SLOTS }>(sheet, code, depth)
     }
 }
 
-// A number, 0 if the image passes, and a place.
-#[derive(Clone, Copy)]
-pub struct Checked {
-    pub number: u8,
-    pub place: u32,
-}
-
-// A sheet read into a table, and the code's length tested: 7, 10, or 0.
-pub fn admit(sheet: &[u8], code: &[u8], table: &mut [u8]) -> Checked
+// A sheet read into a table, and the code's length tested: 7, then 10.
+pub fn admit(sheet: &[u8], code: &[u8], table: &mut [u8]) -> Result<(), Refused>
     requires { length table.old ≡ table_size }
-    ensures { Admits sheet.now code.now table.new result.number result.place }
+    ensures { MatchResult result (λ _. Admitted sheet.now code.now table.new) (λ e. Rejects sheet.now code.now e) }
 {
-    match sheet::read_sheet(sheet, table) {
-        SheetRead::Refused(number, place) => Checked {
-            number: number,
-            place: place,
-        },
-        SheetRead::Accepted => {
-            if code.len() > MAX_CODE {
-                return Checked {
-                    number: CODE_FULL,
-                    place: 0,
-                };
-            }
-            Checked {
-                number: 0,
-                place: 0,
-            }
-        }
+    sheet::read_sheet(sheet, table)?;
+    if code.len() > MAX_CODE {
+        return Err(Refused {
+            refusal: Refusal::CodeFull,
+            place: 0,
+        });
     }
+    Ok(())
 }
 
 // Code of an image against a sheet and its declared depth, from any bytes.
-pub fn check_image(sheet: &[u8], code: &[u8], depth: u64) -> Checked
-    ensures { Checks sheet.now code.now depth result.number result.place }
+pub fn check_image(sheet: &[u8], code: &[u8], depth: u64) -> Result<(), Refused>
+    ensures { Checks sheet.now code.now depth (number_of result) (place_of result) }
 {
     let mut table = [0u8; sheet::TABLE_SIZE];
-    let a = admit(sheet, code, &mut table);
-    if a.number != 0 {
-        return a;
-    }
-    let n = check_table(&table, code, depth);
-    Checked {
-        number: n,
-        place: 0,
+    admit(sheet, code, &mut table)?;
+    match check_table(&table, code, depth) {
+        Ok(()) => Ok(()),
+        Err(refusal) => Err(Refused { refusal, place: 0 }),
     }
 }

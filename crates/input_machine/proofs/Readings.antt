@@ -9,7 +9,7 @@ use borrow.Author.Tests.{eqb-true, eqb-false, eq-eqb, ne_eqb}
 use lib.Dec.{eqb, leb, ltb}
 use lib.ListN.{length, get_or, take, length-take, length-map, get_or-map}
 use lib.Seq.{take_all}
-use Rattle.field.proofs.Lists.{take-map, drop-map}
+use Rattle.std.proofs.lemmas.List.{take-map, drop-map}
 use Rattle.definition.specs.Field.{lf, comma, split, Field, field, Read, malformed, outside, is, Numbers, wrong, far, are, numbers}
 use Rattle.definition.specs.Opcode.{role_count}
 use Rattle.definition.specs.Sheet.{byte, field_count, opcodes_of, comparisons_of, only_line, counted, sheet_fields, sheet_of, repeated, read_fields, read_sheet, is_number, times, read_at_fault, group_of, field_at_fault, fault_at, sheet_fault}

@@ -18,35 +18,25 @@ use Rattle.field.proofs.Numbers.{up-to-bound}
 use Rattle.opcode.specs.Table.{byte_count, Good, sheet_by}
 use Rattle.opcode.proofs.Roles.{seen_at}
 use Rattle.field.proofs.Tests.{and_left, and_right}
-use Rattle.field.proofs.Lists.{take-map, drop-map}
+use Rattle.std.proofs.lemmas.List.{take-map, drop-map}
 use Rattle.opcode.proofs.Sheets.{has-cons, distinct_cons}
-
--- two constructors are never equal
-wrong-are : {X : Type 0} {ns : List ℕ} → wrong ≡ are ns → X
-wrong-are e = absurd (let z : ◌≡◌ {A = ℕ} 0 1 = cc in omega arith)
-
-far-are : {X : Type 0} {ns : List ℕ} → far ≡ are ns → X
-far-are e = absurd (let z : ◌≡◌ {A = ℕ} 0 1 = cc in omega arith)
-
-none-some : {X : Type 0} {s : Sheet} → none ≡ some s → X
-none-some e = absurd (let z : ◌≡◌ {A = ℕ} 0 1 = cc in omega arith)
 
 -- ---- the numbers of the fields
 
 reads-numbers : (n : ℕ) (fs : List (List ℕ)) (ns : List ℕ) → numbers (repeated byte n) fs ≡ are ns → (length ns ≡ n) × (map (field byte) fs ≡ map is ns)
 unfolding numbers repeated and_these
 reads-numbers zero [] ns e = let q : ns ≡ [] = cc in rw q (refl, refl)
-reads-numbers zero (x ∷ fs) ns e = wrong-are e
-reads-numbers (suc n) [] ns e = wrong-are e
+reads-numbers zero (x ∷ fs) ns e = absurd (cc)
+reads-numbers (suc n) [] ns e = absurd (cc)
 reads-numbers (suc n) (x ∷ fs) ns e = go (field byte x) (numbers (repeated byte n) fs) refl e (reads-numbers n fs)
   where
     go : (r : Read) (m : Numbers) → field byte x ≡ r → and_these r m ≡ are ns → ((ks : List ℕ) → m ≡ are ks → (length ks ≡ n) × (map (field byte) fs ≡ map is ks)) → (length ns ≡ suc n) × (field byte x ∷ map (field byte) fs ≡ map is ns)
-    go malformed m p e more = wrong-are e
-    go outside wrong p e more = wrong-are e
-    go outside far p e more = far-are e
-    go outside (are ks) p e more = far-are e
-    go (is k) wrong p e more = wrong-are e
-    go (is k) far p e more = far-are e
+    go malformed m p e more = absurd (cc)
+    go outside wrong p e more = absurd (cc)
+    go outside far p e more = absurd (cc)
+    go outside (are ks) p e more = absurd (cc)
+    go (is k) wrong p e more = absurd (cc)
+    go (is k) far p e more = absurd (cc)
     go (is k) (are ks) p e more =
         let r = more ks refl in
         let q : ns ≡ k ∷ ks = cc in
@@ -55,8 +45,8 @@ reads-numbers (suc n) (x ∷ fs) ns e = go (field byte x) (numbers (repeated byt
 numbers-reads : (fs : List (List ℕ)) (ns : List ℕ) → map (field byte) fs ≡ map is ns → numbers (repeated byte (length ns)) fs ≡ are ns
 unfolding numbers repeated and_these
 numbers-reads [] [] e = refl
-numbers-reads [] (n ∷ ns) e = absurd (let z : ◌≡◌ {A = ℕ} 0 1 = cc in omega arith)
-numbers-reads (x ∷ fs) [] e = absurd (let z : ◌≡◌ {A = ℕ} 0 1 = cc in omega arith)
+numbers-reads [] (n ∷ ns) e = absurd (cc)
+numbers-reads (x ∷ fs) [] e = absurd (cc)
 numbers-reads (x ∷ fs) (n ∷ ns) e =
     let p : field byte x ≡ is n = cc in
     let q : map (field byte) fs ≡ map is ns = cc in
@@ -84,21 +74,21 @@ spelled {t} {ns} p =
 sheet-numbers : (m : Numbers) (s : Sheet) → sheet_of m ≡ some s
     → (ns : List ℕ) × (m ≡ are ns) × (distinct (opcodes_of ns) ≡ true) × (distinct (comparisons_of ns) ≡ true) × (s ≡ sheet_by ns)
 unfolding sheet_of
-sheet-numbers wrong s = λ e. none-some e
-sheet-numbers far s = λ e. none-some e
+sheet-numbers wrong s = λ e. absurd (cc)
+sheet-numbers far s = λ e. absurd (cc)
 sheet-numbers (are ns) s = go (distinct (opcodes_of ns) && distinct (comparisons_of ns)) refl
   where
     go : (t : Bool) → (distinct (opcodes_of ns) && distinct (comparisons_of ns)) ≡ t → ◌≡◌ {A = Option Sheet} (elim t [ true ↦ some (sheet_by ns) | false ↦ none ]) (some s)
         → (ks : List ℕ) × (are ns ≡ are ks) × (distinct (opcodes_of ks) ≡ true) × (distinct (comparisons_of ks) ≡ true) × (s ≡ sheet_by ks)
     go true q e = (ns, refl, and_left _ _ q, and_right (distinct (opcodes_of ns)) _ q, cc)
-    go false q e = none-some e
+    go false q e = absurd (cc)
 
 pub spells : (t : List ℕ) (s : Sheet) → read_sheet t ≡ some s → (ns : List ℕ) × Spells t ns × (s ≡ sheet_by ns)
 unfolding read_sheet read_fields
 spells t s = go (sheet_fields t) refl
   where
     go : (o : Option (List (List ℕ))) → sheet_fields t ≡ o → read_fields o ≡ some s → (ns : List ℕ) × Spells t ns × (s ≡ sheet_by ns)
-    go none q e = none-some e
+    go none q e = absurd (cc)
     go (some fs) q e =
         let m = sheet-numbers (numbers (repeated byte field_count) fs) s e in
         let r = reads-numbers field_count fs m.0 m.1 in
@@ -108,7 +98,7 @@ spells t s = go (sheet_fields t) refl
 
 small-reads : (fs : List (List ℕ)) (ns : List ℕ) → map (field byte) fs ≡ map is ns → (i : ℕ) → get_or ns i 0 < byte_count
 small-reads fs [] e i = omega arith
-small-reads [] (n ∷ ns) e i = absurd (let z : ◌≡◌ {A = ℕ} 0 1 = cc in omega arith)
+small-reads [] (n ∷ ns) e i = absurd (cc)
 small-reads (x ∷ fs) (n ∷ ns) e zero = let p : field byte x ≡ is n = cc in omega (arith, up-to-bound x max_byte p)
 small-reads (x ∷ fs) (n ∷ ns) e (suc i) = let q : map (field byte) fs ≡ map is ns = cc in small-reads fs ns q i
 
@@ -141,7 +131,7 @@ times-other n m rs h = rw (times, is_number, ne_eqb m n h) (omega arith)
 
 pub times-has : (n : ℕ) (xs : List ℕ) → has xs n ≡ true → 1 ≤ times n (map is xs)
 unfolding has
-times-has n [] = λ e. absurd (let z : ◌≡◌ {A = ℕ} 0 1 = cc in omega arith)
+times-has n [] = λ e. absurd (cc)
 times-has n (x ∷ xs) = go (ℕ_discrete n x) (times-has n xs)
   where
     go : Dec (n ≡ x) → (has xs n ≡ true → 1 ≤ times n (map is xs)) → ◌≡◌ {A = Bool} (elim (eqb n x) [ true ↦ true | false ↦ has xs n ]) true → 1 ≤ times n (is x ∷ map is xs)
@@ -199,7 +189,7 @@ fault-refused t n f = go (read_sheet t) refl
   where
     go : (o : Option Sheet) → read_sheet t ≡ o → o ≡ none
     go none e = refl
-    go (some s) e = absurd (let z : true ≡ false = sym f ∙ no-fault t s e n in let y : ◌≡◌ {A = ℕ} 0 1 = cc in omega arith)
+    go (some s) e = absurd (let z : true ≡ false = sym f ∙ no-fault t s e n in cc)
 
 -- ---- a refused text has a place at fault
 
@@ -209,10 +199,10 @@ fields-count t fs = go (only_line (split lf t))
   where
     by : (gs : List (List ℕ)) (b : Bool) → eqb (length gs) field_count ≡ b → ◌≡◌ {A = Option (List (List ℕ))} (elim b [ true ↦ some gs | false ↦ none ]) (some fs) → length fs ≡ field_count
     by gs true q e = let g : gs ≡ fs = cc in rw (← g) (eqb-true (length gs) field_count q)
-    by gs false q e = absurd (let z : ◌≡◌ {A = ℕ} 0 1 = cc in omega arith)
+    by gs false q e = absurd (cc)
 
     go : (o : Option (List (List ℕ))) → counted o ≡ some fs → length fs ≡ field_count
-    go none e = absurd (let z : ◌≡◌ {A = ℕ} 0 1 = cc in omega arith)
+    go none e = absurd (cc)
     go (some gs) e = by gs (eqb (length gs) field_count) refl e
 
 -- all are numbers, or one is at fault in any group
@@ -269,7 +259,7 @@ fields-fault t fs q bad = go (reads-or (map (field byte) fs))
         → (n : ℕ) × (field_at_fault n (map is ns) ≡ true)
     groups ns e l (inr o) y = opcode-fault ns l o
     groups ns e l (inl a) (inr c) = comparison-fault ns l c
-    groups ns e l (inl a) (inl b) = none-some (sym bad ∙ spelled {ns = ns} (record { fields = fs; found = q; reads = e; long = l; opcodes = a; comparisons = b }))
+    groups ns e l (inl a) (inl b) = absurd (let z : none ≡ some _ = sym bad ∙ spelled {ns = ns} (record { fields = fs; found = q; reads = e; long = l; opcodes = a; comparisons = b }) in cc)
 
     go : ((ns : List ℕ) × (map (field byte) fs ≡ map is ns)) ⊎ ((i : ℕ) × (i < length (map (field byte) fs)) × ((g : List Read) → read_at_fault g (get_or (map (field byte) fs) i malformed) ≡ true))
         → (n : ℕ) × (field_at_fault n (map (field byte) fs) ≡ true)

@@ -23,8 +23,8 @@ use Rattle.field.specs.View.{Ends, line_end, line_fields}
 use Rattle.field.proofs.Numbers.{up-to-bound}
 use Rattle.field.proofs.Parts.{parts_last, parts_more, line-part, line-is, line-ends, Some, some-part, split-some}
 use Rattle.field.proofs.Fields.{Whole}
-use Rattle.field.proofs.Lists.{drop-map, drop-take}
-use Rattle.field.proofs.Results.{never}
+use Rattle.std.proofs.lemmas.List.{drop-map}
+use Rattle.field.proofs.Lists.{drop-take}
 use Rattle.std.specs.List.{list_any}
 use Rattle.std.specs.Prelude.{Result, Ok, Err, is_ok}
 use Rattle.definition.specs.declared.Refused.{Refused}
@@ -196,17 +196,17 @@ pub record Taking (text t : List ℕ) (i : ℕ) (r : Res (Unit {0})) : Type 0 wh
 
 pub taking-starts : (text t : List ℕ) → length t ≡ table_size → Taking text t 0 (ok tt)
 unfolding distinct
-taking-starts text t l = record { room = l; reads = λ z. refl; opcodes = λ z. refl; comparisons = λ z. refl; bad = λ n p e. never (cc) }
+taking-starts text t l = record { room = l; reads = λ z. refl; opcodes = λ z. refl; comparisons = λ z. refl; bad = λ n p e. absurd (cc) }
 
 -- what code answered: that all is well, or that it is not
 pub all-well : (r : Result (Unit {0}) Refused) → is_ok r ≡ true → res_of (λ u. u) r ≡ ok tt
 all-well (Ok u) e = refl
-all-well (Err e) q = never (cc)
+all-well (Err e) q = absurd (cc)
 
 -- once a field is at fault, no other is taken
 pub taking-kept : {text t : List ℕ} {i : ℕ} (r : Result (Unit {0}) Refused) → is_ok r ≡ false → Taking text t i (res_of (λ u. u) r) → Taking text t (i + 1) (res_of (λ u. u) r)
-taking-kept (Ok u) e k = never (cc)
-taking-kept (Err e) q k = record { room = k.room; reads = λ z. never (cc); opcodes = λ z. never (cc); comparisons = λ z. never (cc); bad = k.bad }
+taking-kept (Ok u) e k = absurd (cc)
+taking-kept (Err e) q k = record { room = k.room; reads = λ z. absurd (cc); opcodes = λ z. absurd (cc); comparisons = λ z. absurd (cc); bad = k.bad }
 
 module _ {text t : List ℕ} {i : ℕ} (p : Taking text t i (ok tt)) (h : i < field_count) (inside : i < length (line_fields text 0)) {x : Read} (ex : x ≡ field byte (get_or (line_fields text 0) i [])) where
   long : i < length (reads_of text)
@@ -250,15 +250,15 @@ module _ {text t : List ℕ} {i : ℕ} (p : Taking text t i (ok tt)) (h : i < fi
           reads = λ z. rw (w, add-one i, take-suc (reads_of text) i malformed long, read_here, p.reads refl) (ap (λ (y : Read). map is (take i t) ++ y ∷ []) here ∙ sym (map-append is (take i t) (n ∷ [])));
           opcodes = λ z. rw w g.0;
           comparisons = λ z. rw w g.1;
-          bad = λ n p e. never (cc);
+          bad = λ n p e. absurd (cc);
         }
 
   faulty-now : {r : Res (Unit {0})} → r ≡ refuse bad_sheet (i + 1) → read_at_fault (group_of i (reads_of text)) x ≡ true → Taking text t (i + 1) r
   faulty-now e f = rw e (record {
     room = p.room;
-    reads = λ z. never (cc);
-    opcodes = λ z. never (cc);
-    comparisons = λ z. never (cc);
+    reads = λ z. absurd (cc);
+    opcodes = λ z. absurd (cc);
+    comparisons = λ z. absurd (cc);
     bad = λ n q z. let same : q ≡ i + 1 = cc in (cc, rw same (at-fault f));
   })
 

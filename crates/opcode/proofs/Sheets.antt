@@ -24,7 +24,7 @@ unfolding has
 has-cons x y ys = go (eqb x y) refl
   where
     go : (b : Bool) → eqb x y ≡ b → ◌≡◌ {A = Bool} (elim b [ true ↦ true | false ↦ has ys x ]) false → (x ≡ y → ⊥) × (has ys x ≡ false)
-    go true q e = absurd (let z : ◌≡◌ {A = ℕ} 0 1 = cc in omega arith)
+    go true q e = absurd (cc)
     go false q e = (eqb-false x y q, e)
 
 has-not : (x : ℕ) (ys : List ℕ) (i : ℕ) → has ys x ≡ false → i < length ys → x ≡ get_or ys i 0 → ⊥

@@ -11,7 +11,8 @@ use Rattle.definition.specs.Opcode.{Role, role_count, CompareOp, number, compare
 use Rattle.definition.specs.Rules.{role_numbered}
 use Rattle.definition.specs.Sheet.{field_count, opcodes_of}
 use Rattle.store.specs.Fill.{set_from}
-use Rattle.field.proofs.Lists.{inside, drop-take}
+use Rattle.std.proofs.lemmas.List.{get_or_default}
+use Rattle.field.proofs.Lists.{drop-take}
 use Rattle.opcode.specs.Table.{byte_count, unlisted, table_size, sheet_in, IsTable, number_in, number_or, table_of, up_from}
 use Rattle.opcode.proofs.Roles.{compare-index, seen_at}
 use Rattle.opcode.proofs.Sheets.{number-below, number-role, up-from}
@@ -61,7 +62,7 @@ table-role {t} p b h =
 -- what a whole table lists is the role of the byte
 pub table-number : {t : List ℕ} → IsTable t → (b : ℕ) → b < byte_count → number_in t b ≡ number_or (role_of (sheet_in t) b)
 unfolding number_in
-table-number {t} p b h = inside t (field_count + b) unlisted 0 (omega (arith, p.long)) ∙ table-role p b h
+table-number {t} p b h = get_or_default t (field_count + b) unlisted 0 (omega (arith, p.long)) ∙ table-role p b h
 
 table-by : (t : List ℕ) → length t ≡ table_size → ((b : ℕ) → b < byte_count → get_or t (field_count + b) 0 ≡ number_or (role_of (sheet_in t) b)) → IsTable t
 table-by t l h =

@@ -2,73 +2,41 @@
 // answers. A text is chunks, each a line `times,length` and then its bytes; a line `0,0` ends it.
 #![tactic(auto)]
 
-ghost use Rattle.std.specs.Prelude.{◌≤◌, ◌<◌, length};
+ghost use Rattle.std.specs.Prelude.{◌≤◌, ◌<◌, length, IfSome};
 
-use field::Read;
 use program::Checked;
+use replay::print;
 use std::io;
 use std::io::Write;
 
 // More than the stored texts take: a text that was cut off would be answered otherwise.
 const INPUT_ROOM: usize = 65536;
 
-// A chunk of a text: its bytes stand from `from` to `to` of the input, and are to be repeated.
+const TEXT_ROOM: usize = 70000;
+
+// A chunk of a text: bytes and how often they are to be repeated, and what follows it in the input.
 #[derive(Clone, Copy)]
-struct Chunk {
+struct Chunk<'a> {
     times: usize,
-    from: usize,
-    to: usize,
+    bytes: &'a [u8],
+    rest: &'a [u8],
 }
 
-fn number(bytes: &[u8]) -> usize
-    ensures { result ≤ 70000 }
-{
-    let read = field::up_to(bytes, 70000);
-    match read {
-        Read::Is(n) => { if n <= 70000 { n as usize } else { 0 } }
-        Read::Malformed => 0,
-        Read::Outside => 0,
-    }
+fn number(bytes: &[u8]) -> usize {
+    field::up_to(bytes, TEXT_ROOM as u32).map_or(0, |n| n as usize)
 }
 
-// The chunk whose line starts at `at`; none is left at the input's end.
-fn read_chunk(input: &[u8], at: usize) -> Chunk
-    requires { at < length input.now }
-    ensures { (result.from ≤ result.to) × (result.to ≤ length input.now) × (at < result.to) }
+// The chunk whose line starts the input; none where no line ends, or it has no comma.
+fn read_chunk(input: &[u8]) -> Option<Chunk<'_>>
+    ensures { IfSome result (λ c. length c.rest.now < length input.now) }
 {
-    let n = input.len();
-    let middle = field::field_end(input, at);
-    let end = field::line_end(input, at);
-    if end >= n {
-        return Chunk {
-            times: 0,
-            from: n,
-            to: n,
-        };
-    }
-    if middle >= end {
-        return Chunk {
-            times: 0,
-            from: n,
-            to: n,
-        };
-    }
-    let after = middle + 1;
-    let times = number(&input[at..middle]);
-    let size = number(&input[after..end]);
-    let from = end + 1;
-    if size > n - from {
-        return Chunk {
-            times: times,
-            from: from,
-            to: n,
-        };
-    }
-    Chunk {
-        times: times,
-        from: from,
-        to: from + size,
-    }
+    let end = input.iter().position(|b| *b == b'\n')?;
+    let middle = input[..end].iter().position(|b| *b == b',')?;
+    let times = number(&input[..middle]);
+    let size = number(&input[middle + 1..end]);
+    let behind = &input[end + 1..];
+    let (bytes, rest) = behind.split_at(size.min(behind.len()));
+    Some(Chunk { times, bytes, rest })
 }
 
 // The bytes behind those of `text` that are used already, as far as there is room.
@@ -76,75 +44,59 @@ fn put(text: &mut [u8], used: usize, bytes: &[u8]) -> usize
     requires { used ≤ length text.old }
     ensures { result ≤ length text.new }
 {
-    let mut at = used;
-    let mut i = 0;
-    while i < bytes.len() {
-        if at >= text.len() {
-            return at;
-        }
-        text[at] = bytes[i];
-        at += 1;
-        i += 1;
-    }
-    at
+    let n = bytes.len().min(text.len() - used);
+    text[used..used + n].copy_from_slice(&bytes[..n]);
+    used + n
 }
 
-fn put_all(text: &mut [u8], used: usize, bytes: &[u8], times: usize) -> usize
+fn put_all(text: &mut [u8], used: usize, c: Chunk<'_>) -> usize
     requires { used ≤ length text.old }
     ensures { result ≤ length text.new }
 {
     let mut at = used;
-    let mut more = times;
-    while more > 0 {
-        at = put(text, at, bytes);
-        more -= 1;
+    for _ in 0..c.times {
+        at = put(text, at, c.bytes);
     }
     at
 }
 
-fn print<W: Write>(out: &mut W, n: u64, last: u8) -> io::Result<()> {
-    write!(out, "{n}")?;
-    out.write_all(&[last])
-}
-
 fn answer<W: Write>(out: &mut W, text: &[u8]) -> io::Result<()> {
-    let checked = program::check_program(text);
-    match checked {
-        Checked::Refused { number, place } => {
-            print(out, number as u64, b',')?;
-            print(out, place as u64, b'\n')
+    match program::check_program(text) {
+        Err(refused) => {
+            print(out, u64::from(refused.refusal.number()), b',')?;
+            print(out, refused.place as u64, b'\n')
         }
-        Checked::Accepted {
+        Ok(Checked {
             variables,
             statements,
             pos,
             next,
-        } => {
+        }) => {
             print(out, 0, b',')?;
-            print(out, variables as u64, b',')?;
-            print(out, statements as u64, b',')?;
-            print(out, pos.line as u64, b',')?;
-            print(out, pos.column as u64, b',')?;
+            print(out, u64::from(variables), b',')?;
+            print(out, u64::from(statements), b',')?;
+            print(out, u64::from(pos.line), b',')?;
+            print(out, u64::from(pos.column), b',')?;
             print(out, next as u64, b'\n')
         }
     }
 }
 
-// Every text of the input, made in `text`.
+// Every text of the input, made in `text`. A chunk that is repeated no times ends one, and so does what is no chunk.
 fn answer_all<W: Write>(out: &mut W, input: &[u8], text: &mut [u8]) -> io::Result<()> {
-    let mut at = 0;
+    let mut rest = input;
     let mut used = 0;
-    while at < input.len() {
-        let c = read_chunk(input, at);
-        let from = c.from;
-        let to = c.to;
+    while !rest.is_empty() {
+        let Some(c) = read_chunk(rest) else {
+            return answer(out, &text[..used]);
+        };
         if c.times == 0 {
             answer(out, &text[..used])?;
             used = 0;
         } else {
-            used = put_all(text, used, &input[from..to], c.times);
+            used = put_all(text, used, c);
         }
-        at = to;
+        rest = c.rest;
     }
     Ok(())
 }
@@ -152,6 +104,6 @@ fn answer_all<W: Write>(out: &mut W, input: &[u8], text: &mut [u8]) -> io::Resul
 fn main(rt: HostRuntime) -> io::Result<()> {
     let mut input = [0u8; INPUT_ROOM];
     let n = replay::read_full(&mut rt.stdin(), &mut input)?;
-    let mut text = [0u8; 70000];
+    let mut text = [0u8; TEXT_ROOM];
     answer_all(&mut rt.stdout(), &input[..n], &mut text)
 }

@@ -13,7 +13,7 @@ use lib.Pointwise.{pointwise}
 use lib.ListN.{length, get_or, take, drop, length-drop, drop_of_length-le}
 use lib.Seq.{drop-cons, take_all}
 use Rattle.replay.specs.declared.Case.{Case}
-use Rattle.replay.specs.Case.{begins, separator, lf, part_size, part_end, behind, case_at, cases_from, case_count, missing, Parts}
+use Rattle.replay.specs.Case.{begins, separator, lf, part_size, part_end, case_at, cases_from, case_count, missing}
 
 -- ---- whether a text begins with some bytes
 eqb_swap : (a b : ℕ) → eqb a b ≡ eqb b a
@@ -31,12 +31,6 @@ starts-here text at e =
     e ∙ ap (λ (l : List ℕ). pointwise eqb separator (take 5 l)) (take_all (length text - at) (drop at text) (rw (length-drop at text) (omega arith))) ∙ starts-begins separator (drop at text)
 
 -- ---- a part
-pub part-within : (starts : Bool) (text : List ℕ) → part_size starts text ≤ length text
-unfolding part_size
-part-within starts [] = omega arith
-part-within starts (b ∷ bs) =
-    elim (starts && begins separator (b ∷ bs)) as (λ (t : Bool). elim t [ true ↦ 0 | false ↦ suc (part_size (eqb b lf) bs) ] ≤ suc (length bs))
-    [ true ↦ omega arith | false ↦ omega (arith, part-within (eqb b lf) bs) ]
 
 -- a part that starts at a place has no end before another
 pub record Reading (text : List ℕ) (from at : ℕ) (starts : Bool) : Type 0 where
@@ -69,43 +63,6 @@ module _ (text : List ℕ) (from at : ℕ) (starts : Bool) (r : Reading text fro
       omega (arith, r.within, r.size, none)
 
 -- ---- a case
-module _ (text : List ℕ) where
-  pub end-from : (from : ℕ) → from ≤ part_end text from
-  unfolding part_end
-  end-from from = omega arith
-
-  pub end-within : (from : ℕ) → from ≤ length text → part_end text from ≤ length text
-  unfolding part_end
-  end-within from h = let p = part-within true (drop from text) in let d = length-drop from text in omega arith
-
-  pub behind-within : (at : ℕ) → behind text at ≤ length text
-  unfolding behind
-  behind-within at = omega arith
-
-  behind-from : (at : ℕ) → at ≤ length text → at ≤ behind text at
-  unfolding behind
-  behind-from at h = omega arith
-
-  behind-ahead : (from at : ℕ) → from ≤ at → from < length text → from < behind text at
-  unfolding behind
-  behind-ahead from at h l = omega arith
-
-  pub parts : (at : ℕ) {c : Case} → at < length text → c ≡ case_at text at → Parts (length text) at c
-  unfolding case_at
-  parts at l e =
-      let end = part_end text at in
-      let answer = behind text end in
-      let stop = part_end text answer in
-      let over : at ≤ stop = let a = end-from at in let b = behind-from end (end-within at (omega (arith, l))) in let c = end-from answer in omega (arith, a, b, c) in
-      rw e (record {
-        input = end-from at;
-        ends = end-within at (omega (arith, l));
-        answer = end-from answer;
-        stops = end-within answer (behind-within end);
-        ahead = behind-ahead at stop over l;
-        within = behind-within stop;
-      })
-
 pub at_most_one : (same : Bool) {n : ℕ} → n ≡ missing same → n ≤ 1
 unfolding missing
 at_most_one true e = omega (arith, e)

@@ -6,7 +6,7 @@ ghost use Rattle.std.specs.Prelude.{◌≡◌, ℕ, ◌≤◌, ◌<◌, [], ◌�
 ghost use Rattle.std.specs.Fmt.{decimal};
 ghost use Rattle.std.specs.Io.{ReadsAtMost};
 ghost use Rattle.std.specs.Io.KnownBytes.{Appends, Consumes, IsAtEnd};
-ghost use Rattle.replay.specs.Case.{begins, separator, part_end, behind, case_at, missing, missed_line, total_line};
+ghost use Rattle.replay.specs.Case.{begins, separator, part_end, behind, case_at, missing, missed_line, total_line, Parts};
 
 use std::io;
 use std::io::{Read, Write};
@@ -28,7 +28,8 @@ pub struct Case {
 // The separator line at or after a line's start; the end where there is none.
 fn part_end(input: &[u8], from: usize) -> usize
     requires { from ≤ length input.now }
-    ensures { result ≡ part_end input.now from }
+    ensures is { result ≡ part_end input.now from }
+    ensures lies { (from ≤ result) × (result ≤ length input.now) }
 {
     let mut starts = true;
     for at in from..input.len() {
@@ -41,6 +42,7 @@ fn part_end(input: &[u8], from: usize) -> usize
 }
 
 // Behind the separator line that stands here; the end where there is none.
+#[tactic(auto, unfolding(crate::specs::Case::behind))]
 fn behind(input: &[u8], at: usize) -> usize
     requires { at ≤ length input.now }
     ensures { result ≡ behind input.now at }
@@ -49,9 +51,11 @@ fn behind(input: &[u8], at: usize) -> usize
 }
 
 // The case that starts here.
+#[tactic(auto, unfolding(crate::specs::Case::behind, crate::specs::Case::case_at))]
 pub fn case_at(input: &[u8], at: usize) -> Case
     requires { at < length input.now }
-    ensures { result ≡ case_at input.now at }
+    ensures is { result ≡ case_at input.now at }
+    ensures lies { Parts (length input.now) at result }
 {
     let end = part_end(input, at);
     let answer = behind(input, end);

@@ -21,7 +21,6 @@ use Rattle.definition.specs.declared.Refused.{Refused}
 use Rattle.definition.specs.View.{res_of}
 use Rattle.std.specs.Option.{ok_or}
 use Rattle.std.specs.Result.{result_unwrap_or}
-use Rattle.field.proofs.Results.{never}
 use Rattle.rules.specs.View.{row_size, table_size, row_of, rows_of, read_into, answer_of, table_for, Answered, Rows, line_of, line_at}
 use Rattle.store.specs.Fill.{zeroed_from}
 use Rattle.store.proofs.Fills.{zero-all, zeroed-is}
@@ -78,20 +77,20 @@ module _ (next : ℕ) where
   line-none : (o : Option Rule) → code.None ≡ line_of next o → o ≡ none
   unfolding line_of
   line-none none e = refl
-  line-none (some r) e = never (cc)
+  line-none (some r) e = absurd (cc)
 
   line-some : (o : Option Rule) {l : Line} → code.Some l ≡ line_of next o → (r : Rule) × (o ≡ some r) × (l.numbers ≡ row_of r) × (l.next ≡ next)
   unfolding line_of
-  line-some none e = never (cc)
+  line-some none e = absurd (cc)
   line-some (some r) {l} e = let same : l ≡ record { numbers = row_of r; next = next } = cc in (r, refl, ap (λ (x : Line). x.numbers) same, ap (λ (x : Line). x.next) same)
 
 -- what `ok_or` makes of an option
 pub ok-or-ok : {A E : Type 0} {x : A} (o : code.Option A) (e : E) → ok_or o e ≡ Ok x → code.Some x ≡ o
 ok-or-ok (code.Some y) e q = cc
-ok-or-ok code.None e q = never (cc)
+ok-or-ok code.None e q = absurd (cc)
 
 pub ok-or-err : {A E : Type 0} {d : E} (o : code.Option A) (e : E) → ok_or o e ≡ Err d → (o ≡ code.None) × (d ≡ e)
-ok-or-err (code.Some y) e q = never (cc)
+ok-or-err (code.Some y) e q = absurd (cc)
 ok-or-err code.None e q = (refl, cc)
 
 -- ---- the walk over the lines

@@ -22,7 +22,6 @@ use Rattle.std.specs.Prelude.{Some, None, Result, Ok, Err}
 use Rattle.std.specs.Result.{result_ok}
 use Rattle.field.specs.declared.Fault.{Fault}
 use Rattle.field.specs.declared.Fault.TheVariants.{Malformed, Outside}
-use Rattle.field.proofs.Results.{never}
 use Rattle.rules.specs.View.{row_size, first_at, second_at, test_at, one_at, two_at, line_numbers, Numbered, Bounded, row_of, line_of, line_at}
 
 -- the largest role that a rule may name
@@ -70,7 +69,7 @@ Bad (is n) = ⊥
 
 pub bad-read : (r : Result ℕ Fault) → result_ok r ≡ None → Bad (read_of r)
 unfolding Bad
-bad-read (Ok n) e = never (cc)
+bad-read (Ok n) e = absurd (cc)
 bad-read (Err Malformed) e = tt
 bad-read (Err Outside) e = tt
 
@@ -156,7 +155,7 @@ module _ (text : List ℕ) (at : ℕ) where
 
   -- a line that makes a rule has its LF
   pub rule-ended : {q : Rule} → rule_from (line_numbers text at) ≡ some q → line_end text at < length text
-  rule-ended e = by_end (λ h. h) (λ h. absurd (let z : none ≡ some _ = sym (unended-rule h) ∙ e in let y : ◌≡◌ {A = ℕ} 0 1 = cc in omega arith))
+  rule-ended e = by_end (λ h. h) (λ h. absurd (let z : none ≡ some _ = sym (unended-rule h) ∙ e in cc))
 
   pub fields-bad : rule_from (numbers rule_fields (line_fields text at)) ≡ none → rule_from (line_numbers text at) ≡ none
   fields-bad e = by_end (λ h. ap rule_from (whole_numbers h) ∙ e) unended-rule
@@ -171,7 +170,7 @@ module _ (text : List ℕ) (at : ℕ) where
   -- what a line that gives numbers has: its LF, and numbers in its fields
   pub line-are : {ns : List ℕ} → line_numbers text at ≡ are ns → (line_end text at < length text) × (numbers rule_fields (line_fields text at) ≡ are ns)
   line-are e =
-      by_end (λ h. (h, sym (whole_numbers h) ∙ e)) (λ h. absurd (let z : wrong ≡ are _ = sym (unended-numbers h) ∙ e in let y : ◌≡◌ {A = ℕ} 0 1 = cc in omega arith))
+      by_end (λ h. (h, sym (whole_numbers h) ∙ e)) (λ h. absurd (let z : wrong ≡ are _ = sym (unended-numbers h) ∙ e in cc))
 
   pub good-numbered : {ns : List ℕ} {next : ℕ} → Whole text at row_size → numbers rule_fields (line_fields text at) ≡ are ns → next ≡ line_end text at + 1 → Numbered text at (Some (record { numbers = ns; next = next }))
   good-numbered w e n = (whole_numbers w.ended ∙ e, n)
@@ -180,19 +179,19 @@ module _ (text : List ℕ) (at : ℕ) where
 
 and-are : (y : def.Read) (x : Numbers) (ns : List ℕ) → and_these y x ≡ are ns → (n : ℕ) × (qs : List ℕ) × (y ≡ is n) × (x ≡ are qs) × (ns ≡ n ∷ qs)
 unfolding and_these
-and-are malformed x ns e = absurd (let z : ◌≡◌ {A = ℕ} 0 1 = cc in omega arith)
-and-are outside wrong ns e = absurd (let z : ◌≡◌ {A = ℕ} 0 1 = cc in omega arith)
-and-are outside far ns e = absurd (let z : ◌≡◌ {A = ℕ} 0 1 = cc in omega arith)
-and-are outside (are qs) ns e = absurd (let z : ◌≡◌ {A = ℕ} 0 1 = cc in omega arith)
-and-are (is n) wrong ns e = absurd (let z : ◌≡◌ {A = ℕ} 0 1 = cc in omega arith)
-and-are (is n) far ns e = absurd (let z : ◌≡◌ {A = ℕ} 0 1 = cc in omega arith)
+and-are malformed x ns e = absurd (cc)
+and-are outside wrong ns e = absurd (cc)
+and-are outside far ns e = absurd (cc)
+and-are outside (are qs) ns e = absurd (cc)
+and-are (is n) wrong ns e = absurd (cc)
+and-are (is n) far ns e = absurd (cc)
 and-are (is n) (are qs) ns e = (n, qs, refl, refl, (cc))
 
 number_bound : (ms : List ℕ) (xs : List (List ℕ)) (ns : List ℕ) → numbers (map up_to ms) xs ≡ are ns → (k : ℕ) → get_or ns k 0 ≤ get_or ms k 0
 unfolding numbers
 number_bound [] [] ns e k = rw (let z : ns ≡ [] = cc in z) (omega arith)
-number_bound [] (x ∷ xs) ns e k = absurd (let z : ◌≡◌ {A = ℕ} 0 1 = cc in omega arith)
-number_bound (m ∷ ms) [] ns e k = absurd (let z : ◌≡◌ {A = ℕ} 0 1 = cc in omega arith)
+number_bound [] (x ∷ xs) ns e k = absurd (cc)
+number_bound (m ∷ ms) [] ns e k = absurd (cc)
 number_bound (m ∷ ms) (x ∷ xs) ns e k = let (n, qs, a, b, s) = and-are (field (up_to m) x) (numbers (map up_to ms) xs) ns e in rw s (go n qs a (number_bound ms xs qs b) k)
   where
     go : (n : ℕ) (qs : List ℕ) → field (up_to m) x ≡ is n → ((k : ℕ) → get_or qs k 0 ≤ get_or ms k 0) → (k : ℕ) → get_or (n ∷ qs) k 0 ≤ get_or (m ∷ ms) k 0

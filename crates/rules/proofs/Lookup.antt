@@ -159,10 +159,10 @@ module _ {table : List ℕ} {count : ℕ} (t : IsRules table count) where
 -- ---- the two actions of a rule
 module _ (d : Action) {x y : def.Action} where
   pub first-action : (l : List Action) → map action_view l ≡ x ∷ y ∷ [] → action_view (get_or l 0 d) ≡ x
-  first-action [] e = absurd (let z : ◌≡◌ {A = ℕ} 0 1 = cc in omega arith)
+  first-action [] e = absurd (cc)
   first-action (p ∷ l) e = cc
 
   pub second-action : (l : List Action) → map action_view l ≡ x ∷ y ∷ [] → action_view (get_or l 1 d) ≡ y
-  second-action [] e = absurd (let z : ◌≡◌ {A = ℕ} 0 1 = cc in omega arith)
-  second-action (p ∷ []) e = absurd (let z : ◌≡◌ {A = ℕ} 0 1 = cc in omega arith)
+  second-action [] e = absurd (cc)
+  second-action (p ∷ []) e = absurd (cc)
   second-action (p ∷ q ∷ l) e = cc

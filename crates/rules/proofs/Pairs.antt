@@ -20,9 +20,6 @@ use Rattle.opcode.proofs.Sheets.{role-number}
 use Rattle.rules.proofs.Rows.{number-back, small}
 use Rattle.rules.proofs.Table.{is-rules}
 
-never : {A : Type 0} → false ≡ true → A
-never e = absurd (let z : ◌≡◌ {A = ℕ} 0 1 = cc in omega arith)
-
 -- ---- what reading accepts
 
 numbers-accepted : (ns : List ℕ) → Bounded ns → good_rule (rule_of ns) ≡ true → Accepted (rule_of ns)
@@ -39,15 +36,15 @@ good-accepted ns b {r} = go (good_rule (rule_of ns)) refl
   where
     go : (t : Bool) → good_rule (rule_of ns) ≡ t → elim t [ true ↦ some (rule_of ns) | false ↦ none ] ≡ some r → Accepted r
     go true g e = let is : rule_of ns ≡ r = cc in rw is at (numbers-accepted ns b g)
-    go false g e = absurd (let z : ◌≡◌ {A = ℕ} 0 1 = cc in omega arith)
+    go false g e = absurd (cc)
 
 rule-accepted : (line : List ℕ) {r : Rule} → read_rule line ≡ some r → Accepted r
 unfolding read_rule rule_from
 rule-accepted line {r} = go (numbers rule_fields (split comma line)) refl
   where
     go : (x : Numbers) → numbers rule_fields (split comma line) ≡ x → rule_from x ≡ some r → Accepted r
-    go wrong f e = absurd (let z : ◌≡◌ {A = ℕ} 0 1 = cc in omega arith)
-    go far f e = absurd (let z : ◌≡◌ {A = ℕ} 0 1 = cc in omega arith)
+    go wrong f e = absurd (cc)
+    go far f e = absurd (cc)
     go (are ns) f e = good-accepted ns (bounded (split comma line) f) e
 
 -- the rules from line n on
@@ -66,7 +63,7 @@ one_from n a f = record { each = (a, f.each); few = omega (arith, f.few) }
 last-from : (n : ℕ) (t : Bool) {rs : List Rule} → n ≤ suc max_rules → (demand t bad_rule n >> ok []) ≡ ok rs → From n rs
 unfolding demand ◌>>◌
 last-from n true {rs} h e = let is : [] ≡ rs = cc in rw is at (none_from n h)
-last-from n false h e = absurd (let z : ◌≡◌ {A = ℕ} 0 1 = cc in omega arith)
+last-from n false h e = absurd (cc)
 
 -- a line's rule and those of the lines after it, taken apart
 line-from : (n : ℕ) (t : Bool) (o : Option Rule) (x : Res (List Rule)) {rs : List Rule} → (leb n max_rules ≡ t) → ((r : Rule) → o ≡ some r → Accepted r)
@@ -76,9 +73,9 @@ unfolding demand given ◌>>◌ ◌>>=◌
 line-from n true (some r) (ok qs) {rs} t a f e =
     let is : r ∷ qs ≡ rs = cc in
     rw is at (one_from n (a r refl) (f qs (leb-true n max_rules t) refl))
-line-from n true (some r) (refuse m p) t a f e = absurd (let z : ◌≡◌ {A = ℕ} 0 1 = cc in omega arith)
-line-from n true none x t a f e = absurd (let z : ◌≡◌ {A = ℕ} 0 1 = cc in omega arith)
-line-from n false o x t a f e = absurd (let z : ◌≡◌ {A = ℕ} 0 1 = cc in omega arith)
+line-from n true (some r) (refuse m p) t a f e = absurd (cc)
+line-from n true none x t a f e = absurd (cc)
+line-from n false o x t a f e = absurd (cc)
 
 lines_from : (ls : List (List ℕ)) (n : ℕ) {rs : List Rule} → n ≤ suc max_rules → rules_from n ls ≡ ok rs → From n rs
 unfolding rules_from
@@ -149,7 +146,7 @@ accepted-pair r a =
 
 role-is : (r : Role) (o : Option Role) → has_role r o ≡ true → o ≡ some r
 unfolding has_role
-role-is r none e = never e
+role-is r none e = absurd (cc)
 role-is r (some q) e = ap some (sym (role-number q) ∙ ap role_numbered (sym (eqb-true (number r) (number q) e)) ∙ role-number r)
 
 -- the pair of actions that the lookup gives two instructions, and their roles
@@ -175,7 +172,7 @@ found pass x a b k f =
 
 pub matched : (pass : ℕ) (rs : List Rule) (a b : Instruction) (two : Action × Action) → Each rs → matches pass rs a b ≡ some two → Matched a b two
 unfolding matches Each
-matched pass [] a b two k e = absurd (let z : ◌≡◌ {A = ℕ} 0 1 = cc in omega arith)
+matched pass [] a b two k e = absurd (cc)
 matched pass (x ∷ rs) a b two k e = go (fits pass x a b) refl (λ f. matched pass rs a b two k.1 f) e
   where
     go : (t : Bool) → fits pass x a b ≡ t → (matches pass rs a b ≡ some two → Matched a b two) → elim t [ true ↦ some (x.one, x.two) | false ↦ matches pass rs a b ] ≡ some two → Matched a b two
@@ -196,20 +193,20 @@ down-needs : (r : Role) → effect r ≡ down → 1 ≤ needs r
 unfolding effect needs traits traits_of
 down-needs dup e = omega arith
 down-needs pop e = omega arith
-down-needs load_var e = absurd (let z : ◌≡◌ {A = ℕ} 0 1 = cc in omega arith)
+down-needs load_var e = absurd (cc)
 down-needs store_var e = omega arith
-down-needs load_const e = absurd (let z : ◌≡◌ {A = ℕ} 0 1 = cc in omega arith)
-down-needs load_true e = absurd (let z : ◌≡◌ {A = ℕ} 0 1 = cc in omega arith)
-down-needs load_false e = absurd (let z : ◌≡◌ {A = ℕ} 0 1 = cc in omega arith)
+down-needs load_const e = absurd (cc)
+down-needs load_true e = absurd (cc)
+down-needs load_false e = absurd (cc)
 down-needs (arithmetic o) e = omega arith
 down-needs (logic o) e = omega arith
 down-needs neg e = omega arith
 down-needs bool_not e = omega arith
 down-needs (compare c) e = omega arith
-down-needs jmp e = absurd (let z : ◌≡◌ {A = ℕ} 0 1 = cc in omega arith)
+down-needs jmp e = absurd (cc)
 down-needs jmp_if_not e = omega arith
-down-needs cmp_br e = absurd (let z : ◌≡◌ {A = ℕ} 0 1 = cc in omega arith)
-down-needs ret e = absurd (let z : ◌≡◌ {A = ℕ} 0 1 = cc in omega arith)
+down-needs cmp_br e = absurd (cc)
+down-needs ret e = absurd (cc)
 
 heights-back : (d e : Effect) (n : ℕ) → (d ≡ down → 1 ≤ n) → cancel d e ≡ true → (h : ℕ) → n ≤ h → shift e (shift d h) ≡ h
 unfolding cancel shift
@@ -217,30 +214,30 @@ heights-back up down n k c h l = refl
 heights-back down up n k c zero l = absurd (let z = k refl in omega arith)
 heights-back down up n k c (suc h) l = refl
 heights-back same same n k c h l = refl
-heights-back up up n k c h l = never c
-heights-back up same n k c h l = never c
-heights-back down down n k c h l = never c
-heights-back down same n k c h l = never c
-heights-back same up n k c h l = never c
-heights-back same down n k c h l = never c
+heights-back up up n k c h l = absurd (cc)
+heights-back up same n k c h l = absurd (cc)
+heights-back down down n k c h l = absurd (cc)
+heights-back down same n k c h l = absurd (cc)
+heights-back same up n k c h l = absurd (cc)
+heights-back same down n k c h l = absurd (cc)
 
 same_left : (d : Effect) → cancel d same ≡ true → d ≡ same
 unfolding cancel
-same_left up c = never c
-same_left down c = never c
+same_left up c = absurd (cc)
+same_left down c = absurd (cc)
 same_left same c = refl
 
 same-right : (d : Effect) → cancel same d ≡ true → d ≡ same
 unfolding cancel
-same-right up c = never c
-same-right down c = never c
+same-right up c = absurd (cc)
+same-right down c = absurd (cc)
 same-right same c = refl
 
 no-remove : (n : ℕ) → rewrite_operand n ≡ remove → ⊥
-no-remove n e = let z : ◌≡◌ {A = ℕ} 0 1 = cc in omega arith
+no-remove n e = cc
 
 no-keep : keep ≡ remove → ⊥
-no-keep e = let z : ◌≡◌ {A = ℕ} 0 1 = cc in omega arith
+no-keep e = cc
 
 pub keeps : (a b : Action) (r q : Role) → Pair a b r q → Keeps a b r q
 unfolding removed
@@ -257,22 +254,22 @@ keeps (rewrite_operand n) (rewrite_operand m) r q p = neither (no-remove n) (no-
 -- an instruction whose operand may be rewritten has three bytes
 pub variable-size : (r : Role) → is_variable r ≡ true → size r ≡ 3
 unfolding is_variable size traits traits_of
-variable-size dup e = never e
-variable-size pop e = never e
+variable-size dup e = absurd (cc)
+variable-size pop e = absurd (cc)
 variable-size load_var e = refl
 variable-size store_var e = refl
-variable-size load_const e = never e
-variable-size load_true e = never e
-variable-size load_false e = never e
-variable-size (arithmetic o) e = never e
-variable-size (logic o) e = never e
-variable-size neg e = never e
-variable-size bool_not e = never e
-variable-size (compare c) e = never e
-variable-size jmp e = never e
-variable-size jmp_if_not e = never e
-variable-size cmp_br e = never e
-variable-size ret e = never e
+variable-size load_const e = absurd (cc)
+variable-size load_true e = absurd (cc)
+variable-size load_false e = absurd (cc)
+variable-size (arithmetic o) e = absurd (cc)
+variable-size (logic o) e = absurd (cc)
+variable-size neg e = absurd (cc)
+variable-size bool_not e = absurd (cc)
+variable-size (compare c) e = absurd (cc)
+variable-size jmp e = absurd (cc)
+variable-size jmp_if_not e = absurd (cc)
+variable-size cmp_br e = absurd (cc)
+variable-size ret e = absurd (cc)
 
 -- an operand is rewritten only of a variable's load or store, and to a variable
 pub rewritten : (n : ℕ) (r : Role) → allowed (rewrite_operand n) r ≡ true → (is_variable r ≡ true) × (n < max_variables)

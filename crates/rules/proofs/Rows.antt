@@ -36,7 +36,7 @@ numbered-at (r ∷ rs) k e n h = go (eqb (number r) k) refl e (λ f. numbered-at
         → (n : ℕ) → n < suc (length rs) → (number (get_or (r ∷ rs) n ret) ≡ k + n) × (get_elem? (r ∷ rs) n ≡ some (get_or (r ∷ rs) n ret))
     go true q f i zero h = (omega (arith, eqb-true (number r) k q), refl)
     go true q f i (suc n) h = let p = i f n (omega arith) in (omega (arith, p.0), p.1)
-    go false q f i n h = absurd (let z : ◌≡◌ {A = ℕ} 0 1 = cc in omega arith)
+    go false q f i n h = absurd (cc)
 
 all-numbered : numbered 0 roles ≡ true
 unfolding numbered roles number

@@ -245,6 +245,7 @@ fn read_rows(text: &[u8], table: &mut [u16]) -> Result<usize, Refused>
     }
     let mut at = 0;
     let mut count = 0;
+    // No `for`: each line says where the next one starts.
     while at < text.len() {
         let bad = Refused {
             refusal: Refusal::BadRule,
@@ -341,6 +342,7 @@ impl<'a> Matcher<'a> {
         ensures { result ≡ found_in self.now.rules.table.now self.now.rules.count self.now.pass a b }
     {
         let mut i = usize::from(self.head(a.role));
+        // No `for`: the index says which rule comes next.
         while i < self.rules.count {
             let start = i * ROW_SIZE;
             if fits(&self.rules.table[start..start + ROW_SIZE], self.pass, a, b) {

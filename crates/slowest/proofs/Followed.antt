@@ -5,7 +5,7 @@ use mathlib.Core.List.{List, [], ◌++◌, append_assoc, append-nil}
 use mathlib.Core.Bool.{Bool, true, false}
 use lib.ListN.{length, get_or, take, length-append}
 use native.Mathlib.Omega.{arith}
-use Rattle.definition.specs.Limits.{max_code, max_outcomes, output_short}
+use Rattle.definition.specs.Limits.{max_code, max_outcomes}
 use Rattle.definition.specs.Field.{has}
 use Rattle.definition.specs.Opcode.{Sheet}
 use Rattle.definition.specs.Lent.{zeros, filled}
@@ -15,16 +15,23 @@ use Rattle.definition.specs.Slowest as def
 use Rattle.store.specs.Store.{Store, at, contents, push_all}
 use Rattle.store.specs.Fill.{zeroed_from}
 use Rattle.store.proofs.Stores.{length-push_all, contents-room, used-room}
-use Rattle.store.proofs.Fills.{zero-all}
+use Rattle.store.proofs.Fills.{zero-all, zeroed-is}
 use Rattle.opcode.specs.Table.{sheet_in}
 use Rattle.field.proofs.Results.{never}
-use Rattle.image_check.specs.View.{Admitted, Admits}
+use Rattle.image_check.specs.View.{Admitted, Rejects}
 use Rattle.image_check.proofs.Starts.{start-holds}
 use Rattle.image_check.proofs.Checking.{checks-code}
 use Rattle.slowest.specs.Longest.{Best, longest}
-use Rattle.slowest.specs.View.{way_at, is_last_way, way_place, way_outcomes, way_bytes, Counted, Fronted, Following, Follows, Works, refuses, loops, measures, bit, answer_view, Fronts}
+use Rattle.slowest.specs.View.{way_at, is_last_way, way_place, way_next, way_outcomes, way_bytes, Counted, Fronted, Following, Follows, Works, refuses, loops, measures, used, answer_view, Fronts}
 use Rattle.slowest.specs.declared.Way.{Way}
+use Rattle.slowest.specs.declared.Way.TheVariants.{Back, Ends, Onwards, Falls, Jumps}
 use Rattle.slowest.specs.declared.Measured.{Measured}
+use Rattle.slowest.specs.declared.Measured.TheVariants as code_measured
+use Rattle.std.specs.Prelude.{Some, None, Result, Ok, Err}
+use Rattle.definition.specs.View.{refusal_number}
+use Rattle.definition.specs.declared.Refusal.{Refusal}
+use Rattle.definition.specs.declared.Refusal.TheVariants.{BadText, BadForm, BadRange, NoLoop, TooDeep, WrongLines, BadSheet, BadCode, BadRule, CodeFull, LabelsFull, LinesFull, ConstantsFull, OutputShort, FarBranch, Astray, BadHeight}
+use Rattle.definition.specs.declared.Refused.{Refused}
 use Rattle.slowest.proofs.Longest.{slowest}
 use Rattle.slowest.proofs.Few.{few}
 use Rattle.slowest.proofs.Bits.{length-bytes, append-bytes}
@@ -84,31 +91,58 @@ module _ (sheet code counts : List ℕ) (known : Counted sheet code counts) (sma
 
       -- an instruction stands there, and the run goes on behind it
       pub follow-less : {p' : ℕ} → p' ≡ way_place w p → length code - p' < length code - p
-      unfolding is_last_way
       follow-less {p' = p'} z = by (has (starts s code) p) refl
         where
           by : (b : Bool) → has (starts s code) p ≡ b → length code - p' < length code - p
           by true h = let a = (start-holds s code p h).0 in let l = leads-on p w (subst (λ x. Leads p x) (sym is) (leads-at s code counts p)) e in omega arith
           by false h = let y : true ≡ false = ap is_last_way (way-off s code counts p h ∙ sym is) ∙ e in never (cc)
 
+-- what `place_behind` tells
+pub next-none : (w : Way) → way_next w ≡ None → is_last_way w ≡ true
+next-none Back e = refl
+next-none (Ends n) e = refl
+next-none (Onwards q) e = never (cc)
+next-none (Falls q) e = never (cc)
+next-none (Jumps q) e = never (cc)
+
+pub next_some : (w : Way) (q p : ℕ) → way_next w ≡ Some q → (is_last_way w ≡ false) × (q ≡ way_place w p)
+next_some Back q p e = never (cc)
+next_some (Ends n) q p e = never (cc)
+next_some (Onwards x) q p e = (refl, cc)
+next_some (Falls x) q p e = (refl, cc)
+next_some (Jumps x) q p e = (refl, cc)
+
 -- ---- the answer
 
-module _ (sheet code : List ℕ) (depth : ℕ) (outcomes : List ℕ) where
-  abbrev W : Measured → Type 0
-  W r = Works sheet code depth outcomes r
+pub works-measured : (sheet code : List ℕ) (depth : ℕ) (outcomes : List ℕ) {n count : ℕ} (counts : List ℕ) → length code ≤ max_code → Answers (sheet_in sheet) code depth 0 → Counted sheet code counts → count ≡ get_or counts 0 0 → Follows sheet code outcomes n
+    → Works sheet code depth outcomes (Ok (code_measured.Run count n))
+works-measured sheet code depth outcomes counts small passed known c f =
+    let run = slowest (sheet_in sheet) code known.straight depth (passed.passes.0 refl) in
+    measures passed known.straight (subst (λ n. Slowest (sheet_in sheet) code n (longest (sheet_in sheet) code 0).outcomes) (sym (c ∙ known.exact 0 (omega arith))) run) (few (sheet_in sheet) code known.straight 0 small) f
 
-  pub works-refused : {number : ℕ} {r : Measured} → Answers (sheet_in sheet) code depth number → (number ≡ 0 → ⊥) → r ≡ record { number = number; place = 0; loops = false; instructions = 0; outcomes = 0 } → W r
-  works-refused a n e = subst W (sym e) (refuses a n)
+refused-number : (r : Refusal) → refusal_number r ≡ 0 → ⊥
+refused-number BadText e = absurd (omega arith)
+refused-number BadForm e = absurd (omega arith)
+refused-number BadRange e = absurd (omega arith)
+refused-number NoLoop e = absurd (omega arith)
+refused-number TooDeep e = absurd (omega arith)
+refused-number WrongLines e = absurd (omega arith)
+refused-number BadSheet e = absurd (omega arith)
+refused-number BadCode e = absurd (omega arith)
+refused-number BadRule e = absurd (omega arith)
+refused-number CodeFull e = absurd (omega arith)
+refused-number LabelsFull e = absurd (omega arith)
+refused-number LinesFull e = absurd (omega arith)
+refused-number ConstantsFull e = absurd (omega arith)
+refused-number OutputShort e = absurd (omega arith)
+refused-number FarBranch e = absurd (omega arith)
+refused-number Astray e = absurd (omega arith)
+refused-number BadHeight e = absurd (omega arith)
 
-  pub works-loops : {number : ℕ} → Answers (sheet_in sheet) code depth number → number ≡ 0 → Loops (sheet_in sheet) code → W (record { number = 0; place = 0; loops = true; instructions = 0; outcomes = 0 })
-  works-loops a z l = loops (subst (λ n. Answers (sheet_in sheet) code depth n) z a) l
-
-  pub works-measured : {number n count : ℕ} (counts : List ℕ) → length code ≤ max_code → Answers (sheet_in sheet) code depth number → number ≡ 0 → Counted sheet code counts → count ≡ get_or counts 0 0 → Follows sheet code outcomes n
-      → W (record { number = 0; place = 0; loops = false; instructions = count; outcomes = n })
-  works-measured counts small a z known c f =
-      let passed = subst (λ n. Answers (sheet_in sheet) code depth n) z a in
-      let run = slowest (sheet_in sheet) code known.straight depth (passed.passes.0 refl) in
-      measures passed known.straight (subst (λ n. Slowest (sheet_in sheet) code n (longest (sheet_in sheet) code 0).outcomes) (sym (c ∙ known.exact 0 (omega arith))) run) (few (sheet_in sheet) code known.straight 0 small) f
+-- a refusal behind the sheet has no place
+abbrev pub placed : Result Measured Refusal → Result Measured Refused
+placed (Ok m) = Ok m
+placed (Err r) = Err (record { refusal = r; place = 0 })
 
 module _ (sheet code : List ℕ) (depth : ℕ) (outcomes : List ℕ) where
   abbrev room : ℕ
@@ -121,29 +155,27 @@ module _ (sheet code : List ℕ) (depth : ℕ) (outcomes : List ℕ) where
   none-given : zeros room ≡ zeroed_from 0 outcomes
   none-given = sym (zero-all outcomes refl)
 
-  fronts-refused : (number place : ℕ) → M (refused room number place) → M (answer_view (record { number = number; place = place; loops = false; instructions = 0; outcomes = 0 }) (zeroed_from 0 outcomes))
-  unfolding refused answer_view bit
-  fronts-refused number place m = subst (λ out. M (record { number = number; place = place; loops = 0; instruction_count = 0; outcome_count = 0; outcomes = out })) none-given m
+  fronts-refused : (e : Refused) → M (refused room (refusal_number e.refusal) e.place) → Fronts sheet code depth outcomes (Err e)
+  unfolding refused
+  fronts-refused e m = subst (λ out. M (record { number = refusal_number e.refusal; place = e.place; loops = 0; instruction_count = 0; outcome_count = 0; outcomes = out })) none-given m
 
-  by_result : {r t : Measured} → r ≡ t → Fronts sheet code depth outcomes t → Fronts sheet code depth outcomes r
-  by_result e f = subst (λ x. Fronts sheet code depth outcomes x) (sym e) f
-
-  pub fronts-short : {r : Measured} → room < max_outcomes → r ≡ record { number = output_short; place = 0; loops = false; instructions = 0; outcomes = 0 } → Fronts sheet code depth outcomes r
-  fronts-short l e = by_result e (fronts-refused output_short 0 (def.refuses_room l))
+  pub fronts-short : room < max_outcomes → Fronts sheet code depth outcomes (Err (record { refusal = OutputShort; place = 0 }))
+  fronts-short l = fronts-refused (record { refusal = OutputShort; place = 0 }) (def.refuses_room l)
 
   module _ (enough : max_outcomes ≤ room) where
-    pub fronts-unfit : {table : List ℕ} {number place : ℕ} {r : Measured} → Admits sheet code table number place → (number ≡ 0 → ⊥) → r ≡ record { number = number; place = place; loops = false; instructions = 0; outcomes = 0 } → Fronts sheet code depth outcomes r
-    fronts-unfit {number = number} {place = place} a n e = by_result e (fronts-refused number place (def.refuses enough (a.refuses n depth) n))
+    pub fronts-unfit : (e : Refused) → Rejects sheet code e → Fronts sheet code depth outcomes (Err e)
+    fronts-unfit e a = fronts-refused e (def.refuses enough (a depth) (refused-number e.refusal))
 
-    pub fronts-worked : {table : List ℕ} {place : ℕ} {r : Measured} → Admitted sheet code table place → Works table code depth outcomes r → Fronts sheet code depth outcomes r
-    unfolding looping measured filled answer_view bit zeroed_from
-    fronts-worked a (refuses {n = n} x z) = fronts-refused n 0 (def.refuses enough (checks-code a x) z)
+    pub fronts-worked : {table : List ℕ} {r : Result Measured Refusal} → Admitted sheet code table → Works table code depth outcomes r → Fronts sheet code depth outcomes (placed r)
+    unfolding looping measured filled
+    fronts-worked a (refuses {r = r} x) = fronts-refused (record { refusal = r; place = 0 }) (def.refuses enough (checks-code a x) (refused-number r))
     fronts-worked a (loops x l) = subst (λ out. M (record { number = 0; place = 0; loops = 1; instruction_count = 0; outcome_count = 0; outcomes = out })) none-given (def.loops enough a.read (checks-code a x) l)
     fronts-worked a (measures {count = count} {n = n} {os = os} x straight run least f) =
         let e = ap (λ k. outcome_bytes os ++ zeros (room - k)) (length-bytes os ∙ sym f.many) ∙ ap (λ xs. xs ++ zeros (room - n)) (sym f.front) in
-        subst (λ k. M (record { number = 0; place = 0; loops = 0; instruction_count = count; outcome_count = k; outcomes = take n outcomes ++ zeros (room - n) })) (sym f.many)
-        (subst (λ out. M (record { number = 0; place = 0; loops = 0; instruction_count = count; outcome_count = length os; outcomes = out })) e (def.measures enough a.read (checks-code a x) straight run least))
+        subst (λ out. M (record { number = 0; place = 0; loops = 0; instruction_count = count; outcome_count = n; outcomes = out })) (sym (zeroed-is n outcomes))
+        (subst (λ k. M (record { number = 0; place = 0; loops = 0; instruction_count = count; outcome_count = k; outcomes = take n outcomes ++ zeros (room - n) })) (sym f.many)
+        (subst (λ out. M (record { number = 0; place = 0; loops = 0; instruction_count = count; outcome_count = length os; outcomes = out })) e (def.measures enough a.read (checks-code a x) straight run least)))
 
 -- what is zeroed behind the outcomes is all of it
-pub measures-zeroed : (sheet code : List ℕ) (depth : ℕ) (outcomes : List ℕ) (r : Measured) {out : List ℕ} {room : ℕ} → Fronts sheet code depth outcomes r → out ≡ zeroed_from r.outcomes outcomes → length outcomes ≡ room → Measures room sheet code depth (answer_view r out)
+pub measures-zeroed : (sheet code : List ℕ) (depth : ℕ) (outcomes : List ℕ) (r : Result Measured Refused) {out : List ℕ} {room : ℕ} → Fronts sheet code depth outcomes r → out ≡ zeroed_from (used r) outcomes → length outcomes ≡ room → Measures room sheet code depth (answer_view r out)
 measures-zeroed sheet code depth outcomes r {out = out} f e k = subst (λ n. Measures n sheet code depth (answer_view r out)) k (subst (λ out. Measures (length outcomes) sheet code depth (answer_view r out)) (sym e) f)

@@ -1,10 +1,12 @@
 -- What each function reads off tables and ways.
-use Prim.Native.Nat.{ℕ, ◌+◌, suc, ◌≤◌, ◌<◌}
+use Prim.Native.Nat.{ℕ, ◌+◌, ◌≤◌, ◌<◌}
 use mathlib.Core.Path.{◌≡◌, refl, sym, ◌∙◌, ap}
-use mathlib.Core.List.{List, [], ◌∷◌}
+use mathlib.Core.List.{List}
 use mathlib.Core.Bool.{Bool, true, false, not}
 use mathlib.Core.Option.{some}
 use lib.Dec.{eqb}
+use Rattle.std.specs.Prelude as std
+use Rattle.std.specs.Prelude.{Some, None, unwrap_or}
 use lib.ListN.{length, get_or}
 use borrow.Author.Tests.{eq-eqb, ne_eqb, le-leb, lt-leb, lt-ltb, le-ltb}
 use native.Mathlib.Omega.{arith}
@@ -14,16 +16,15 @@ use Rattle.definition.specs.Opcode as def
 use Rattle.definition.specs.Runs.{target}
 use Rattle.definition.specs.Claims.{branches}
 use Rattle.definition.specs.Check.{starts}
-use Rattle.definition.specs.Slowest.{outcome_bytes}
-use Rattle.store.specs.Store.{Store, push, push_all}
 use Rattle.opcode.specs.View.{flow_view}
 use Rattle.opcode.specs.Table.{sheet_in}
 use Rattle.opcode.specs.declared.Flow.{Flow}
 use Rattle.opcode.specs.declared.Flow.TheVariants.{Onward, Away, Either, Stop}
 use Rattle.opcode.specs.declared.Traits.{Traits}
 use Rattle.runs.proofs.Roles.{branch-size}
-use Rattle.image_check.specs.View.{place_or, flagged, Image, TraitsAt}
-use Rattle.slowest.specs.View.{count_in, ahead, longer, way_by, way_role, way_at, is_last_way, way_place, last_count, way_count, way_outcomes, way_bytes}
+use Rattle.field.specs.View.{option_of}
+use Rattle.image_check.specs.View.{Image, TraitsAt}
+use Rattle.slowest.specs.View.{place_or, count_in, ahead, longer, way_by, way_role, way_at}
 use Rattle.slowest.specs.declared.Way.{Way}
 use Rattle.slowest.specs.declared.Way.TheVariants.{Back, Ends, Onwards, Falls, Jumps}
 
@@ -34,24 +35,12 @@ module _ (counts : List ℕ) (end q : ℕ) where
   count_by b = elim b [ true ↦ 0 | false ↦ get_or counts q 0 ]
 
   pub count_past : end < q → 0 ≡ count_in counts end q
-  unfolding count_in count_by
+  unfolding count_by
   count_past l = sym (ap count_by (lt-ltb end q l))
 
   pub count-within : q ≤ end → get_or counts q 0 ≡ count_in counts end q
-  unfolding count_in count_by
+  unfolding count_by
   count-within l = sym (ap count_by (le-ltb end q l))
-
-module _ (f : ℕ → ℕ) (w : Way) where
-  way_count_by : Bool → ℕ
-  way_count_by b = elim b [ true ↦ last_count w | false ↦ suc (f (way_place w 0)) ]
-
-  pub count-last : is_last_way w ≡ true → last_count w ≡ way_count f w
-  unfolding way_count way_count_by
-  count-last e = sym (ap way_count_by e)
-
-  pub count-on : is_last_way w ≡ false → suc (f (way_place w 0)) ≡ way_count f w
-  unfolding way_count way_count_by
-  count-on e = sym (ap way_count_by e)
 
 -- ---- ways
 
@@ -64,7 +53,15 @@ module _ (code : List ℕ) (p next : ℕ) (f : ℕ → ℕ) (fl : Flow) where
   unfolding way_by
   stop_is e = sym (ap (λ x. way_by (flow_view x) code p next f) e)
 
-  module _ (q : ℕ) (k : q ≡ place_or 0 (target code next)) where
+  module _ (q : ℕ) (o : std.Option ℕ) (is : option_of o ≡ target code next) (or : q ≡ unwrap_or o 0) where
+    k : q ≡ place_or 0 (target code next)
+    unfolding place_or
+    k = or ∙ (by o ∙ ap (λ x. place_or 0 x) is)
+      where
+        by : (o : std.Option ℕ) → unwrap_or o 0 ≡ place_or 0 (option_of o)
+        by None = refl
+        by (Some x) = refl
+
     back : (w : Way) → q ≤ p → ahead p q w ≡ Back
     unfolding ahead
     back w l = ap (λ b. elim b as (λ c. Way) [ true ↦ Back | false ↦ w ]) (le-leb q p l)
@@ -102,11 +99,9 @@ module _ (code : List ℕ) (p next : ℕ) (f : ℕ → ℕ) (fl : Flow) where
 
 module _ (sheet code flags : List ℕ) (image : Image sheet code flags) (p : ℕ) (lt : p < length code) where
   pub no_start : get_or flags p 0 ≡ 0 → has (starts (sheet_in sheet) code) p ≡ false
-  unfolding flagged
   no_start e = sym (image.known p lt) ∙ (ap (λ x. not (eqb x 0)) e ∙ ap not (eq-eqb 0 0 refl))
 
   pub a-start : (get_or flags p 0 ≡ 0 → ⊥) → has (starts (sheet_in sheet) code) p ≡ true
-  unfolding flagged
   a-start n = sym (image.known p lt) ∙ ap not (ne_eqb (get_or flags p 0) 0 n)
 
 module _ (s : Sheet) (code counts : List ℕ) (p : ℕ) where
@@ -134,13 +129,3 @@ module _ (sheet code : List ℕ) (p : ℕ) (tr : Traits) (is : TraitsAt sheet co
       let l = branch-size is.role (ap branches (sym is.are.flow) ∙ b) in
       let z : tr.size ≡ size is.role = is.are.size in
       omega arith
-
--- ---- what is noted
-
-pub note-none : (s : Store) {way w : Way} → way ≡ w → way_outcomes w ≡ [] → s ≡ push_all s (way_bytes way)
-unfolding push_all outcome_bytes
-note-none s {way = way} e k = sym (ap (λ os. push_all s (outcome_bytes os)) (ap way_outcomes e ∙ k))
-
-pub note-one : (s : Store) {way w : Way} {x : ℕ} → way ≡ w → way_bytes w ≡ x ∷ [] → push s x ≡ push_all s (way_bytes way)
-unfolding push_all
-note-one s e k = sym (ap (λ xs. push_all s xs) (ap way_bytes e ∙ k))

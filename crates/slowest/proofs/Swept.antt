@@ -19,7 +19,7 @@ use Rattle.rewrite.proofs.Decoding.{size-positive}
 use Rattle.field.proofs.Results.{never}
 use Rattle.image_check.proofs.Starts.{start-holds}
 use Rattle.slowest.specs.Longest.{Best, nothing, longest}
-use Rattle.slowest.specs.View.{count_in, way_by, way_at, is_back_way, is_last_way, way_place, last_count, way_count, Sweeping, Sweeps}
+use Rattle.slowest.specs.View.{count_in, way_by, way_at, is_back_way, way_count, Sweeping, Sweeps}
 use Rattle.slowest.specs.declared.Way.{Way}
 use Rattle.slowest.specs.declared.Way.TheVariants.{Back, Ends, Onwards, Falls, Jumps}
 use Rattle.slowest.proofs.Longest.{longest-off, longest-past, longest-role}
@@ -28,7 +28,7 @@ use Rattle.slowest.proofs.Reading.{count_past, count-within, way-off, way-role}
 
 -- only the counts ahead matter
 count_same : (f g : ℕ → ℕ) (p : ℕ) (w : Way) → Leads p w → ((x : ℕ) → p < x → f x ≡ g x) → way_count f w ≡ way_count g w
-unfolding Leads way_count is_last_way way_place
+unfolding Leads
 count_same f g p Back l e = refl
 count_same f g p (Ends n) l e = refl
 count_same f g p (Onwards q) l e = ap suc (e q l)
@@ -37,7 +37,7 @@ count_same f g p (Jumps q) l e = ap suc (e q l)
 
 -- a run ahead has no more instructions than there are bytes
 count_most : (f : ℕ → ℕ) (p end : ℕ) (w : Way) → Leads p w → p < end → ((x : ℕ) → p < x → f x + p < end) → way_count f w + p ≤ end
-unfolding Leads way_count is_last_way last_count way_place
+unfolding Leads
 count_most f p end Back l lt e = omega arith
 count_most f p end (Ends n) l lt e = omega arith
 count_most f p end (Onwards q) l lt e = let k = e q l in omega arith
@@ -60,7 +60,7 @@ module _ (s : Sheet) (code counts : List ℕ) (p : ℕ) where
 
   -- a branch back is one of the definition's
   back_at : is_back_way (way_at s code counts p) ≡ (has (starts s code) p && is_back s code p)
-  unfolding is_back_way is_back back_by
+  unfolding is_back back_by
   back_at = at_place (λ w. is_back_way w ≡ (has (starts s code) p && is_back s code p)) (λ h. sym (ap (λ b. b && is_back s code p) h))
       (λ r h e. is-back code p (p + size r) (let z = size-positive r in omega arith) (flow r) (count_in counts (length code)) ∙ sym (ap (λ b. b && is_back s code p) h ∙ ap (λ x. back_by x code p) e))
 
@@ -82,6 +82,13 @@ module _ (s : Sheet) (code counts : List ℕ) (p : ℕ) where
     pub count_at : way_count (count_in counts (length code)) (way_at s code counts p) ≡ (longest s code p).count
     count_at = count_same (count_in counts (length code)) (λ x. (longest s code x).count) p (way_at s code counts p) leads-at right
         ∙ sym (ap (λ (b : Best). b.count) longest-at ∙ counts-way (longest s code) (way_at s code counts p))
+
+pub not-back : (w : Way) → (w ≡ Back → ⊥) → is_back_way w ≡ false
+not-back Back n = absurd (n refl)
+not-back (Ends n) e = refl
+not-back (Onwards q) e = refl
+not-back (Falls q) e = refl
+not-back (Jumps q) e = refl
 
 module _ (sheet code : List ℕ) where
   abbrev s : Sheet

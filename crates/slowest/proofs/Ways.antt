@@ -11,10 +11,9 @@ use Rattle.definition.specs.Opcode.{Flow, onward, away, either, stop}
 use Rattle.definition.specs.Runs.{target}
 use Rattle.definition.specs.Claims.{branches}
 use Rattle.definition.specs.Slowest.{leads_back}
-use Rattle.image_check.specs.View.{place_or}
 use Rattle.field.proofs.Results.{never}
 use Rattle.slowest.specs.Longest.{Best, nothing, onwards, choose, best_to, best_flow}
-use Rattle.slowest.specs.View.{ahead, longer, way_by, is_back_way, is_last_way, way_place, last_count, way_count, way_outcomes}
+use Rattle.slowest.specs.View.{place_or, ahead, longer, way_by, is_back_way, is_last_way, way_place, way_count, way_outcomes}
 use Rattle.slowest.specs.declared.Way.{Way}
 use Rattle.slowest.specs.declared.Way.TheVariants.{Back, Ends, Onwards, Falls, Jumps}
 
@@ -27,7 +26,7 @@ best_way f (Falls q) = choose true (f q) nothing
 best_way f (Jumps q) = choose false nothing (f q)
 
 pub counts-way : (f : ℕ → Best) (w : Way) → (best_way f w).count ≡ way_count (λ q. (f q).count) w
-unfolding best_way way_count is_last_way last_count way_place nothing onwards choose
+unfolding best_way nothing onwards choose
 counts-way f Back = refl
 counts-way f (Ends n) = refl
 counts-way f (Onwards q) = refl
@@ -35,7 +34,7 @@ counts-way f (Falls q) = refl
 counts-way f (Jumps q) = refl
 
 pub ends-way : (f : ℕ → Best) (w : Way) → is_last_way w ≡ true → (best_way f w).outcomes ≡ []
-unfolding best_way is_last_way nothing
+unfolding best_way nothing
 ends-way f Back e = refl
 ends-way f (Ends n) e = refl
 ends-way f (Onwards q) e = never (cc)
@@ -43,7 +42,7 @@ ends-way f (Falls q) e = never (cc)
 ends-way f (Jumps q) e = never (cc)
 
 pub goes-way : (f : ℕ → Best) (p : ℕ) (w : Way) → is_last_way w ≡ false → (best_way f w).outcomes ≡ way_outcomes w ++ (f (way_place w p)).outcomes
-unfolding best_way is_last_way way_outcomes way_place onwards choose
+unfolding best_way onwards choose
 goes-way f p Back e = never (cc)
 goes-way f p (Ends n) e = never (cc)
 goes-way f p (Onwards q) e = refl
@@ -59,7 +58,7 @@ Leads p (Falls q) = p < q
 Leads p (Jumps q) = p < q
 
 pub leads-on : (p : ℕ) (w : Way) → Leads p w → is_last_way w ≡ false → p < way_place w p
-unfolding Leads is_last_way way_place
+unfolding Leads
 leads-on p Back l e = never (cc)
 leads-on p (Ends n) l e = never (cc)
 leads-on p (Onwards q) l e = l
@@ -104,7 +103,7 @@ module _ (code : List ℕ) (p next : ℕ) (far : p < next) where
   back-place (some y) = refl
 
   pub is-back : (fl : Flow) (f : ℕ → ℕ) → is_back_way (way_by fl code p next f) ≡ (branches fl && leads_back p t)
-  unfolding way_by ahead longer is_back_way branches ahead_by longer_by
+  unfolding way_by ahead longer branches ahead_by longer_by
   is-back onward f = refl
   is-back away f = by (leb q p) ∙ back-place t
     where

@@ -1,7 +1,12 @@
 -- The table of counts as code holds it, and how the longest run goes on by it.
 use Rattle.std.specs.Prelude.{ℕ, ◌+◌, suc, ◌≤◌, ◌<◌, ◌≡◌, List, [], ◌∷◌, ◌++◌, Bool, true, false, ltb, leb, length, get_or, take}
+use Rattle.std.specs.Prelude as std
+use Rattle.std.specs.Prelude.{Some, None, Result, Ok, Err}
 use Rattle.std.proofs.Math.Option.{Option, some, none}
 use Rattle.definition.specs.Limits.{max_outcomes}
+use Rattle.definition.specs.View.{refusal_number}
+use Rattle.definition.specs.declared.Refusal.{Refusal}
+use Rattle.definition.specs.declared.Refused.{Refused}
 use Rattle.definition.specs.Field.{has}
 use Rattle.definition.specs.Opcode.{Role, Sheet, role_of, size, Flow, onward, away, either, stop, flow}
 use Rattle.definition.specs.Runs.{target}
@@ -9,16 +14,16 @@ use Rattle.definition.specs.Check.{starts, Answers}
 use Rattle.definition.specs.Slowest.{is_back, Loops, Slowest, outcome_bytes, Answer, Measures}
 use Rattle.store.specs.Fill.{zeroed_from}
 use Rattle.opcode.specs.Table.{sheet_in}
-use Rattle.image_check.specs.View.{place_or}
 use Rattle.slowest.specs.Longest.{longest}
 use Rattle.slowest.specs.declared.Way.{Way}
 use Rattle.slowest.specs.declared.Way.TheVariants.{Back, Ends, Onwards, Falls, Jumps}
 use Rattle.slowest.specs.declared.Measured.{Measured}
+use Rattle.slowest.specs.declared.Measured.TheVariants as measured
 
 -- ---- how a run goes on
 
 -- by a table for the places up to the end; none is run past it
-unfoldable pub count_in : List ℕ → ℕ → ℕ → ℕ
+abbrev pub count_in : List ℕ → ℕ → ℕ → ℕ
 count_in counts end q = elim (ltb end q) [ true ↦ 0 | false ↦ get_or counts q 0 ]
 
 -- to a target q from p, if it leads forward
@@ -27,6 +32,10 @@ ahead p q way = elim (leb q p) [ true ↦ Back | false ↦ way ]
 
 unfoldable pub longer : (ℕ → ℕ) → ℕ → ℕ → Way
 longer f next q = elim (leb (f q) (f next)) [ true ↦ Falls next | false ↦ Jumps q ]
+
+unfoldable pub place_or : ℕ → Option ℕ → ℕ
+place_or other none = other
+place_or other (some q) = q
 
 -- a target below 0 leads back as place 0 does
 unfoldable pub way_by : Flow → List ℕ → ℕ → ℕ → (ℕ → ℕ) → Way
@@ -44,28 +53,36 @@ way_at s code counts p = elim (has (starts s code) p) [ true ↦ way_role (role_
 
 -- ---- what is read off a way
 
-unfoldable pub is_back_way : Way → Bool
+abbrev pub is_back_way : Way → Bool
 is_back_way Back = true
 is_back_way (Ends n) = false
 is_back_way (Onwards q) = false
 is_back_way (Falls q) = false
 is_back_way (Jumps q) = false
 
-unfoldable pub is_last_way : Way → Bool
+abbrev pub is_last_way : Way → Bool
 is_last_way Back = true
 is_last_way (Ends n) = true
 is_last_way (Onwards q) = false
 is_last_way (Falls q) = false
 is_last_way (Jumps q) = false
 
-unfoldable pub way_place : Way → ℕ → ℕ
+abbrev pub way_place : Way → ℕ → ℕ
 way_place Back p = p
 way_place (Ends n) p = p
 way_place (Onwards q) p = q
 way_place (Falls q) p = q
 way_place (Jumps q) p = q
 
-unfoldable pub last_count : Way → ℕ
+-- where it goes on, if it does
+abbrev pub way_next : Way → std.Option ℕ
+way_next Back = None
+way_next (Ends n) = None
+way_next (Onwards q) = Some q
+way_next (Falls q) = Some q
+way_next (Jumps q) = Some q
+
+abbrev pub last_count : Way → ℕ
 last_count Back = 0
 last_count (Ends n) = n
 last_count (Onwards q) = 0
@@ -73,10 +90,10 @@ last_count (Falls q) = 0
 last_count (Jumps q) = 0
 
 -- instructions of the longest run that goes on so
-unfoldable pub way_count : (ℕ → ℕ) → Way → ℕ
+abbrev pub way_count : (ℕ → ℕ) → Way → ℕ
 way_count f w = elim (is_last_way w) [ true ↦ last_count w | false ↦ suc (f (way_place w 0)) ]
 
-unfoldable pub way_outcomes : Way → List Bool
+abbrev pub way_outcomes : Way → List Bool
 way_outcomes Back = []
 way_outcomes (Ends n) = []
 way_outcomes (Onwards q) = []
@@ -126,20 +143,24 @@ Follows sheet code outcomes n = Fronted outcomes n (longest (sheet_in sheet) cod
 -- ---- the answer
 
 -- what is worked out for code with a sheet's table, and the front of the output
-pub data Works (sheet code : List ℕ) (depth : ℕ) (outcomes : List ℕ) : Measured → Type 0 where
-  refuses : {n : ℕ} → Answers (sheet_in sheet) code depth n → (n ≡ 0 → ⊥) → Works sheet code depth outcomes (record { number = n; place = 0; loops = false; instructions = 0; outcomes = 0 })
-  loops : Answers (sheet_in sheet) code depth 0 → Loops (sheet_in sheet) code → Works sheet code depth outcomes (record { number = 0; place = 0; loops = true; instructions = 0; outcomes = 0 })
+pub data Works (sheet code : List ℕ) (depth : ℕ) (outcomes : List ℕ) : Result Measured Refusal → Type 0 where
+  refuses : {r : Refusal} → Answers (sheet_in sheet) code depth (refusal_number r) → Works sheet code depth outcomes (Err r)
+  loops : Answers (sheet_in sheet) code depth 0 → Loops (sheet_in sheet) code → Works sheet code depth outcomes (Ok measured.Loops)
   measures : {count n : ℕ} {os : List Bool} → Answers (sheet_in sheet) code depth 0 → (Loops (sheet_in sheet) code → ⊥) → Slowest (sheet_in sheet) code count os → length os ≤ max_outcomes → Fronted outcomes n os
-      → Works sheet code depth outcomes (record { number = 0; place = 0; loops = false; instructions = count; outcomes = n })
+      → Works sheet code depth outcomes (Ok (measured.Run count n))
 
-unfoldable pub bit : Bool → ℕ
-bit true = 1
-bit false = 0
+-- the outcomes that are given
+abbrev pub used : Result Measured Refused → ℕ
+used (Err e) = 0
+used (Ok measured.Loops) = 0
+used (Ok (measured.Run count n)) = n
 
 -- the answer, with all that the output holds
-unfoldable pub answer_view : Measured → List ℕ → Answer
-answer_view r outcomes = record { number = r.number; place = r.place; loops = bit r.loops; instruction_count = r.instructions; outcome_count = r.outcomes; outcomes = outcomes }
+abbrev pub answer_view : Result Measured Refused → List ℕ → Answer
+answer_view (Err e) outcomes = record { number = refusal_number e.refusal; place = e.place; loops = 0; instruction_count = 0; outcome_count = 0; outcomes = outcomes }
+answer_view (Ok measured.Loops) outcomes = record { number = 0; place = 0; loops = 1; instruction_count = 0; outcome_count = 0; outcomes = outcomes }
+answer_view (Ok (measured.Run count n)) outcomes = record { number = 0; place = 0; loops = 0; instruction_count = count; outcome_count = n; outcomes = outcomes }
 
 -- it is the answer once the output is zeroed behind the outcomes
-abbrev pub Fronts : List ℕ → List ℕ → ℕ → List ℕ → Measured → Type 0
-Fronts sheet code depth outcomes r = Measures (length outcomes) sheet code depth (answer_view r (zeroed_from r.outcomes outcomes))
+abbrev pub Fronts : List ℕ → List ℕ → ℕ → List ℕ → Result Measured Refused → Type 0
+Fronts sheet code depth outcomes r = Measures (length outcomes) sheet code depth (answer_view r (zeroed_from (used r) outcomes))

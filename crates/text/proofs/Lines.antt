@@ -1,12 +1,13 @@
 -- Fields and lines put into a store.
-use mathlib.Core.Path.{◌≡◌, ap, sym, ◌∙◌}
-use mathlib.Core.List.{List, [], ◌∷◌, ◌++◌, append_assoc}
-use Prim.Native.Nat.{ℕ, suc, ◌+◌, ◌-◌, ◌≤◌, ◌<◌}
+use mathlib.Core.Path.{◌≡◌, refl, ap, sym, ◌∙◌}
+use mathlib.Core.List.{List, [], ◌∷◌, ◌++◌, map, append_assoc}
+use Prim.Native.Nat.{ℕ, suc, ◌+◌, ◌≤◌, ◌<◌}
 use Prim.Native.Char.{code}
 use native.Mathlib.Numerals.{add-one}
 use native.Mathlib.Omega.{arith}
-use lib.ListN.{length, take, drop, get_or, length-drop, drop_of_length-le}
-use lib.Seq.{drop-cons}
+use lib.ListN.{length, drop, get_or, drop_of_length-le}
+use lib.Seq.{drop-cons, take_all}
+use Rattle.std.proofs.lemmas.List.{get_or-map}
 use Rattle.definition.specs.Field.{lf, comma}
 use Rattle.definition.specs.Iec.{signed_of}
 use Rattle.definition.specs.Opcode.{Sheet}
@@ -16,17 +17,18 @@ use Rattle.definition.specs.Rewrite.{Bytes, decode}
 use Rattle.definition.specs.Listing.{decimal, signed_decimal, fields, number_line, constant_lines, entry_lines, instruction_lines}
 use Rattle.definition.specs.Passes.{malformed_line, offset_lines, refusal_line}
 use Rattle.definition.specs.Sheet.{read_sheet}
-use Rattle.opcode.specs.declared.sheet.SheetRead.{SheetRead}
-use Rattle.opcode.specs.declared.sheet.SheetRead.TheVariants.{Accepted, Refused}
-use Rattle.opcode.specs.Table.{sheet_in, IsTable}
-use Rattle.opcode.specs.Reading.{answer_of, Reads, Accepts, Refuses}
-use Rattle.line_map.proofs.Entries.{in-front, entries_at, entries_none}
+use Rattle.std.specs.Prelude.{Result, Ok, Err}
+use Rattle.definition.specs.declared.Refused.{Refused}
+use Rattle.definition.specs.View.{res_of}
+use Rattle.opcode.specs.Table.{sheet_in}
+use Rattle.opcode.specs.Reading.{Reads, Accepts}
+use Rattle.line_map.proofs.Entries.{in-front, entries-chunk, entries-few}
 use Rattle.rewrite.specs.View.{first_of}
 use Rattle.rewrite.proofs.Decoding.{first-is, first-none, first-within}
 use Rattle.store.specs.Store.{Store, at, push, push_all}
-use Rattle.store.proofs.Stores.{length_push}
+use Rattle.store.proofs.Stores.{push_all-append}
 use Rattle.text.specs.Text.{field_of, constant_line, instruction_line, instructions_by}
-use Rattle.text.proofs.Puts.{Putting, put_first, put_then, put_one, put-goes-on, put-ends, put-ends-none, put-long}
+use Rattle.text.proofs.Puts.{Putting, put_first, put_then, put_one, put-goes-on, put-ends, put-ends-none}
 
 -- ---- one line
 
@@ -59,8 +61,13 @@ fields-on l s {i = i} {n = n} p e f h = put-goes-on (fields_from l) (length l) s
 pub fields-end : (l : List ℕ) (s : Store) {t u : Store} {i : ℕ} → Putting (fields_from l) (length l) s t i → u ≡ push t lf → length l ≤ i → u ≡ push_all s (fields l)
 fields-end l s {t} p f h = put-ends (fields_from l) (length l) s p (rw (drop_of_length-le l h) (put-end t f))
 
-pub fields-long : (l : List ℕ) (s : Store) {t u : Store} {i : ℕ} → Putting (fields_from l) (length l) s t i → u ≡ push t lf → length u.cells ≡ length s.cells
-fields-long l s {t} p f = ap (λ (v : Store). length v.cells) f ∙ length_push t lf ∙ put-long (fields_from l) (length l) s p
+-- of numbers of any type
+pub value-at : {A : Type 0} (f : A → ℕ) (l : List A) (i : ℕ) (x : A) → i < length l → x ≡ get_or l i x → f x ≡ get_or (map f l) i 0
+value-at f l i x h e = ap f e ∙ sym (get_or-map f l i x 0 h)
+
+pub numbers-are : (l : List ℕ) → map (λ (n : ℕ). n) l ≡ l
+numbers-are [] = refl
+numbers-are (n ∷ l) = ap (λ (m : List ℕ). n ∷ m) (numbers-are l)
 
 -- ---- a line for each offset
 
@@ -102,56 +109,43 @@ constants-end l s p h = put-ends-none (constants_from l) (length l) s p (rw (dro
 
 -- ---- a line for each entry
 
-abbrev pub entries_from : List ℕ → ℕ → List ℕ
-entries_from l i = entry_lines (entries_of (drop i l))
+module _ (left x rest : List ℕ) (cut : left ≡ x ++ rest) (h : length x ≡ entry_size) where
+  pub entries-on : (t : Store) {v u : Store} → v ≡ push t (code "l") → u ≡ push_all v (fields (map (λ (n : ℕ). n) x))
+      → push_all t (entry_lines (entries_of left)) ≡ push_all u (entry_lines (entries_of rest))
+  unfolding entry_lines
+  entries-on t m f =
+      let one : one_entry (entry_in x) ≡ x = in-front x (omega arith) ∙ take_all entry_size x (omega arith) in
+      let line : push_all t (code "l" ∷ fields x) ≡ _ = sym (put_first t (code "l") (fields x) m (rw numbers-are at f)) in
+      rw (cut, entries-chunk x rest h, one) (push_all-append t (code "l" ∷ fields x) (entry_lines (entries_of rest)) ∙ ap (λ (w : Store). push_all w (entry_lines (entries_of rest))) line)
 
-pub entries-on : (l : List ℕ) (s : Store) {t v u : Store} {i : ℕ} → Putting (entries_from l) (length l) s t i → entry_size ≤ length l - i
-    → v ≡ push t (code "l") → u ≡ push_all v (fields (take (i + entry_size - i) (drop i l))) → Putting (entries_from l) (length l) s u (i + entry_size)
-unfolding entry_lines
-entries-on l s {t} {i = i} p h m f =
-    let part = take (i + entry_size - i) (drop i l) in
-    let size : i + entry_size - i ≡ entry_size = omega arith in
-    let one : one_entry (entry_in (drop i l)) ≡ part = rw size (in-front (drop i l) (rw (length-drop i l) h)) in
-    put-goes-on (entries_from l) (length l) s (code "l" ∷ fields part) p (put_first t (code "l") (fields part) m f) (rw (entries_at l i (omega (arith, p.within)), one)) (omega (arith, p.within))
-
-pub entries-end : (l : List ℕ) (s : Store) {t : Store} {i : ℕ} → Putting (entries_from l) (length l) s t i → length l - i < entry_size → t ≡ push_all s (entry_lines (entries_of l))
-unfolding entry_lines
-entries-end l s {i = i} p h = put-ends-none (entries_from l) (length l) s p (rw (entries_none l i (omega (arith, p.within))))
+pub entries-end : (s : Store) {t : Store} (left all : List ℕ) → push_all s all ≡ push_all t (entry_lines (entries_of left)) → length left < entry_size → t ≡ push_all s all
+unfolding entry_lines push_all
+entries-end s {t} left all e h = sym (rw (entries-few left h) at e)
 
 -- ---- a line for each instruction
 
-pub put-instruction : (s : Store) {t v u : Store} (at : ℕ) (i : Bytes) → t ≡ push s (code "b") → v ≡ push_all t (field_of at) → u ≡ push_all v (fields i) → u ≡ push_all s (instruction_line at i)
-put-instruction s {t} at i e f g = put_first s (code "b") (fields (at ∷ i)) e (put-fields t at i f g)
+pub put-instruction : (s : Store) {t v u : Store} (at : ℕ) (i : Bytes) → t ≡ push s (code "b") → v ≡ push_all t (field_of at) → u ≡ push_all v (fields (map (λ (n : ℕ). n) i)) → u ≡ push_all s (instruction_line at i)
+put-instruction s {t} at i e f g = put_first s (code "b") (fields (at ∷ i)) e (put-fields t at i f (rw numbers-are at g))
 
 abbrev pub decoded_from : Sheet → List ℕ → ℕ → List ℕ
 decoded_from s l i = instruction_lines i (decode s (drop i l))
 
 module _ (s : Sheet) (l : List ℕ) (w : Store) {t : Store} {i : ℕ} (p : Putting (decoded_from s l) (length l) w t i) (a : Bytes) (here : a ≡ first_of (decode s (drop i l))) where
-  pub decoded-within : (length a ≡ 0 → ⊥) → i + length a ≤ length l
-  decoded-within full = first-within s l i a here (omega arith)
-
-  pub decoded-on : {u : Store} {n : ℕ} → n ≡ i → u ≡ push_all t (instruction_line n a) → (length a ≡ 0 → ⊥) → Putting (decoded_from s l) (length l) w u (i + length a)
+  pub decoded-on : {u : Store} → u ≡ push_all t (instruction_line i a) → 1 ≤ length a → Putting (decoded_from s l) (length l) w u (i + length a)
   unfolding instruction_lines
-  decoded-on {n = n} e f full =
-      put-goes-on (decoded_from s l) (length l) w (instruction_line n a) p f (rw (first-is s l i a here (omega arith), e)) (decoded-within full)
+  decoded-on f full =
+      put-goes-on (decoded_from s l) (length l) w (instruction_line i a) p f (rw (first-is s l i a here full)) (first-within s l i a here full)
 
   pub decoded-end : length a ≡ 0 → t ≡ push_all w (instruction_lines 0 (decode s l))
   unfolding instruction_lines
   decoded-end z = put-ends-none (decoded_from s l) (length l) w p (rw (first-none s l i a here z))
 
 -- by a sheet's text
-module _ (text table : List ℕ) (f : SheetRead) (h : Reads text table (answer_of f)) where
-  pub sheet-ready : f ≡ Accepted → IsTable table
-  sheet-ready e = let d : Accepts text table = rw e at h in d.ready
+pub put-by-sheet : {text table : List ℕ} (s : Store) {t : Store} (l : List ℕ) → Accepts text table → t ≡ push_all s (instruction_lines 0 (decode (sheet_in table) l)) → t ≡ push_all s (instructions_by (read_sheet text) l)
+unfolding instructions_by
+put-by-sheet s l d p = rw d.is p
 
-  pub put-by-sheet : (s : Store) {t : Store} (l : List ℕ) → f ≡ Accepted → t ≡ push_all s (instruction_lines 0 (decode (sheet_in table) l)) → t ≡ push_all s (instructions_by (read_sheet text) l)
-  unfolding instructions_by
-  put-by-sheet s l e p =
-      let d : Accepts text table = rw e at h in
-      rw d.is p
-
-  pub put-no-sheet : {n p : ℕ} (s : Store) (l : List ℕ) → f ≡ Refused n p → s ≡ push_all s (instructions_by (read_sheet text) l)
-  unfolding instructions_by push_all
-  put-no-sheet {n} {p} s l e =
-      let d : Refuses text table n p = rw e at h in
-      rw d.is
+pub put-no-sheet : (text table : List ℕ) (r : Result (Unit {0}) Refused) (s : Store) (l : List ℕ) → Reads text table (res_of (λ u. u) r) → ((u : Unit {0}) → r ≡ Ok u → ⊥) → s ≡ push_all s (instructions_by (read_sheet text) l)
+unfolding instructions_by push_all
+put-no-sheet text table (Ok u) s l d h = absurd (h u refl)
+put-no-sheet text table (Err e) s l d h = rw d.is

@@ -3,9 +3,8 @@ use mathlib.Core.Path.{◌≡◌, refl, ap, sym, ◌∙◌}
 use mathlib.Core.List.{List, [], ◌∷◌, ◌++◌}
 use Prim.Native.Nat.{ℕ, ◌≤◌}
 use native.Mathlib.Omega.{arith}
-use lib.ListN.{length}
 use Rattle.store.specs.Store.{Store, push, push_all}
-use Rattle.store.proofs.Stores.{push_all-append, length-push_all}
+use Rattle.store.proofs.Stores.{push_all-append}
 
 -- one byte, and more behind it
 pub put_first : (s : Store) {t u : Store} (x : ℕ) (ys : List ℕ) → t ≡ push s x → u ≡ push_all t ys → u ≡ push_all s (x ∷ ys)
@@ -41,10 +40,6 @@ module _ (g : ℕ → List ℕ) (n : ℕ) (s : Store) where
 
   pub put-ends : {t u : Store} {i : ℕ} → Putting g n s t i → u ≡ push_all t (g i) → u ≡ push_all s (g 0)
   put-ends p e = e ∙ sym p.left
-
-  -- the cells stay as many
-  pub put-long : {t : Store} {i : ℕ} → Putting g n s t i → length t.cells ≡ length s.cells
-  put-long {t} {i} p = sym (length-push_all t (g i)) ∙ ap (λ (v : Store). length v.cells) (sym p.left) ∙ length-push_all s (g 0)
 
   pub put-ends-none : {t : Store} {i : ℕ} → Putting g n s t i → g i ≡ [] → t ≡ push_all s (g 0)
   unfolding push_all

@@ -14,7 +14,7 @@ use Rattle.line_map.proofs.Entries.{length-numbers, entries-back}
 use Rattle.store.specs.Store.{Store, at, contents, push_all, empty}
 use Rattle.store.specs.Fill.{zeroed_from}
 use Rattle.store.proofs.Stores.{contents-empty, used-room, length-push_all}
-use Rattle.store.proofs.Fills.{length-filled, front_of, small-front}
+use Rattle.store.proofs.Fills.{zeroed-is, length-filled, front_of, small-front}
 use Rattle.text.specs.Text.{Told}
 
 -- ---- what outputs give back
@@ -44,11 +44,11 @@ module _ (before mid xs : List ℕ) (n room : ℕ) (long : length before ≡ roo
   put-end = ap (λ (s : Store). s.used) p ∙ used-room (at before 0) xs (omega arith) ∙ omega arith
 
   pub put-filled : {after : List ℕ} → after ≡ zeroed_from n mid → after ≡ filled room xs
-  unfolding zeroed_from filled contents empty
+  unfolding filled contents empty
   put-filled e =
       let whole : take n mid ≡ xs = ap contents p ∙ contents-empty before xs (omega arith) in
       let same : length mid ≡ room = ap (λ (s : Store). length s.cells) p ∙ length-push_all (at before 0) xs ∙ long in
-      e ∙ rw (whole, same, put-end)
+      e ∙ zeroed-is n mid ∙ rw (whole, same, put-end)
 
 pub told-put : {A : Type 0} {text : A → List ℕ} {sheet : List ℕ} {result : ℕ → A} (room place : ℕ) (before mid : List ℕ) {after : List ℕ} {n : ℕ} → length before ≡ room → length (text (result place)) ≤ room
     → Free sheet place → at mid n ≡ push_all (at before 0) (text (result place)) → after ≡ zeroed_from n mid → Told room text sheet result after n

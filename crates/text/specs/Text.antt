@@ -9,7 +9,13 @@ use Rattle.definition.specs.Iec.{signed_of}
 use Rattle.definition.specs.Rewrite.{Bytes, decode}
 use Rattle.definition.specs.Lent.{filled}
 use Rattle.definition.specs.Compile.{Free}
+use Rattle.store.specs.Store.{Store, at}
+use Rattle.text.specs.declared.Text.{Text}
 use Rattle.definition.specs.Listing.{decimal, signed_decimal, fields, instruction_lines}
+
+-- an output that is filled from its start
+abbrev pub store_of : Text → Store
+store_of t = at t.out.now t.used
 
 -- one field behind its comma
 abbrev pub field_of : ℕ → List ℕ

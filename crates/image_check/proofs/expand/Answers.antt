@@ -1,59 +1,54 @@
 use native.Mathlib.Omega.{arith}
-use mathlib.Core.Path.{sym, ◌∙◌, ap}
+use Prim.Native.Nat.{◌+◌}
+use mathlib.Core.Path.{refl, sym, ◌∙◌, ap}
 use Rattle.definition.specs.Claims.{branches}
 use Rattle.opcode.specs.View.{flow_view}
-use Rattle.image_check.proofs.Expanding.{place-known, place-low, expand-off, behind-low, expand-stop, expand-away, expand-onward, expand-either, branch-next}
+use Rattle.image_check.proofs.Expanding.{place-known, place-low, expand-off, behind-low, expand-stop, expand-below, expand-away, expand-onward, expand-lost, expand-half, expand-either, branch-next}
 use Rattle.image_check.proofs.expand.Goals as goal
 
-pub is_place-here-requires : goal.is_place-here-requires
-is_place-here-requires c = c.requires.ready.starts
-
-pub returns-then-not-here : goal.returns-then-not-here
-returns-then-not-here c = rw c.astray.ensures (expand-off _ _ _ c.requires.image _ _ c.args.t _ _ c.requires.ready (sym c.is_place-here.ensures ∙ c.if-not-here.true))
+pub returns-then-not-is_place : goal.returns-then-not-is_place
+returns-then-not-is_place c = expand-off _ _ _ c.args.image.image _ _ c.args.t _ _ c.requires (sym c.is_place.ensures ∙ c.if-not-is_place.true)
 
 pub look-seen-requires : goal.look-seen-requires
-look-seen-requires c = record { table = c.requires.image.table; either = place-known _ _ _ c.requires.image _ (sym c.is_place-here.ensures ∙ c.if-not-here.false); p_in_bounds = place-low _ _ _ c.requires.image _ (sym c.is_place-here.ensures ∙ c.if-not-here.false) }
+look-seen-requires c = record { table = c.args.image.image.table; either = place-known _ _ _ c.args.image.image _ (sym c.is_place.ensures ∙ c.if-not-is_place.false); p_in_bounds = place-low _ _ _ c.args.image.image _ (sym c.is_place.ensures ∙ c.if-not-is_place.false) }
 
-pub overflow_add-next : goal.overflow_add-next
-overflow_add-next c = omega (arith, place-low _ _ _ c.requires.image _ (sym c.is_place-here.ensures ∙ c.if-not-here.false), c.requires.ready.small)
+pub meet-requires-clause-end_bound : goal.meet-requires-clause-end_bound
+meet-requires-clause-end_bound c = behind-low _ _ _ c.args.image.image _ _ c.args.t _ _ c.requires c.look-seen.result c.look-seen.ensures _ _ _ _ _ _ (ap (λ x. c.args.p + x) c.from.ensures) c.saturating_sub-g.ensures c.stops.ensures c.is_wrong-wrong.ensures c.height_behind-h.ensures refl
 
-pub offset_bounds-marks-p : goal.offset_bounds-marks-p
-offset_bounds-marks-p c = omega (arith, place-low _ _ _ c.requires.image _ (sym c.is_place-here.ensures ∙ c.if-not-here.false), c.requires.ready.small, c.requires.ready.slots)
-
-pub bounds-marks-p : goal.bounds-marks-p
-bounds-marks-p c = omega (arith, place-low _ _ _ c.requires.image _ (sym c.is_place-here.ensures ∙ c.if-not-here.false), c.requires.ready.small, c.requires.ready.slots)
-
-pub height_behind-h-requires : goal.height_behind-h-requires
-height_behind-h-requires c = omega (arith, c.requires.ready.low c.args.p, c.requires.ready.small, c.height_of-g.ensures)
-
-pub meet-requires : goal.meet-requires
-meet-requires c = record { ready = c.requires.ready; end_bound = behind-low _ _ _ c.requires.image _ _ c.args.t _ _ c.requires.ready c.look-seen.result c.look-seen.ensures _ _ _ _ _ c.height_of-g.ensures c.stops.ensures c.is_wrong-wrong.ensures c.height_behind-h.ensures c.either-bad.ensures }
-
-pub target_of-q-requires : goal.target_of-q-requires
+pub target_of-requires-clause-le_next : goal.target_of-requires-clause-le_next
 unfolding branches
-target_of-q-requires c = record { le_next = branch-next _ _ _ c.requires.image _ _ c.args.t _ _ c.requires.ready c.look-seen.result c.look-seen.ensures _ _ _ _ _ c.height_of-g.ensures c.stops.ensures c.is_wrong-wrong.ensures c.height_behind-h.ensures c.either-bad.ensures (ap (λ f. branches (flow_view f)) c.in-Away.is); next_in_bounds = omega (arith, place-low _ _ _ c.requires.image _ (sym c.is_place-here.ensures ∙ c.if-not-here.false)); code_len_bound = c.requires.ready.small }
+target_of-requires-clause-le_next c = branch-next _ _ _ c.args.image.image _ _ c.args.t _ _ c.requires c.look-seen.result c.look-seen.ensures _ _ _ _ _ _ (ap (λ x. c.args.p + x) c.from.ensures) c.saturating_sub-g.ensures c.stops.ensures c.is_wrong-wrong.ensures c.height_behind-h.ensures refl (ap (λ f. branches (flow_view f)) c.in-Away.is)
 
-pub meet-requires-in-Away : goal.meet-requires-in-Away
-meet-requires-in-Away c = record { ready = c.requires.ready; end_bound = behind-low _ _ _ c.requires.image _ _ c.args.t _ _ c.requires.ready c.look-seen.result c.look-seen.ensures _ _ _ _ _ c.height_of-g.ensures c.stops.ensures c.is_wrong-wrong.ensures c.height_behind-h.ensures c.either-bad.ensures }
+pub returns-in_err-q-in-Away : goal.returns-in_err-q-in-Away
+returns-in_err-q-in-Away c = rw c.from_residual.ensures (expand-below _ _ _ c.args.image.image _ _ c.args.t _ _ c.requires c.look-seen.result c.look-seen.ensures _ _ _ _ _ _ (ap (λ x. c.args.p + x) c.from.ensures) c.saturating_sub-g.ensures c.stops.ensures c.is_wrong-wrong.ensures c.height_behind-h.ensures refl c.in-Away.is c.in_err-q-in-Away.ensures)
 
-pub meet-v-requires : goal.meet-v-requires
-meet-v-requires c = record { ready = c.requires.ready; end_bound = behind-low _ _ _ c.requires.image _ _ c.args.t _ _ c.requires.ready c.look-seen.result c.look-seen.ensures _ _ _ _ _ c.height_of-g.ensures c.stops.ensures c.is_wrong-wrong.ensures c.height_behind-h.ensures c.either-bad.ensures }
+pub meet-requires-in-Away-clause-end_bound : goal.meet-requires-in-Away-clause-end_bound
+meet-requires-in-Away-clause-end_bound c = behind-low _ _ _ c.args.image.image _ _ c.args.t _ _ c.requires c.look-seen.result c.look-seen.ensures _ _ _ _ _ _ (ap (λ x. c.args.p + x) c.from.ensures) c.saturating_sub-g.ensures c.stops.ensures c.is_wrong-wrong.ensures c.height_behind-h.ensures refl
 
-pub target_of-q-requires-in-Either : goal.target_of-q-requires-in-Either
+pub returns-in_ok-q-in-Away : goal.returns-in_ok-q-in-Away
+returns-in_ok-q-in-Away c = expand-away _ _ _ c.args.image.image _ _ c.args.t _ _ c.requires c.look-seen.result c.look-seen.ensures _ _ _ _ _ _ (ap (λ x. c.args.p + x) c.from.ensures) c.saturating_sub-g.ensures c.stops.ensures c.is_wrong-wrong.ensures c.height_behind-h.ensures refl c.in-Away.is c.in_ok-q-in-Away.ensures c.meet-in-Away.ensures
+
+pub meet-requires-in-Either-clause-end_bound : goal.meet-requires-in-Either-clause-end_bound
+meet-requires-in-Either-clause-end_bound c = behind-low _ _ _ c.args.image.image _ _ c.args.t _ _ c.requires c.look-seen.result c.look-seen.ensures _ _ _ _ _ _ (ap (λ x. c.args.p + x) c.from.ensures) c.saturating_sub-g.ensures c.stops.ensures c.is_wrong-wrong.ensures c.height_behind-h.ensures refl
+
+pub returns-in_err-v-in-Either : goal.returns-in_err-v-in-Either
+returns-in_err-v-in-Either c = rw c.from_residual-in_err-v-in-Either.ensures (expand-lost _ _ _ c.args.image.image _ _ c.args.t _ _ c.requires c.look-seen.result c.look-seen.ensures _ _ _ _ _ _ (ap (λ x. c.args.p + x) c.from.ensures) c.saturating_sub-g.ensures c.stops.ensures c.is_wrong-wrong.ensures c.height_behind-h.ensures refl c.in-Either.is c.in_err-v-in-Either.ensures)
+
+pub target_of-requires-in-Either-clause-le_next : goal.target_of-requires-in-Either-clause-le_next
 unfolding branches
-target_of-q-requires-in-Either c = record { le_next = branch-next _ _ _ c.requires.image _ _ c.args.t _ _ c.requires.ready c.look-seen.result c.look-seen.ensures _ _ _ _ _ c.height_of-g.ensures c.stops.ensures c.is_wrong-wrong.ensures c.height_behind-h.ensures c.either-bad.ensures (ap (λ f. branches (flow_view f)) c.in-Either.is); next_in_bounds = omega (arith, place-low _ _ _ c.requires.image _ (sym c.is_place-here.ensures ∙ c.if-not-here.false)); code_len_bound = c.requires.ready.small }
+target_of-requires-in-Either-clause-le_next c = branch-next _ _ _ c.args.image.image _ _ c.args.t _ _ c.requires c.look-seen.result c.look-seen.ensures _ _ _ _ _ _ (ap (λ x. c.args.p + x) c.from.ensures) c.saturating_sub-g.ensures c.stops.ensures c.is_wrong-wrong.ensures c.height_behind-h.ensures refl (ap (λ f. branches (flow_view f)) c.in-Either.is)
 
-pub meet-requires-in-Either : goal.meet-requires-in-Either
-meet-requires-in-Either c = record { ready = c.meet-v.ensures.ready; end_bound = omega (arith, behind-low _ _ _ c.requires.image _ _ c.args.t _ _ c.requires.ready c.look-seen.result c.look-seen.ensures _ _ _ _ _ c.height_of-g.ensures c.stops.ensures c.is_wrong-wrong.ensures c.height_behind-h.ensures c.either-bad.ensures, c.meet-v.ensures.fewer) }
+pub returns-in_err-q-in-Either : goal.returns-in_err-q-in-Either
+returns-in_err-q-in-Either c = rw c.from_residual-in_err-q-in-Either.ensures (expand-half _ _ _ c.args.image.image _ _ c.args.t _ _ c.requires c.look-seen.result c.look-seen.ensures _ _ _ _ _ _ (ap (λ x. c.args.p + x) c.from.ensures) c.saturating_sub-g.ensures c.stops.ensures c.is_wrong-wrong.ensures c.height_behind-h.ensures refl c.in-Either.is c.in_ok-v-in-Either.ensures c.in_err-q-in-Either.ensures)
+
+pub meet-requires-in-Either-2-clause-end_bound : goal.meet-requires-in-Either-2-clause-end_bound
+meet-requires-in-Either-2-clause-end_bound c = let a = behind-low _ _ _ c.args.image.image _ _ c.args.t _ _ c.requires c.look-seen.result c.look-seen.ensures _ _ _ _ _ _ (ap (λ x. c.args.p + x) c.from.ensures) c.saturating_sub-g.ensures c.stops.ensures c.is_wrong-wrong.ensures c.height_behind-h.ensures refl in omega (arith, a, c.in_ok-v-in-Either.ensures.fewer)
+
+pub returns-in_ok-q-in-Either : goal.returns-in_ok-q-in-Either
+returns-in_ok-q-in-Either c = expand-either _ _ _ c.args.image.image _ _ c.args.t _ _ c.requires c.look-seen.result c.look-seen.ensures _ _ _ _ _ _ (ap (λ x. c.args.p + x) c.from.ensures) c.saturating_sub-g.ensures c.stops.ensures c.is_wrong-wrong.ensures c.height_behind-h.ensures refl c.in-Either.is c.in_ok-v-in-Either.ensures c.in_ok-q-in-Either.ensures c.meet-in-Either-2.ensures
 
 pub returns-in-Onward : goal.returns-in-Onward
-returns-in-Onward c = expand-onward _ _ _ c.requires.image _ _ c.args.t _ _ c.requires.ready c.look-seen.result c.look-seen.ensures _ _ _ _ _ c.height_of-g.ensures c.stops.ensures c.is_wrong-wrong.ensures c.height_behind-h.ensures c.either-bad.ensures c.in-Onward.is c.meet.ensures
-
-pub returns-in-Away : goal.returns-in-Away
-returns-in-Away c = expand-away _ _ _ c.requires.image _ _ c.args.t _ _ c.requires.ready c.look-seen.result c.look-seen.ensures _ _ _ _ _ c.height_of-g.ensures c.stops.ensures c.is_wrong-wrong.ensures c.height_behind-h.ensures c.either-bad.ensures c.in-Away.is c.target_of-q.ensures c.meet-in-Away.ensures
-
-pub returns-in-Either : goal.returns-in-Either
-returns-in-Either c = expand-either _ _ _ c.requires.image _ _ c.args.t _ _ c.requires.ready c.look-seen.result c.look-seen.ensures _ _ _ _ _ c.height_of-g.ensures c.stops.ensures c.is_wrong-wrong.ensures c.height_behind-h.ensures c.either-bad.ensures c.in-Either.is c.target_of-q-in-Either.ensures c.meet-v.ensures c.meet-in-Either.ensures
+returns-in-Onward c = expand-onward _ _ _ c.args.image.image _ _ c.args.t _ _ c.requires c.look-seen.result c.look-seen.ensures _ _ _ _ _ _ (ap (λ x. c.args.p + x) c.from.ensures) c.saturating_sub-g.ensures c.stops.ensures c.is_wrong-wrong.ensures c.height_behind-h.ensures refl c.in-Onward.is c.meet.ensures
 
 pub returns-in-Stop : goal.returns-in-Stop
-returns-in-Stop c = expand-stop _ _ _ c.requires.image _ _ c.args.t _ _ c.requires.ready c.look-seen.result c.look-seen.ensures _ _ _ _ _ c.height_of-g.ensures c.stops.ensures c.is_wrong-wrong.ensures c.height_behind-h.ensures c.either-bad.ensures c.in-Stop.is
+returns-in-Stop c = expand-stop _ _ _ c.args.image.image _ _ c.args.t _ _ c.requires c.look-seen.result c.look-seen.ensures _ _ _ _ _ _ (ap (λ x. c.args.p + x) c.from.ensures) c.saturating_sub-g.ensures c.stops.ensures c.is_wrong-wrong.ensures c.height_behind-h.ensures refl c.in-Stop.is

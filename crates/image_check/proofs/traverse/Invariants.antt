@@ -1,10 +1,7 @@
-use mathlib.Core.Path.{◌≡◌}
+use Prim.Native.Nat.{◌+◌, ◌-◌}
 use lib.ListN.{length}
 use Rattle.image_check.specs.View.{Going}
 use Rattle.image_check.proofs.traverse.Given as goal
 
-abbrev pub invariant-loop-n : goal.invariant-loop-n
-invariant-loop-n l = Going l.sheet l.code l.flags l.initial.marks l.initial.work l.initial.t l.depth l.marks l.work l.t l.n × (length l.marks ≡ length l.initial.marks) × (length l.work ≡ length l.initial.work)
-
-abbrev pub decreases-loop-n : goal.decreases-loop-n
-decreases-loop-n l = l.n
+abbrev pub invariant-loop-step : goal.invariant-loop-step
+invariant-loop-step l = Going l.image.sheet.now l.image.code.now l.image.flags.now l.initial.marks l.initial.work l.initial.t l.depth l.marks l.work l.t (length l.image.code.now + 1 - l._step)

@@ -7,8 +7,8 @@ use Rattle.replay.proofs.part_end.Goals.{else-starts-via-then-starts+else-starts
 pub loop-at-init : goal.loop-at-init
 loop-at-init c = read-begins _ _ c.requires
 
-pub returns-then-starts_with : goal.returns-then-starts_with
-returns-then-starts_with c = read_here _ _ _ _ c.loop-at.invariant (search rules) c.if-starts.true (sym (starts-here c.args.input.now c.loop-at.at c.starts_with.ensures.value) ∙ c.if-starts_with.true)
+pub returns-then-starts_with-clause-is : goal.returns-then-starts_with-clause-is
+returns-then-starts_with-clause-is c = read_here _ _ _ _ c.loop-at.invariant (search rules) c.if-starts.true (sym (starts-here c.args.input.now c.loop-at.at c.starts_with.ensures.value) ∙ c.if-starts_with.true)
 
 pub loop-at-preserved : goal.loop-at-preserved
 loop-at-preserved c =
@@ -18,5 +18,5 @@ loop-at-preserved c =
       | else-starts-via-else-starts w ↦ rw w.if-starts.false
     ])
 
-pub returns : goal.returns
-returns c = read-end _ _ _ _ c.loop-at.invariant (search rules)
+pub returns-clause-is : goal.returns-clause-is
+returns-clause-is c = read-end _ _ _ _ c.loop-at.invariant (search rules)

@@ -1,15 +1,19 @@
-use mathlib.Core.Path.{refl, sym, ◌∙◌}
-use Rattle.slowest.proofs.Followed.{follow-begins, follow-ends, follow-goes, follow-less}
+use Rattle.slowest.proofs.Followed.{next-none, next_some, follow-begins, follow-ends, follow-goes, follow-less}
 use Rattle.slowest.proofs.follow.Goals as goal
+use mathlib.Core.Path.{sym}
 
-pub loop-way-init : goal.loop-way-init
-loop-way-init c = (follow-begins _ _ _ c.requires.counted c.requires.image.small _ c.requires.max_outcomes_in_bounds, refl)
+pub loop-q-init : goal.loop-q-init
+loop-q-init c = follow-begins _ _ _ c.requires.counted c.args.image.image.small _ c.requires.max_outcomes_in_bounds
 
-pub returns-then-is_last : goal.returns-then-is_last
-returns-then-is_last c = follow-ends _ _ _ c.requires.counted c.requires.image.small _ _ _ c.loop-way.invariant.0 c.way_at-way.result c.way_at-way.ensures (sym c.is_last.ensures ∙ c.if-is_last.true)
+pub returns-in_default : goal.returns-in_default
+returns-in_default c = follow-ends _ _ _ c.requires.counted c.args.image.image.small _ _ _ c.loop-q.invariant c.way_at-way.result c.way_at-way.ensures (next-none _ (sym c.in_default.ensures))
 
-pub loop-way-smaller : goal.loop-way-smaller
-loop-way-smaller c = follow-less _ _ _ c.requires.counted c.requires.image.small _ _ _ c.loop-way.invariant.0 c.way_at-way.result c.way_at-way.ensures (sym c.is_last.ensures ∙ c.if-is_last.false) c.place_behind-p.ensures
+pub loop-q-smaller : goal.loop-q-smaller
+loop-q-smaller c =
+    let k = next_some _ _ c.loop-q.p (sym c.in-Some.ensures) in
+    follow-less _ _ _ c.requires.counted c.args.image.image.small _ _ _ c.loop-q.invariant c.way_at-way.result c.way_at-way.ensures k.0 k.1
 
-pub loop-way-preserved : goal.loop-way-preserved
-loop-way-preserved c = (follow-goes _ _ _ c.requires.counted c.requires.image.small _ _ _ c.loop-way.invariant.0 c.way_at-way.result c.way_at-way.ensures (sym c.is_last.ensures ∙ c.if-is_last.false) c.note-n.ensures c.place_behind-p.ensures, c.note-n.auto.outcomes ∙ c.loop-way.invariant.1)
+pub loop-q-preserved : goal.loop-q-preserved
+loop-q-preserved c =
+    let k = next_some _ _ c.loop-q.p (sym c.in-Some.ensures) in
+    follow-goes _ _ _ c.requires.counted c.args.image.image.small _ _ _ c.loop-q.invariant c.way_at-way.result c.way_at-way.ensures k.0 c.note-n.ensures k.1

@@ -1,11 +1,10 @@
-use mathlib.Core.Path.{◌≡◌}
-use Prim.Native.Nat.{◌-◌}
-use lib.ListN.{length}
 use Rattle.slowest.specs.View.{Following}
 use Rattle.slowest.proofs.follow.Given as goal
+use Prim.Native.Nat.{◌-◌}
+use lib.ListN.{length}
 
-abbrev pub invariant-loop-way : goal.invariant-loop-way
-invariant-loop-way l = Following l.sheet l.code l.outcomes l.n l.p × (length l.outcomes ≡ length l.initial.outcomes)
+abbrev pub invariant-loop-q : goal.invariant-loop-q
+invariant-loop-q l = Following l.image.sheet.now l.image.code.now l.outcomes l.n l.p
 
-abbrev pub decreases-loop-way : goal.decreases-loop-way
-decreases-loop-way l = length l.code - l.p
+abbrev pub decreases-loop-q : goal.decreases-loop-q
+decreases-loop-q l = length l.image.code.now - l.p

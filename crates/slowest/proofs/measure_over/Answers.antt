@@ -1,23 +1,21 @@
-use native.Mathlib.Omega.{arith}
-use mathlib.Core.Path.{refl}
-use Rattle.slowest.specs.View.{Sweeps}
-use Rattle.slowest.proofs.Followed.{works-refused, works-loops, works-measured}
+use Rattle.std.proofs.lemmas.Result.{err_from_is_err_and}
+use Rattle.slowest.specs.View.{Sweeps, refuses, loops}
+use Rattle.slowest.proofs.Followed.{works-measured}
 use Rattle.slowest.proofs.measure_over.Goals as goal
 
-pub returns-then-number-ne0 : goal.returns-then-number-ne0
-returns-then-number-ne0 c = works-refused _ _ _ _ c.check_over-number.ensures c.if-number-ne0.true c.refused.ensures
+pub returns-in_err-check_over : goal.returns-in_err-check_over
+returns-in_err-check_over c =
+    let p = err_from_is_err_and c.from_residual.result c.from_residual.ensures.1 in
+    rw (p.1, p.2) (refuses c.in_err-check_over.ensures)
 
 pub returns-then-sweep : goal.returns-then-sweep
 unfolding Sweeps
-returns-then-sweep c = works-loops _ _ _ _ c.check_over-number.ensures c.if-number-ne0.false (rw c.if-sweep.true at c.sweep.ensures)
+returns-then-sweep c = loops c.in_ok-check_over.ensures (rw c.if-sweep.true at c.sweep.ensures)
 
-pub overflow_cast-count : goal.overflow_cast-count
-overflow_cast-count c = omega (arith, c.slice_known-6-1.given 0)
-
-pub follow-n-requires : goal.follow-n-requires
+pub follow-n-requires-clause-counted : goal.follow-n-requires-clause-counted
 unfolding Sweeps
-follow-n-requires c = record { image = c.requires.image; counted = rw c.if-sweep.false at c.sweep.ensures; max_outcomes_in_bounds = c.requires.max_outcomes_in_bounds }
+follow-n-requires-clause-counted c = rw c.if-sweep.false at c.sweep.ensures
 
 pub returns : goal.returns
 unfolding Sweeps
-returns c = works-measured _ _ _ _ _ c.requires.image.small c.check_over-number.ensures c.if-number-ne0.false (rw c.if-sweep.false at c.sweep.ensures) refl c.follow-n.ensures
+returns c = works-measured _ _ _ _ _ c.args.image.image.small c.in_ok-check_over.ensures (rw c.if-sweep.false at c.sweep.ensures) c.from.ensures c.follow-n.ensures

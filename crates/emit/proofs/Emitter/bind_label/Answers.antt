@@ -1,7 +1,8 @@
 use Rattle.emit.proofs.Steps.{none-is, some-is}
 use mathlib.Core.Path.{refl}
-use mathlib.Core.List.{[], ◌∷◌}
-use Rattle.emit.proofs.Labels.{bind-stays, bind-nowhere, bind_goes, bound-label}
+use Rattle.std.proofs.Common.{Some}
+use Rattle.emit.specs.Book.{label_numbers}
+use Rattle.emit.proofs.Labels.{bind-stays, bind-nowhere, bind_goes, bound-label, label-long}
 use borrow.Author.Rules.{rules}
 use Rattle.emit.proofs.Emitter.bind_label.Goals as goal
 use Rattle.emit.proofs.Emitter.bind_label.Goals.{then-n-self, else-n-self}
@@ -13,6 +14,6 @@ pub returns : goal.returns
 returns c =
     let on = none-is _ c.is_some.ensures c.if-is_some.false in
     elim c.if-n-self.branch [
-      | then-n-self w ↦ rw w.book-is (bind_goes c.requires.fine c.told-book (1 ∷ c.args.self.size ∷ []) refl (bound-label _) refl on c.from-n.ensures w.if-n-self.true w.put_label.ensures)
+      | then-n-self w ↦ rw w.book-is (bind_goes c.requires.fine c.told-book (label_numbers (Some c.args.self.size)) (label-long (Some c.args.self.size)) (bound-label _) refl on c.from-n.ensures w.if-n-self.true w.put_label.ensures)
       | else-n-self w ↦ rw w.book-is (bind-nowhere c.requires.fine c.told-book c.from-n.ensures refl on w.if-n-self.false)
     ]

@@ -1,7 +1,8 @@
 use Rattle.emit.proofs.Steps.{none-is, some-is}
 use mathlib.Core.Path.{refl}
-use mathlib.Core.List.{[], ◌∷◌}
-use Rattle.emit.proofs.Labels.{create-stays, create-full, create-goes, free-label}
+use Rattle.std.proofs.Common.{None}
+use Rattle.emit.specs.Book.{label_numbers}
+use Rattle.emit.proofs.Labels.{create-stays, create-full, create-goes, label-long, free-label}
 use borrow.Author.Rules.{rules}
 use Rattle.emit.proofs.Emitter.create_label.Goals as goal
 
@@ -12,4 +13,4 @@ pub returns-then-n-ge-MAX_LABELS : goal.returns-then-n-ge-MAX_LABELS
 returns-then-n-ge-MAX_LABELS c = create-full c.requires.fine c.told-book refl c.if-n-ge-MAX_LABELS.true c.refuse.ensures
 
 pub returns : goal.returns
-returns c = create-goes c.requires.fine c.told-book (0 ∷ 0 ∷ []) refl free-label refl (none-is _ c.is_some.ensures c.if-is_some.false) c.if-n-ge-MAX_LABELS.false c.put_label.ensures
+returns c = create-goes c.requires.fine c.told-book (label_numbers None) (label-long None) free-label refl (none-is _ c.is_some.ensures c.if-is_some.false) c.if-n-ge-MAX_LABELS.false c.put_label.ensures

@@ -15,4 +15,6 @@ pub add_patch-requires-clause-branched : goal.add_patch-requires-clause-branched
 add_patch-requires-clause-branched c = c.put_cmp_br-b.ensures.branched (seven-bytes _ _ _ _)
 
 pub returns : goal.returns
-returns c = constant-done _ _ 8 (fusing _ _ _ _) _ (cmp-br-is _ _ _ _ _) c.requires c.in-Some.ensures.0 c.in-Some.ensures.1 c.prepare-e.ensures refl (constant-kept _ 8 c.requires c.in-Some.ensures.0 c.in-Some.ensures.1 c.prepare-e.ensures (none-is _ c.is_some.ensures c.if-is_some.false) c.keep.ensures) (fused-done _ _ _ _ _ (constant-kept _ 8 c.requires c.in-Some.ensures.0 c.in-Some.ensures.1 c.prepare-e.ensures (none-is _ c.is_some.ensures c.if-is_some.false) c.keep.ensures).fine c.requires.room c.cmp_br-patch.ensures refl (c.put_cmp_br-b.ensures.coded _ c.prepare-e.ensures.noted.slots) c.add_patch.ensures)
+returns c =
+    let kept = constant-kept _ 8 c.requires c.in-Some.ensures.0 c.in-Some.ensures.1 c.prepare-e.ensures (none-is _ c.is_some.ensures c.if-is_some.false) c.keep.ensures in
+    constant-done _ _ 8 (fusing _ _ _ _) _ (cmp-br-is _ _ _ _ _) c.requires c.in-Some.ensures.0 c.in-Some.ensures.1 c.prepare-e.ensures refl kept (fused-done _ _ _ _ _ kept.fine c.requires.room c.cmp_br-patch.ensures refl (c.put_cmp_br-b.ensures.coded _ c.prepare-e.ensures.noted.slots) c.add_patch.ensures)

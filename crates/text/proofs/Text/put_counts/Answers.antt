@@ -1,0 +1,5 @@
+use Rattle.text.proofs.Lines.{put-line}
+use Rattle.text.proofs.Text.put_counts.Goals as goal
+
+pub returns-clause-is : goal.returns-clause-is
+returns-clause-is c = put-line _ _ _ c.put_decimal.ensures.is c.put_three.ensures.is
