@@ -1,7 +1,7 @@
 // The end of the passes program's input: what was read is rewritten, and the text of the answer is put into a lent output.
 #![tactic(auto)]
 
-ghost use Rattle.std.specs.Prelude.{◌≡◌};
+ghost use Rattle.std.specs.Prelude.{◌≡◌, Ok};
 ghost use Rattle.definition.specs.Sheet.{read_sheet};
 ghost use Rattle.definition.specs.Alone.{Rewrites};
 ghost use Rattle.store.specs.Store.{at, contents, push_all};
@@ -11,14 +11,14 @@ ghost use Rattle.input_machine.specs.Machine.{ending, concluded};
 ghost use Rattle.input_reader.specs.View.{head_view, ending_view, stores_view, state_view, handed_rules};
 ghost use Rattle.optimize.specs.View.{answer_view, room};
 ghost use Rattle.passes_answer.specs.View.{handed, is_whole, whole_text, answer_text, Known};
-ghost use Rattle.text.specs.Text.{text_room, Told};
+ghost use Rattle.text.specs.Text.{text_room, store_of, Told};
 
-use definition::{BAD_RULE, ENTRY_SIZE, MAX_CODE, MAX_LINES, MAX_PROTECTED};
+use definition::{BAD_RULE, ENTRY_SIZE, MAX_CODE, MAX_LINES, MAX_PROTECTED, Refused};
 use input_reader::{
     CODE_ROOM, ENTRY_ROOM, Ending, OFFSET_ROOM, Phase, RULE_ROOM, Reader, SHEET_ROOM,
 };
-use optimize::Answer;
-use text::TEXT_ROOM;
+use optimize::Rewritten;
+use text::{TEXT_ROOM, Text};
 
 // Numbers that a full line list takes.
 const LINE_NUMBERS: usize = MAX_LINES * ENTRY_SIZE;
@@ -31,7 +31,12 @@ fn is_whole(e: Ending) -> bool
 }
 
 // What was read, rewritten: all of it after a whole input; else only the sheet and the rules can be refused.
-fn rewrite_read(reader: &Reader, bytes: &mut [u8], moved: &mut [u16], lines: &mut [u16]) -> Answer
+fn rewrite_read(
+    reader: &Reader,
+    bytes: &mut [u8],
+    moved: &mut [u16],
+    lines: &mut [u16],
+) -> Result<Rewritten, Refused>
     ensures { let s = stores_view reader.now in let e = ending (head_view reader.now.head) in Rewrites (room bytes.old moved.old lines.old) (contents s.sheet) (handed_rules e s) (handed e s) (answer_view result bytes.new moved.new lines.new) }
 {
     let end = input_reader::ending_of(reader.head);
@@ -48,45 +53,41 @@ fn rewrite_read(reader: &Reader, bytes: &mut [u8], moved: &mut [u16], lines: &mu
     )
 }
 
-fn put_whole(
-    a: Answer,
-    sheet: &[u8],
-    bytes: &[u8],
-    moved: &[u16],
-    lines: &[u16],
-    out: &mut [u8],
-) -> usize
-    ensures { at out.new result ≡ push_all (at out.old 0) (whole_text (read_sheet sheet.now) (answer_view a bytes.now moved.now lines.now)) }
+fn put_whole(r: Rewritten, sheet: &[u8], bytes: &[u8], moved: &[u16], lines: &[u16], to: &mut Text)
+    ensures is { store_of to.new ≡ push_all (store_of to.old) (whole_text (read_sheet sheet.now) (answer_view (Ok r) bytes.now moved.now lines.now)) }
+    ensures same { to.new.out.ghost_name ≡ to.old.out.ghost_name }
 {
-    let n = a.bytes.min(bytes.len());
-    let k = a.protected.min(moved.len());
-    let m = text::entry_numbers(a.entries, lines.len());
-    let one = text::put_counts(out, 0, a.bytes as u64, a.protected as u64, a.entries as u64);
-    let two = text::put_offsets(out, one, &moved[..k]);
-    let three = text::put_entries(out, two, &lines[..m]);
-    text::put_instructions(out, three, sheet, &bytes[..n])
+    let n = r.bytes.min(bytes.len());
+    let k = r.protected.min(moved.len());
+    let m = text::entry_numbers(r.entries, lines.len());
+    to.put_counts(r.bytes as u64, r.protected as u64, r.entries as u64);
+    to.put_offsets(&moved[..k]);
+    to.put_entries(&lines[..m]);
+    to.put_instructions(sheet, &bytes[..n]);
 }
 
+// With what the types of the outputs say of their elements: the text is then short.
 #[tactic(auto, using(std::proofs::lemmas::Bool::Decides::nat_tests), unfolding(crate::specs::View::answer_text, crate::specs::View::ending_text))]
 fn put_answer(
     end: Ending,
-    a: Answer,
+    answer: Result<Rewritten, Refused>,
     sheet: &[u8],
     bytes: &[u8],
     moved: &[u16],
     lines: &[u16],
-    out: &mut [u8],
-) -> usize
-    ensures put { at out.new result ≡ push_all (at out.old 0) (answer_text (ending_view end) (read_sheet sheet.now) (answer_view a bytes.now moved.now lines.now)) }
+    to: &mut Text,
+)
+    ensures is { store_of to.new ≡ push_all (store_of to.old) (answer_text (ending_view end) (read_sheet sheet.now) (answer_view answer bytes.now moved.now lines.now)) }
+    ensures same { to.new.out.ghost_name ≡ to.old.out.ghost_name }
     ensures known { Known bytes.now moved.now lines.now }
 {
-    if a.number != 0 {
-        return text::put_refusal(out, 0, a.number as u64, a.place as u64);
-    }
-    match end {
-        Ending::Whole => put_whole(a, sheet, bytes, moved, lines, out),
-        Ending::Cut(n) => text::put_malformed(out, 0, n),
-        Ending::Countless => text::put_refusal(out, 0, BAD_RULE as u64, 0),
+    match answer {
+        Err(e) => to.put_refusal(u64::from(e.refusal.number()), e.place as u64),
+        Ok(r) => match end {
+            Ending::Whole => put_whole(r, sheet, bytes, moved, lines, to),
+            Ending::Cut(n) => to.put_malformed(n),
+            Ending::Countless => to.put_refusal(u64::from(BAD_RULE), 0),
+        },
     }
 }
 
@@ -97,10 +98,12 @@ pub fn finish(reader: &Reader, out: &mut [u8; TEXT_ROOM]) -> usize
     let mut bytes = [0u8; MAX_CODE];
     let mut moved = [0u16; MAX_PROTECTED];
     let mut lines = [0u16; LINE_NUMBERS];
-    let a = rewrite_read(reader, &mut bytes, &mut moved, &mut lines);
+    let answer = rewrite_read(reader, &mut bytes, &mut moved, &mut lines);
     let end = input_reader::ending_of(reader.head);
     let sheet = reader.sheet.handed(true);
-    let n = put_answer(end, a, sheet, &bytes, &moved, &lines, out);
+    let mut to = Text::new(out);
+    put_answer(end, answer, sheet, &bytes, &moved, &lines, &mut to);
+    let n = to.used;
     store::set_from(out, n, 0);
     n
 }
