@@ -1,8 +1,9 @@
 // The emitter (emit.rs, and the pool of compile.rs): counts, the last instruction, depths, position and refusal by value; its tables are lent.
 //
 // Lent are the code (MAX_CODE bytes), the book (BOOK_SIZE numbers: labels, patches and line entries) and the pool (POOL_SIZE constants), each exactly as
-// long. A method has only those that its call can change. Its contract names the definition's call that it is, in every state: one that refuses leaves the
-// state that it met, a refusal is sticky, and a refused emitter comes back as it was, with what is lent.
+// long. A method has only those that its call can change, so they are no struct. Its contract names the definition's call that it is, in every state: one that
+// refuses leaves the state that it met, a refusal is sticky, and a refused emitter comes back as it was, with what is lent. `Fine` is a clause and no ghost
+// field: contracts name emitters made of parts (`altered`, `readied`), and each would have to carry its proof.
 #![tactic(auto)]
 
 ghost use Rattle.std.specs.Prelude.{◌≡◌, ◌≤◌, ◌<◌, ◌+◌, max, [], length};
