@@ -23,7 +23,7 @@ ghost use Rattle.emit.specs.Load.{Loads};
 ghost use Rattle.emit.specs.Parts.{altered, readied, Noted, Prepared, Written, Branched, Put, Added, cmp_operand, patching};
 
 use crate::book::BOOK_SIZE;
-use crate::load::{LoadForm, Loaded, Read};
+use crate::load::{LoadForm, Loaded};
 use crate::patch::PendingPatch;
 use definition::{MAX_CODE, MAX_LABELS, MAX_LINES, Refusal, Refused};
 use line_map::{LineEntry, Pos};
@@ -385,36 +385,13 @@ impl Emitter {
         requires code_len { length code.old ≡ max_code }
         ensures { Loads (sheet_in sheet.now) v self code.old book.old result code.new book.new }
     {
-        let size = self.size;
-        match load::form(self.last, v) {
-            LoadForm::Load => {
-                let e = self.add_u16(sheet, code, book, Role::LoadVar, v, Last::Loaded(v));
-                let read = Read {
-                    offset: size,
-                    dup: false,
-                    moved: false,
-                };
-                load::done(e, read)
-            }
-            LoadForm::Dup => {
-                let e = self.add_plain(sheet, code, book, Role::Dup);
-                let read = Read {
-                    offset: size,
-                    dup: true,
-                    moved: false,
-                };
-                load::done(e, read)
-            }
-            LoadForm::Fold => {
-                let e = self.fold_store(sheet, code);
-                let read = Read {
-                    offset: size - STORE_SIZE,
-                    dup: true,
-                    moved: true,
-                };
-                load::done(e, read)
-            }
-        }
+        let form = load::form(self.last, v);
+        let e = match form {
+            LoadForm::Load => self.add_u16(sheet, code, book, Role::LoadVar, v, Last::Loaded(v)),
+            LoadForm::Dup => self.add_plain(sheet, code, book, Role::Dup),
+            LoadForm::Fold => self.fold_store(sheet, code),
+        };
+        load::done(e, load::read_by(form, self.size))
     }
 
     // `emit_store_with_tracking`: a store that the next load may fold into.
