@@ -11,7 +11,7 @@ use Rattle.definition.specs.Sheet.{read_sheet}
 use Rattle.definition.specs.Lent.{entry_numbers}
 use Rattle.definition.specs.Compile.{FinalizedFunction, Answer, answer, compile_files, compile_into}
 use Rattle.definition.specs.Listing.{text}
-use Rattle.field.proofs.Results.{never, ok-is, ok-bind}
+use Rattle.field.proofs.Results.{ok-is, ok-bind}
 use Rattle.line_map.proofs.Entries.{length-numbers}
 use Rattle.store.specs.Store.{contents}
 use Rattle.text.specs.Text.{listing_room}
@@ -56,7 +56,7 @@ result : (e : Ending) (place : ℕ) (s : Stores) (x : Sheet × FinalizedFunction
 unfolding listed_as handed_rules handed_program
 result whole place s x h = from-result place s x h
 result (cut n) place s x h = from-result place s x h
-result countless place s x h = let a = ok-bind (given (read_sheet (contents s.sheet)) bad_sheet place) _ x h in never (let q : refuse bad_rule 0 ≡ ok x = a.2 in cc)
+result countless place s x h = let a = ok-bind (given (read_sheet (contents s.sheet)) bad_sheet place) _ x h in absurd (let q : refuse bad_rule 0 ≡ ok x = a.2 in cc)
 
 pub text-short : (e : Ending) (place : ℕ) (s : Stores) (a : Answer) → a ≡ answer full_room (compile_into place full_room (contents s.sheet) (handed_rules e s) (handed_program e s))
     → Sized a.code a.constants a.lines → Known a.code a.constants a.lines → length (text (listed_as e place s)) ≤ listing_room
