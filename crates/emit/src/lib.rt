@@ -343,6 +343,7 @@ impl Emitter {
     }
 
     // An instruction of one byte.
+    #[tactic(auto, unfolding(definition::specs::Emit::act))]
     pub fn emit_opcode(self, sheet: &[u8], code: &mut [u8], book: &mut Book, role: Role) -> Emitter
         requires fine { Fine self }
         requires code_len { length code.old ≡ max_code }
@@ -395,6 +396,7 @@ impl Emitter {
     }
 
     // `emit_store_with_tracking`: a store that the next load may fold into.
+    #[tactic(auto, unfolding(definition::specs::Emit::act))]
     pub fn store_variable(self, sheet: &[u8], code: &mut [u8], book: &mut Book, v: u16) -> Emitter
         requires fine { Fine self }
         requires code_len { length code.old ≡ max_code }

@@ -21,6 +21,7 @@ const STALE_AT: usize = COUNT_AT + 1;
 // Constants of a pool, with its table.
 pub const SIZE: usize = STALE_AT + 1;
 
+#[tactic(auto, unfolding(crate::specs::Pool::bucket_of))]
 fn bucket(k: Constant) -> usize
     ensures value { result ≡ bucket_of k }
     ensures below { result < bucket_count }
