@@ -1,5 +1,5 @@
-// The fused compare and branch, loads and stores of variables, and operations of one byte (compile_expr.rs). What is fused is `classify`'s answer (program_shape), already mirrored where the
-// constant stood on the left.
+// The fused compare and branch, loads and stores of variables, and operations of one byte (compile_expr.rs). What is fused is `classify`'s answer
+// (program_shape), already mirrored where the constant stood on the left.
 #![tactic(auto)]
 
 ghost use Rattle.std.specs.Prelude.{◌≡◌, length};
@@ -18,6 +18,7 @@ use opcode::{CompareOp, Role};
 use program_shape::ClassifiedCmp;
 
 // The comparison whose CMP_BR branches where `op` holds, or where it does not.
+#[tactic(auto, unfolding(crate::specs::Branching::branching_on))]
 fn branching_on(op: CompareOp, on: bool) -> CompareOp
     ensures { compare_view result ≡ branching_on (compare_view op) on }
 {
@@ -38,10 +39,13 @@ pub fn emit_classified_cmp_br(
     requires { Ready (world e code.old book.old pool.old) }
     ensures { Filled (run (sheet_in sheet.now) (emit_classified_cmp_br (cmp_view classified) on target.0)) (world e code.old book.old pool.old) (world result code.new book.new pool.new) }
 {
-    let op = classified.op;
-    let v = classified.variable;
-    let k = classified.constant;
-    e.emit_cmp_br(sheet, code, book, pool, branching_on(op, on), v, k, target)
+    let ClassifiedCmp {
+        op,
+        variable,
+        constant,
+    } = classified;
+    let op = branching_on(op, on);
+    e.emit_cmp_br(sheet, code, book, pool, op, variable, constant, target)
 }
 
 // A variable loaded: the source's `emit_load_var`. Every variable has one type here.
@@ -56,8 +60,7 @@ pub fn emit_load_var(
     requires code_len { length code.old ≡ max_code }
     ensures { Coded (call (sheet_in sheet.now) (load_variable variable)) e code.old book.old result code.new book.new }
 {
-    let loaded = e.load_variable(sheet, code, book, variable);
-    loaded.emitter
+    e.load_variable(sheet, code, book, variable).emitter
 }
 
 // A variable stored: `emit_store_var`.

@@ -1,7 +1,5 @@
-// One emitter, lent to each step in turn (emit.rs's `&mut self`): thin methods over the by-value core, each with the core's contract. The proofs are walks of
-// their code, which tools/thin writes.
-//
-// Methods of another crate's struct are refused: `Lent` holds the emitter.
+// One emitter, lent to each step in turn (emit.rs's `&mut self`): thin methods over the by-value core, each with the core's contract, and each proved with no
+// file. Methods of another crate's struct are refused: `Lent` holds the emitter.
 #![tactic(auto)]
 
 ghost use Rattle.std.specs.Prelude.{◌≡◌, length};
@@ -132,8 +130,8 @@ impl Lent {
         requires ready { Ready (world self.old.emitter code.old book.old pool.old) }
         ensures { Went (sheet_in sheet.now) (emit_stmts (block_at max_nesting variables text.now n (cursor_of c)).0) text.now (block_at max_nesting variables text.now n (cursor_of c)).1 (world self.old.emitter code.old book.old pool.old) (world self.new.emitter code.new book.new pool.new) result }
     {
-        let old = self.emitter;
-        let w = stmt::emit_stmts(text, sheet, code, book, pool, variables, n, old, c);
+        let e = self.emitter;
+        let w = stmt::emit_stmts(text, sheet, code, book, pool, variables, n, e, c);
         self.emitter = w.emitter;
         w.cursor
     }

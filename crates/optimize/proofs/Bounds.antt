@@ -54,14 +54,13 @@ module _ (s : Sheet) (code : List ℕ) (few : length code ≤ max_code) where
     within = omega arith;
   }
 
-  module _ {k : ℕ} (table : List ℕ) (at n : ℕ) (g : Listing s code k table at) (same : n ≡ at) (a : Bytes) (here : a ≡ first_of (decode s (drop at code))) where
-    pub list-goes-on : (length a ≡ 0 → ⊥) → Listing s code k (set table at n) (at + length a)
+  module _ {k : ℕ} (table : List ℕ) (at : ℕ) (g : Listing s code k table at) (a : Bytes) (here : a ≡ first_of (decode s (drop at code))) where
+    pub list-goes-on : 1 ≤ length a → Listing s code k (set table at at) (at + length a)
     unfolding end_from boundaries_from
     list-goes-on full =
-        let d = first-is s code at a here (omega arith) in
-        let w = first-within s code at a here (omega arith) in
-        rw same
-        (record {
+        let d = first-is s code at a here full in
+        let w = first-within s code at a here full in
+        record {
           end = g.end ∙ rw d;
           moved = λ x.
               let m = rw d at (g.moved x) in
@@ -70,24 +69,20 @@ module _ (s : Sheet) (code : List ℕ) (few : length code ≤ max_code) where
           long = length-set table at at ∙ g.long;
           slots = g.slots;
           within = w;
-        })
+        }
 
-    pub list-within : (length a ≡ 0 → ⊥) → at + length a ≤ length code
-    list-within full = first-within s code at a here (omega arith)
-
-    pub list-ends : length a ≡ 0 → Bounds s code (set table at n) at
+    pub list-ends : length a ≡ 0 → Bounds s code (set table at at) at
     unfolding end_from boundaries_from moved_to
     list-ends z =
         let d = first-none s code at a here z in
-        rw same
-        (record {
+        record {
           end = sym (g.end ∙ rw d);
           moved = λ x.
               let m = rw d at (g.moved x) in
               sym (m ∙ moved-set table at at x [] (omega (arith, g.long, g.slots, g.within)) (g.fresh at (omega arith)) refl ∙ add-zero (get_or (set table at at) x 0));
           slots = rw (length-set table at at, g.long) g.slots;
           within = g.within;
-        })
+        }
 
 -- ---- what the table says of an offset
 

@@ -1,5 +1,5 @@
 -- The entry that is called alone: 14, 7 and 9 before the rest.
-use mathlib.Core.Path.{◌≡◌, refl, sym, ◌∙◌}
+use mathlib.Core.Path.{◌≡◌, refl}
 use mathlib.Core.Bool.{true, false}
 use mathlib.Core.Option.{Option, some, none}
 use mathlib.Core.List.{List}
@@ -12,21 +12,24 @@ use Rattle.definition.specs.Opcode.{Sheet}
 use Rattle.definition.specs.Sheet.{read_sheet}
 use Rattle.definition.specs.Rules.{Rule, read_rules}
 use Rattle.definition.specs.Compile.{Free}
-use Rattle.definition.specs.Alone as alone
 use Rattle.definition.specs.Alone.{Given, Room, roomy, rewrite_files, rewrite_into, answer, Rewrites}
 use Rattle.store.proofs.Rooms.{have-room}
-use Rattle.opcode.specs.declared.sheet.SheetRead.{SheetRead}
-use Rattle.opcode.specs.declared.sheet.SheetRead.TheVariants.{Accepted, Refused}
-use Rattle.opcode.specs.Table.{IsTable, sheet_in}
-use Rattle.opcode.specs.Reading.{answer_of, Reads, Accepts, Refuses}
+use Rattle.std.specs.Prelude.{Result, Ok, Err, is_err}
+use Rattle.definition.specs.View.{refusal_number}
+use Rattle.definition.specs.declared.Refusal.TheVariants.{OutputShort}
+use Rattle.definition.specs.declared.Refused.{Refused}
+use Rattle.store.specs.Fill.{zeroed_from}
+use Rattle.store.proofs.Fills.{zero-all}
+use Rattle.optimize.specs.declared.alone.Rewritten as code
+use Rattle.optimize.proofs.Whole.{given-as}
+use Rattle.opcode.specs.Table.{sheet_in}
+use Rattle.opcode.specs.Reading.{Accepts, Refuses}
 use Rattle.opcode.proofs.Faults.{some-fault}
-use Rattle.rules.specs.declared.RuleAnswer.{RuleAnswer}
-use Rattle.rules.specs.declared.RuleAnswer.TheVariants as answers
 use Rattle.rules.specs.View as rules
 use Rattle.rules.specs.View.{rules_in, IsRules, table_of, table_for, Answered}
 use Rattle.rules.proofs.Table.{rules-back}
 use Rattle.rules.proofs.Pairs.{read_table}
-use Rattle.optimize.specs.View.{Roomy, after_limits, after_rules, after_sheet}
+use Rattle.optimize.specs.View.{answer_view, Gives, Finds, Roomy, after_limits, after_rules, after_sheet}
 
 -- ---- 9
 
@@ -36,17 +39,17 @@ pub record Read (text table : List ℕ) (count : ℕ) : Type 0 where
   pub held : IsRules table count
   pub same : rules_in table count ≡ rs
 
-read-from : (text table : List ℕ) (count : ℕ) (x : Res (List Rule)) → read_rules text ≡ x → answers.Rules count ≡ rules.answer_of x → table ≡ table_for rules.table_size x → Read text table count
+read-from : (text table : List ℕ) (count : ℕ) (x : Res (List Rule)) → read_rules text ≡ x → ok count ≡ rules.answer_of x → table ≡ table_for rules.table_size x → Read text table count
 unfolding rules.answer_of table_for table_of
 read-from text table count (ok rs) e q h =
     let n : count ≡ length rs = cc in
     record { rs = rs; is = e; held = rw (h, n) (read_table text e); same = rw (h, n) (rules-back rs) }
 read-from text table count (refuse m p) e q h = absurd (let z : ◌≡◌ {A = ℕ} 0 1 = cc in omega arith)
 
-pub rules-read : {text table : List ℕ} {r : RuleAnswer} {count : ℕ} → Answered rules.table_size (read_rules text) r table → r ≡ answers.Rules count → Read text table count
-rules-read {text} {table} {count = count} a e = read-from text table count (read_rules text) refl (sym e ∙ a.is) a.holds
+pub rules-read : {text table : List ℕ} {count : ℕ} → Answered rules.table_size (read_rules text) (ok count) table → Read text table count
+rules-read {text} {table} {count = count} a = read-from text table count (read_rules text) refl a.is a.holds
 
-pub rules-bad : (x : Res (List Rule)) (m p : ℕ) → answers.Refused m p ≡ rules.answer_of x → x ≡ refuse m p
+pub rules-bad : (x : Res (List Rule)) (m p : ℕ) → refuse m p ≡ rules.answer_of x → x ≡ refuse m p
 unfolding rules.answer_of
 rules-bad (ok rs) m p e = absurd (let z : ◌≡◌ {A = ℕ} 0 1 = cc in omega arith)
 rules-bad (refuse n q) m p e =
@@ -54,16 +57,16 @@ rules-bad (refuse n q) m p e =
     let eq : q ≡ p = cc in
     rw (en, eq)
 
-module _ (s : Sheet) (text : List ℕ) (g : Given) (r : Room) {a : alone.Answer} {table : List ℕ} {f : RuleAnswer} (h : Answered rules.table_size (read_rules text) f table) where
-  pub refused-9 : {m p : ℕ} → f ≡ answers.Refused m p → a ≡ answer r (refuse m p) → a ≡ answer r (after_sheet s text g)
+module _ (s : Sheet) (text : List ℕ) (g : Given) where
+  pub refused-9 : {table : List ℕ} {m p : ℕ} → Answered rules.table_size (read_rules text) (refuse m p) table → after_sheet s text g ≡ refuse m p
   unfolding after_sheet ◌>>=◌
-  refused-9 {m} {p} e is = is ∙ rw (rules-bad (read_rules text) m p (sym e ∙ h.is))
+  refused-9 {m = m} {p = p} h = rw (rules-bad (read_rules text) m p h.is)
 
-  pub after-rules : {count : ℕ} → f ≡ answers.Rules count → a ≡ answer r (after_rules s (rules_in table count) g) → a ≡ answer r (after_sheet s text g)
+  pub ruled : {table : List ℕ} {count : ℕ} → Answered rules.table_size (read_rules text) (ok count) table → after_sheet s text g ≡ after_rules s (rules_in table count) g
   unfolding after_sheet ◌>>=◌
-  after-rules e is =
-      let d = rules-read h e in
-      is ∙ rw (d.is, d.same)
+  ruled h =
+      let d = rules-read h in
+      rw (d.is, d.same)
 
 -- ---- 14
 
@@ -83,27 +86,36 @@ order : (sheet rules : List ℕ) (g : Given) (r : Room) (place : ℕ) → rewrit
 unfolding rewrite_into rewrite_files after_sheet after_rules after_limits
 order sheet rules g r place = refl
 
-module _ (sheet rules : List ℕ) (g : Given) (r : Room) {a : alone.Answer} where
-  pub short : roomy r ≡ false → a ≡ answer r (refuse 14 0) → Rewrites r sheet rules g a
+module _ (sheet rules : List ℕ) (g : Given) (r : Room) where
+  pub short : {b o e : List ℕ} → roomy r ≡ false → Finds r sheet rules g (Err (record { refusal = OutputShort; place = 0 })) b o e
   unfolding ◌>>◌ demand
-  short off is =
+  short off =
       let f = place-by sheet (read_sheet sheet) refl in
-      record { place = f.0; free = f.1; is = is ∙ rw (order sheet rules g r f.0, off) }
+      record { place = f.0; free = f.1; is = rw (order sheet rules g r f.0, off) }
 
   -- ---- 7, and the rest
-  module _ (table : List ℕ) (f : SheetRead) (room : roomy r ≡ true) (h : Reads sheet table (answer_of f)) where
-    pub refused-7 : {n p : ℕ} → f ≡ Refused n p → a ≡ answer r (refuse n p) → Rewrites r sheet rules g a
+  module _ (table : List ℕ) (room : roomy r ≡ true) where
+    pub refused-7 : (x : Refused) {b o e : List ℕ} → Refuses sheet table (refusal_number x.refusal) x.place → Finds r sheet rules g (Err x) b o e
     unfolding ◌>>◌ ◌>>=◌ demand given Free
-    refused-7 {n} {p} e is =
-        let d : Refuses sheet table n p = rw e at h in
-        record { place = p; free = λ _. d.fault; is = is ∙ rw (order sheet rules g r p, room, d.is, d.number) }
+    refused-7 x d = record { place = x.place; free = λ _. d.fault; is = rw (order sheet rules g r x.place, room, d.is, d.number) }
 
-    pub after-sheet : f ≡ Accepted → a ≡ answer r (after_sheet (sheet_in table) rules g) → Rewrites r sheet rules g a
-    unfolding ◌>>◌ ◌>>=◌ demand given Free
-    after-sheet e is =
-        let d : Accepts sheet table = rw e at h in
+    sheeted : Accepts sheet table → rewrite_into 0 r sheet rules g ≡ after_sheet (sheet_in table) rules g
+    unfolding ◌>>◌ ◌>>=◌ demand given
+    sheeted d = rw (order sheet rules g r 0, room, d.is)
+
+    pub after-sheet : (a : Result code.Rewritten Refused) {b o e : List ℕ} → Accepts sheet table → Gives r (after_sheet (sheet_in table) rules g) a b o e → Finds r sheet rules g a b o e
+    unfolding Free
+    after-sheet a {b} {o} {e} d h =
         let good = d.is in
-        record { place = 0; free = λ q. absurd (let z : ◌≡◌ {A = ℕ} 0 1 = cc in omega arith); is = is ∙ rw (order sheet rules g r 0, room, d.is) }
+        record { place = 0; free = λ q. absurd (let z : ◌≡◌ {A = ℕ} 0 1 = cc in omega arith); is = given-as r a b o e (sheeted d) h }
 
-pub sheet-ready : (sheet table : List ℕ) (f : SheetRead) → Reads sheet table (answer_of f) → f ≡ Accepted → IsTable table
-sheet-ready sheet table f h e = let d : Accepts sheet table = rw e at h in d.ready
+  -- ---- what is answered, the outputs zeroed after a refusal
+  pub told-refused : (a : Result code.Rewritten Refused) {b o e b' o' e' : List ℕ} → Finds r sheet rules g a b o e → is_err a ≡ true → length b ≡ r.code → length o ≡ r.protected → length e ≡ r.lines
+      → b' ≡ zeroed_from 0 b → o' ≡ zeroed_from 0 o → e' ≡ zeroed_from 0 e → Rewrites r sheet rules g (answer_view a b' o' e')
+  unfolding answer
+  told-refused (Ok a) f h lb lo le zb zo ze = absurd (let z : ◌≡◌ {A = ℕ} 0 1 = cc in omega arith)
+  told-refused (Err a) {b} {o} {e} f h lb lo le zb zo ze = record { place = f.place; free = f.free; is = rw (f.is, zero-all b zb, zero-all o zo, zero-all e ze, lb, lo, le) }
+
+  pub told-kept : (a : Result code.Rewritten Refused) {b o e : List ℕ} → Finds r sheet rules g a b o e → is_err a ≡ false → Rewrites r sheet rules g (answer_view a b o e)
+  told-kept (Ok a) f h = record { place = f.place; free = f.free; is = f.is }
+  told-kept (Err a) f h = absurd (let z : ◌≡◌ {A = ℕ} 0 1 = cc in omega arith)

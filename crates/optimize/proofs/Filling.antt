@@ -25,8 +25,8 @@ exactly room xs ys e = rw (behind room xs (length xs) refl, e)
 pub front_long : {b : List ℕ} (room : ℕ) (xs : List ℕ) → length xs ≤ room → b ≡ fitted room xs → length xs ≡ length (take (length xs) b)
 front_long room xs h e = sym (ap length (front_of room xs (fitted-is room xs h e)))
 
-pub lent : {sheet rules code protected b o : List ℕ} {count : ℕ} (m n : ℕ) → Runnable sheet rules count code protected → length code ≤ m → length protected ≤ n → b ≡ fitted m code → o ≡ fitted n protected
-    → Runnable sheet rules count (take (length code) b) (take (length protected) o)
+pub lent : {sheet code protected b o : List ℕ} (m n : ℕ) → Runnable sheet code protected → length code ≤ m → length protected ≤ n → b ≡ fitted m code → o ≡ fitted n protected
+    → Runnable sheet (take (length code) b) (take (length protected) o)
 lent {code = code} {protected = protected} m n r fc fp eb eo = rw (front_of m code (fitted-is m code fc eb), front_of n protected (fitted-is n protected fp eo)) r
 
 pub rewrote : (s : Sheet) (rules : List Rule) (code protected total bytes offsets : List ℕ) {b o d p t : List ℕ} {n : ℕ}

@@ -2,8 +2,8 @@
 use mathlib.Core.Path.{◌≡◌, refl, ap, sym, ◌∙◌}
 use mathlib.Core.Bool.{Bool, true, false, ◌||◌}
 use mathlib.Core.Option.{Option, some, none}
-use mathlib.Core.List.{List, [], ◌∷◌, ◌++◌, map}
-use Prim.Native.Nat.{ℕ, zero, suc, ◌+◌, ◌≤◌, ◌<◌}
+use mathlib.Core.List.{List, [], ◌∷◌, ◌++◌, map, append-nil}
+use Prim.Native.Nat.{ℕ, zero, suc, ◌+◌, ◌-◌, ◌≤◌, ◌<◌}
 use native.Mathlib.Omega.{arith}
 use lib.ListN.{length, take, drop, get_or}
 use lib.Seq.{length-take-le}
@@ -16,7 +16,8 @@ use Rattle.rules.specs.View.{rules_in}
 use Rattle.rewrite.specs.View.{marked, matcher, Peephole}
 use Rattle.store.proofs.Fills.{front, refilled, length-filled}
 use Rattle.rewrite.proofs.Pass.{acts-pair, paired}
-use Rattle.optimize.specs.View.{Marks, map_from, map_in, Runnable, Ran, pipeline}
+use Rattle.definition.specs.Lent.{filled, zeros}
+use Rattle.optimize.specs.View.{Small, passes, Marks, map_from, map_in, Runnable, Ran, pipeline}
 use Rattle.optimize.proofs.Tables.{moved_in}
 
 -- ---- a pass asks only which offsets are protected
@@ -109,11 +110,34 @@ then-run s rules {q} {code} {c} {p} {t} {d} {p'} {t'} {n} {n'} pass a b =
       small = b'.small;
     }
 
+-- what k passes make
+unfoldable pub done : Sheet → List Rule → Pipeline → ℕ → Pipeline
+done s rules p zero = p
+done s rules p (suc k) = run s rules (suc k) (done s rules p k)
+
+pub done-first : (s : Sheet) (rules : List Rule) (code protected total : List ℕ) → Small (suc (length code)) protected → Ran (done s rules (pipeline code protected total) 0) code code protected total (length code)
+unfolding done filled zeros
+done-first s rules code protected total small =
+    let none : length code - length code ≡ 0 = omega arith in
+    record { bytes = sym (rw none (append-nil code)); end = refl; within = omega arith; protected = refl; map = refl; small = small }
+
+pub done-more : (s : Sheet) (rules : List Rule) (p : Pipeline) (pass : ℕ) → 1 ≤ pass → done s rules p (pass + 1 - 1) ≡ run s rules pass (done s rules p (pass - 1))
+unfolding done
+done-more s rules p zero h = absurd (omega arith)
+done-more s rules p (suc k) h =
+    let e : suc k + 1 - 1 ≡ suc k = omega arith in
+    let f : suc k - 1 ≡ k = omega arith in
+    rw (e, f)
+
+pub done-all : (s : Sheet) (rules : List Rule) (p : Pipeline) → done s rules p 3 ≡ passes s rules p
+unfolding done passes
+done-all s rules p = refl
+
 -- what the next pass is lent
-pub runnable : {sheet rules : List ℕ} {count : ℕ} {code c p p₀ t : List ℕ} {n : ℕ} {q : Pipeline} → Runnable sheet rules count code p₀ → Ran q code c p t n → Runnable sheet rules count (take n c) p
+pub runnable : {sheet code c p p₀ t : List ℕ} {n : ℕ} {q : Pipeline} → Runnable sheet code p₀ → Ran q code c p t n → Runnable sheet (take n c) p
 runnable {code = code} {c = c} {n = n} {q = q} r a =
     let here : take n c ≡ q.bytecode = rw a.bytes (front (length code) q.bytecode n (sym a.end)) in
-    record { table = r.table; held = r.held; few = rw here (omega (arith, a.end, a.within, r.few)); small = rw (here, ← a.end) a.small }
+    record { table = r.table; few = rw here (omega (arith, a.end, a.within, r.few)); small = rw (here, ← a.end) a.small }
 
 pub ran-long : {code c p t : List ℕ} {n : ℕ} {q : Pipeline} → Ran q code c p t n → length c ≡ length code
 ran-long {code} {c} {q = q} a = ap length a.bytes ∙ length-filled (length code) q.bytecode (omega (arith, a.end, a.within))

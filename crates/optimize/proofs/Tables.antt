@@ -35,12 +35,6 @@ pub moved_in : (table : List ℕ) (x : ℕ) → moved_to (map_in table) x ≡ ge
 unfolding map_in
 moved_in table x = let z : 0 + x ≡ x = omega arith in rw z at (moved-from 0 x table)
 
-pub moved_at : (table : List ℕ) (x : ℕ) {at : ℕ} → at ≡ x → get_or table at 0 ≡ moved_to (map_in table) x
-moved_at table x e = rw e (sym (moved_in table x))
-
-pub moved-past-end : (table : List ℕ) (x : ℕ) {at : ℕ} → at ≡ x → length table ≤ at → 0 ≡ moved_to (map_in table) x
-moved-past-end table x e h = sym (moved_in table x ∙ get_or-eq_default table 0 (rw e at h))
-
 -- ---- a table's fixed offsets
 
 pub has-fixed : (table : List ℕ) (x : ℕ) → 1 ≤ length table → has (fixed_in table) x ≡ eqb (get_or table x 0) x
@@ -150,5 +144,5 @@ fixed-small table x slots h = by_place (leb (length table) x) refl
     by_place false q = leb-false (length table) x q
 
 -- one offset's test in code
-pub is-fixed : (table : List ℕ) (x y : ℕ) → 1 ≤ length table → y ≡ moved_to (map_in table) x → eqb y x ≡ has (fixed_in table) x
-is-fixed table x y slots e = rw (e, moved_in table x) (sym (has-fixed table x slots))
+pub is-fixed : (table : List ℕ) (x : ℕ) {y : ℕ} → 1 ≤ length table → y ≡ moved_to (map_in table) x → has (fixed_in table) x ≡ eqb y x
+is-fixed table x slots e = rw (e, moved_in table x) (has-fixed table x slots)

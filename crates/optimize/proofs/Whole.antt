@@ -19,11 +19,11 @@ use Rattle.definition.specs.Res.{Res, ok, refuse, ◌>>◌, demand}
 use Rattle.definition.specs.Lent.{entries_of}
 use Rattle.definition.specs.Alone as def-alone
 use Rattle.definition.specs.Alone.{Given, Room, checked, rewritten, answer}
-use Rattle.optimize.specs.declared.Offset.{Offset}
-use Rattle.optimize.specs.declared.Offset.TheVariants.{Fine, Bad}
-use Rattle.optimize.specs.View.{pipeline, passes, map_in, given, room, answer_view, Passed, Rewrote, Remaps, Roomy, Within, over_limit, after_limits, after_rules}
-use Rattle.store.specs.Fill.{zeroed_from}
-use Rattle.store.proofs.Fills.{zero-all}
+use Rattle.std.specs.Prelude.{Result, Ok, Err}
+use Rattle.optimize.specs.View.{pipeline, passes, map_in, given, room, limited, answer_view, Gives, Passed, Rewrote, Remaps, Roomy, Within, after_limits, after_rules}
+use Rattle.optimize.specs.declared.alone.Rewritten as code
+use Rattle.definition.specs.declared.Refused.{Refused}
+use Rattle.definition.specs.View.{refusal_number}
 use Rattle.line_map.proofs.Entries.{count_entries}
 use Rattle.optimize.proofs.Tables.{moved_in}
 use Rattle.optimize.proofs.Lines.{remap-test}
@@ -83,28 +83,22 @@ same-remap m n end last (x ∷ xs) h =
 
 -- ---- what is answered
 
-pub refused : (number place : ℕ) (bytes offsets entries : List ℕ) {b o e : List ℕ} → b ≡ zeroed_from 0 bytes → o ≡ zeroed_from 0 offsets → e ≡ zeroed_from 0 entries
-    → answer_view (record { number = number; place = place; bytes = 0; protected = 0; entries = 0 }) b o e ≡ answer (room bytes offsets entries) (refuse number place)
-unfolding answer
-refused number place bytes offsets entries eb eo ee = rw (zero-all bytes eb, zero-all offsets eo, zero-all entries ee)
-
 -- 8
-pub refused-8 : (s : Sheet) (rs : List Rule) (g : Given) {table : List ℕ} {o : Offset} {x p : ℕ} {a : def-alone.Answer} (r : Room) → Passed s g table o → o ≡ Bad x → p ≡ x
-    → a ≡ answer r (refuse 8 p) → a ≡ answer r (after_limits s rs g)
+pub refused-8 : (s : Sheet) (rs : List Rule) (g : Given) {table : List ℕ} {x p : ℕ} → Passed s g table (Err x) → p ≡ x → after_limits s rs g ≡ refuse bad_code p
 unfolding after_limits ◌>>◌
-refused-8 s rs g {x = x} {p = p} r pass q e is =
-    let c : refuse bad_code x ≡ checked s g = rw q at pass.is in
-    is ∙ rw (e, ← c)
+refused-8 s rs g {x = x} {p = p} pass e =
+    let c : refuse bad_code x ≡ checked s g = pass.is in
+    rw (e, ← c)
 
-pub finished : (s : Sheet) (rs : List Rule) (code protected lines total bytes offsets entries : List ℕ) {t b o e : List ℕ} {f : Offset} {n k : ℕ}
-    → Passed s (given code protected lines) total f → f ≡ Fine
+pub finished : (s : Sheet) (rs : List Rule) (code protected lines total bytes offsets entries : List ℕ) {t b o e : List ℕ} {n k : ℕ}
+    → Passed s (given code protected lines) total (Ok tt)
     → Rewrote (passes s rs (pipeline code protected total)) bytes offsets b o t n
     → Remaps (remap_line_map (map_in t) n none (entries_of lines)) entries e k
-    → answer_view (record { number = 0; place = 0; bytes = n; protected = length protected; entries = k }) b o e
+    → answer_view (Ok (record { bytes = n; protected = length protected; entries = k })) b o e
     ≡ answer (room bytes offsets entries) (after_limits s rs (given code protected lines))
 unfolding after_limits ◌>>◌ answer rewritten passes optimize run
-finished s rs code protected lines total bytes offsets entries {t = t} {n = n} {k = k} pass q w m =
-    let c : ok tt ≡ checked s (given code protected lines) = rw q at pass.is in
+finished s rs code protected lines total bytes offsets entries {t = t} {n = n} {k = k} pass w m =
+    let c : ok tt ≡ checked s (given code protected lines) = pass.is in
     let q₃ = passes s rs (pipeline code protected total) in
     let same : remap_line_map (map_in t) n none (entries_of lines) ≡ remap_line_map (optimize s rs code protected).map (length q₃.bytecode) none (entries_of lines)
     = rw (w.map, w.end) (same-remap q₃.map (optimize s rs code protected).map (length q₃.bytecode) none (entries_of lines)
@@ -116,46 +110,45 @@ finished s rs code protected lines total bytes offsets entries {t = t} {n = n} {
 
 -- ---- the limits, in their order
 
-limits : (s : Sheet) (rs : List Rule) (g : Given) → after_rules s rs g
-    ≡ (demand (leb (length g.code) max_code) code_full 0 >> (demand (leb (length g.protected) max_protected) labels_full 0
-    >> (demand (leb (length (entries_of g.lines)) max_lines) lines_full 0 >> after_limits s rs g)))
-unfolding after_rules
-limits s rs g = refl
+-- what follows the limits' tests, t, u and v
+by-limits : {A : Type 0} (t u v : Bool) (x : Res A) → (demand t code_full 0 >> (demand u labels_full 0 >> (demand v lines_full 0 >> x)))
+    ≡ ((demand t code_full 0 >> (demand u labels_full 0 >> demand v lines_full 0)) >> x)
+unfolding ◌>>◌ demand
+by-limits true true true x = refl
+by-limits true true false x = refl
+by-limits true false v x = refl
+by-limits false u v x = refl
 
-limit-kept : (code protected entries : ℕ) {n : ℕ} → n ≡ over_limit code protected entries → n ≡ 0 → (code ≤ max_code) × (protected ≤ max_protected) × (entries ≤ max_lines)
-unfolding over_limit
+module _ (s : Sheet) (rs : List Rule) (g : Given) where
+  limits : after_rules s rs g ≡ (limited (length g.code) (length g.protected) (length g.lines / entry_size) >> after_limits s rs g)
+  unfolding after_rules limited
+  limits = rw (count_entries g.lines) (by-limits _ _ _ (after_limits s rs g))
+
+  pub over-limits : (e : Refused) → refuse (refusal_number e.refusal) e.place ≡ limited (length g.code) (length g.protected) (length g.lines / entry_size) → after_rules s rs g ≡ refuse (refusal_number e.refusal) e.place
+  unfolding ◌>>◌
+  over-limits e h = rw (limits, ← h)
+
+  pub within-limits : ok tt ≡ limited (length g.code) (length g.protected) (length g.lines / entry_size) → after_rules s rs g ≡ after_limits s rs g
+  unfolding ◌>>◌
+  within-limits h = rw (limits, ← h)
+
+limit-kept : (code protected entries : ℕ) → ok tt ≡ limited code protected entries → (code ≤ max_code) × (protected ≤ max_protected) × (entries ≤ max_lines)
+unfolding limited ◌>>◌ demand
 limit-kept code protected entries = go (leb code max_code) refl (leb protected max_protected) refl (leb entries max_lines) refl
   where
     go : (t : Bool) → leb code max_code ≡ t → (u : Bool) → leb protected max_protected ≡ u → (v : Bool) → leb entries max_lines ≡ v
-        → {n : ℕ} → n ≡ elim t [ true ↦ elim u [ true ↦ elim v [ true ↦ 0 | false ↦ lines_full ] | false ↦ labels_full ] | false ↦ code_full ] → n ≡ 0
-        → (code ≤ max_code) × (protected ≤ max_protected) × (entries ≤ max_lines)
-    go true a true b true d e z = (leb-true code max_code a, leb-true protected max_protected b, leb-true entries max_lines d)
-    go true a true b false d e z = absurd (omega arith)
-    go true a false b v d e z = absurd (omega arith)
-    go false a u b v d e z = absurd (omega arith)
+        → ok tt ≡ (demand t code_full 0 >> (demand u labels_full 0 >> demand v lines_full 0)) → (code ≤ max_code) × (protected ≤ max_protected) × (entries ≤ max_lines)
+    go true a true b true d e = (leb-true code max_code a, leb-true protected max_protected b, leb-true entries max_lines d)
+    go true a true b false d e = absurd (let z : ◌≡◌ {A = ℕ} 0 1 = cc in omega arith)
+    go true a false b v d e = absurd (let z : ◌≡◌ {A = ℕ} 0 1 = cc in omega arith)
+    go false a u b v d e = absurd (let z : ◌≡◌ {A = ℕ} 0 1 = cc in omega arith)
 
--- what follows the limits' tests, t, u and v
-by-limits : {A : Type 0} (t u v : Bool) (x : Res A) {n : ℕ} → n ≡ elim t [ true ↦ elim u [ true ↦ elim v [ true ↦ 0 | false ↦ lines_full ] | false ↦ labels_full ] | false ↦ code_full ]
-    → ((n ≡ 0 → ⊥) → (demand t code_full 0 >> (demand u labels_full 0 >> (demand v lines_full 0 >> x))) ≡ refuse n 0)
-    × (n ≡ 0 → (demand t code_full 0 >> (demand u labels_full 0 >> (demand v lines_full 0 >> x))) ≡ x)
-unfolding ◌>>◌ demand
-by-limits true true true x e = (λ h. absurd (h e), λ _. refl)
-by-limits true true false x e = (λ _. rw e, λ z. absurd (omega arith))
-by-limits true false v x e = (λ _. rw e, λ z. absurd (omega arith))
-by-limits false u v x e = (λ _. rw e, λ z. absurd (omega arith))
-
-module _ (s : Sheet) (rs : List Rule) (g : Given) (r : Room) {n : ℕ} (e : n ≡ over_limit (length g.code) (length g.protected) (length g.lines / entry_size)) where
-  tested : ((n ≡ 0 → ⊥) → after_rules s rs g ≡ refuse n 0) × (n ≡ 0 → after_rules s rs g ≡ after_limits s rs g)
-  unfolding over_limit
-  tested = rw (limits s rs g, count_entries g.lines) (by-limits _ _ _ (after_limits s rs g) e)
-
-  pub over-limits : {a : def-alone.Answer} → (n ≡ 0 → ⊥) → a ≡ answer r (refuse n 0) → a ≡ answer r (after_rules s rs g)
-  over-limits h is = is ∙ ap (answer r) (sym (tested.0 h))
-
-  pub within-limits : {a : def-alone.Answer} → n ≡ 0 → a ≡ answer r (after_limits s rs g) → a ≡ answer r (after_rules s rs g)
-  within-limits z is = is ∙ ap (answer r) (sym (tested.1 z))
-
-pub holds : {g : Given} {r : Room} {n : ℕ} → n ≡ over_limit (length g.code) (length g.protected) (length g.lines / entry_size) → n ≡ 0 → Roomy r → Within g r
-holds e z m =
-    let k = limit-kept _ _ _ e z in
+pub holds : {g : Given} {r : Room} → ok tt ≡ limited (length g.code) (length g.protected) (length g.lines / entry_size) → Roomy r → Within g r
+holds e m =
+    let k = limit-kept _ _ _ e in
     record { few = k.0; code = omega (arith, m.code, k.0); protected = omega (arith, m.protected, k.1); lines = omega (arith, m.lines, k.2) }
+
+-- the answer to one thing is that to another which comes to the same
+pub given-as : (r : Room) {x y : Res def-alone.Rewritten} (a : Result code.Rewritten Refused) (b o e : List ℕ) → y ≡ x → Gives r x a b o e → Gives r y a b o e
+given-as r (Ok a) b o e q g = g ∙ ap (answer r) (sym q)
+given-as r (Err a) b o e q g = q ∙ g

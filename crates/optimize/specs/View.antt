@@ -1,6 +1,7 @@
 -- What this crate's functions give, said of the definition.
 use Rattle.std.specs.Prelude.{ℕ, ◌*◌, ◌/◌, ◌≤◌, ◌<◌, suc, ◌≡◌, true, false, List, [], ◌∷◌, map, eqb, leb, length, get_or}
-use Rattle.std.proofs.Math.Option.{Option, some, none}
+use Rattle.std.specs.Prelude as std
+use Rattle.std.specs.Prelude.{Some, None, Result, Ok, Err}
 use Rattle.definition.specs.Limits.{max_code, max_protected, max_lines, entry_size, bad_code, code_full, labels_full, lines_full}
 use Rattle.definition.specs.Res.{Res, ok, refuse, ◌>>=◌, ◌>>◌, demand}
 use Rattle.definition.specs.Field.{has}
@@ -11,18 +12,15 @@ use Rattle.definition.specs.Lent.{filled, entry_numbers, entries_of}
 use Rattle.definition.specs.Optimize.{Pipeline, run, identity}
 use Rattle.definition.specs.Rules.{Rule, read_rules}
 use Rattle.opcode.specs.Table.{IsTable}
-use Rattle.rules.specs.View.{IsRules}
 use Rattle.definition.specs.Alone as def-alone
-use Rattle.definition.specs.Alone.{Given, Rewritten, Room, checked, rewritten}
-use Rattle.optimize.specs.declared.alone.Answer.{Answer}
+use Rattle.definition.specs.Alone.{Given, Rewritten, Room, checked, rewritten, rewrite_into, answer}
+use Rattle.definition.specs.View.{refusal_number}
+use Rattle.definition.specs.Compile.{Free}
+use Rattle.definition.specs.declared.Refused.{Refused}
+use Rattle.optimize.specs.declared.alone.Rewritten as code
 use Rattle.line_map.specs.View.{entry_view}
 use Rattle.rewrite.specs.View.{offsets_where, marked}
-use Rattle.optimize.specs.declared.Kept.{Kept}
-use Rattle.optimize.specs.declared.Kept.TheVariants.{None, At}
-use Rattle.optimize.specs.declared.Remapped.{Remapped}
-use Rattle.optimize.specs.declared.Remapped.TheVariants.{Gone, Moved}
-use Rattle.optimize.specs.declared.Offset.{Offset}
-use Rattle.optimize.specs.declared.Offset.TheVariants.{Fine, Bad}
+use Rattle.line_map.specs.declared.LineEntry.{LineEntry}
 
 -- ---- tables by offset
 
@@ -62,10 +60,9 @@ pipeline code protected total = record { bytecode = code; protected = protected;
 unfoldable pub passes : Sheet → List Rule → Pipeline → Pipeline
 passes s rules p = run s rules 3 (run s rules 2 (run s rules 1 p))
 
--- what is lent to a pass
-pub record Runnable (sheet rules : List ℕ) (count : ℕ) (code protected : List ℕ) : Type 0 where
+-- what is lent to a pass beside its rules
+pub record Runnable (sheet code protected : List ℕ) : Type 0 where
   pub table : IsTable sheet
-  pub held : IsRules rules count
   pub few : length code ≤ max_code
   pub small : Small (suc (length code)) protected
 
@@ -87,32 +84,34 @@ pub record Rewrote (p : Pipeline) (bytes offsets bytes' offsets' total' : List �
 
 -- ---- the types of this crate
 
-abbrev pub kept_view : Kept → Option ℕ
-kept_view None = none
-kept_view (At x) = some x
-
-abbrev pub remapped_view : Remapped → List def.LineEntry
-remapped_view Gone = []
-remapped_view (Moved e) = entry_view e ∷ []
+-- an entry that is kept, or none
+abbrev pub remapped_view : std.Option LineEntry → List def.LineEntry
+remapped_view None = []
+remapped_view (Some e) = entry_view e ∷ []
 
 -- the last kept entry's offset, after one entry more
-abbrev pub last_after : Remapped → Kept → Kept
-last_after Gone last = last
-last_after (Moved e) last = At e.offset
+abbrev pub last_after : std.Option LineEntry → std.Option ℕ → std.Option ℕ
+last_after None last = last
+last_after (Some e) last = Some e.offset
+
+-- one offset's check, by the offsets that are fine
+abbrev pub CheckedOffset : List ℕ → ℕ → Result (Unit {0}) ℕ → Type 0
+CheckedOffset fine x (Ok u) = has fine x ≡ true
+CheckedOffset fine x (Err y) = (y ≡ x) × (has fine x ≡ false)
 
 -- what the check of a list of offsets comes to
-abbrev pub offset_view : Offset → Res (Unit {0})
-offset_view Fine = ok tt
-offset_view (Bad x) = refuse bad_code x
+abbrev pub offset_view : Result (Unit {0}) ℕ → Res (Unit {0})
+offset_view (Ok u) = ok tt
+offset_view (Err x) = refuse bad_code x
 
 -- the offsets of a line list's entries
 abbrev pub entry_offsets : List ℕ → List ℕ
 entry_offsets lines = map (λ (x : def.LineEntry). x.offset) (entries_of lines)
 
 -- where nothing is bad, every offset has a place in a table of k elements
-pub record Checks (result : Res (Unit {0})) (k : ℕ) (list : List ℕ) (r : Offset) : Type 0 where
+pub record Checks (result : Res (Unit {0})) (k : ℕ) (list : List ℕ) (r : Result (Unit {0}) ℕ) : Type 0 where
   pub is : offset_view r ≡ result
-  pub small : r ≡ Fine → Small k list
+  pub small : r ≡ Ok tt → Small k list
 
 -- the entries kept from the start of an output of numbers, and 0 up to its end
 pub record Remaps (kept : List def.LineEntry) (out out' : List ℕ) (r : ℕ) : Type 0 where
@@ -125,11 +124,11 @@ abbrev pub given : List ℕ → List ℕ → List ℕ → Given
 given code protected lines = record { code = code; protected = protected; lines = lines }
 
 -- the check of code, protected offsets and line offsets, and the table of boundaries that it leaves
-pub record Passed (s : Sheet) (g : Given) (table : List ℕ) (r : Offset) : Type 0 where
+pub record Passed (s : Sheet) (g : Given) (table : List ℕ) (r : Result (Unit {0}) ℕ) : Type 0 where
   pub is : offset_view r ≡ checked s g
   pub end : ℕ
   pub bounds : Bounds s g.code table end
-  pub small : r ≡ Fine → Small (suc (length g.code)) g.protected
+  pub small : r ≡ Ok tt → Small (suc (length g.code)) g.protected
 
 abbrev pub room_of : ℕ → ℕ → ℕ → Room
 room_of bytes offsets entries = record { code = bytes; protected = offsets; lines = entries }
@@ -138,10 +137,10 @@ abbrev pub room : List ℕ → List ℕ → List ℕ → Room
 room bytes offsets entries = room_of (length bytes) (length offsets) (length entries)
 
 -- the answer with what the outputs hold
-abbrev pub answer_view : Answer → List ℕ → List ℕ → List ℕ → def-alone.Answer
-answer_view r bytes offsets entries = record {
-  number = r.number;
-  place = r.place;
+abbrev pub answer_view : Result code.Rewritten Refused → List ℕ → List ℕ → List ℕ → def-alone.Answer
+answer_view (Ok r) bytes offsets entries = record {
+  number = 0;
+  place = 0;
   code_length = r.bytes;
   protected_count = r.protected;
   entry_count = r.entries;
@@ -149,11 +148,27 @@ answer_view r bytes offsets entries = record {
   protected = offsets;
   lines = entries;
 }
+answer_view (Err e) bytes offsets entries = record {
+  number = refusal_number e.refusal;
+  place = e.place;
+  code_length = 0;
+  protected_count = 0;
+  entry_count = 0;
+  code = bytes;
+  protected = offsets;
+  lines = entries;
+}
 
--- tables of a sheet and of rules that were accepted
-pub record Tables (sheet rules : List ℕ) (count : ℕ) : Type 0 where
-  pub table : IsTable sheet
-  pub held : IsRules rules count
+-- what is found before the outputs are zeroed, which hold anything where it is a refusal
+abbrev pub Gives : Room → Res Rewritten → Result code.Rewritten Refused → List ℕ → List ℕ → List ℕ → Type 0
+Gives room x (Ok r) bytes offsets entries = answer_view (Ok r) bytes offsets entries ≡ answer room x
+Gives room x (Err e) bytes offsets entries = x ≡ refuse (refusal_number e.refusal) e.place
+
+-- all of it is fixed but 7's place
+pub record Finds (room : Room) (sheet rules : List ℕ) (g : Given) (r : Result code.Rewritten Refused) (bytes offsets entries : List ℕ) : Type 0 where
+  pub place : ℕ
+  pub free : Free sheet place
+  pub is : Gives room (rewrite_into place room sheet rules g) r bytes offsets entries
 
 -- outputs that no result is too long for
 pub record Roomy (r : Room) : Type 0 where
@@ -168,12 +183,12 @@ pub record Within (g : Given) (r : Room) : Type 0 where
   pub protected : length g.protected ≤ r.protected
   pub lines : length g.lines / entry_size * entry_size ≤ r.lines
 
--- the refusal of what is over its limit; 0 if nothing is
-unfoldable pub over_limit : ℕ → ℕ → ℕ → ℕ
-over_limit code protected entries = elim (leb code max_code) [
-  | true ↦ elim (leb protected max_protected) [ true ↦ elim (leb entries max_lines) [ true ↦ 0 | false ↦ lines_full ] | false ↦ labels_full ]
-  | false ↦ code_full
-]
+-- 10, 11 and 12, for so many bytes, protected offsets and entries
+unfoldable pub limited : ℕ → ℕ → ℕ → Res (Unit {0})
+limited code protected entries = do
+  demand (leb code max_code) code_full 0
+  demand (leb protected max_protected) labels_full 0
+  demand (leb entries max_lines) lines_full 0
 
 -- what is left of the call after 10, 11 and 12, and before them
 unfoldable pub after_limits : Sheet → List Rule → Given → Res Rewritten

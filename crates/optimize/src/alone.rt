@@ -1,50 +1,23 @@
 // Rewriting and line mapping called alone: refusals in their order (14, 7, 9, 10, 11, 12, 8), then the passes.
-ghost use Rattle.std.specs.Prelude.{◌≡◌, suc, length};
-ghost use Rattle.definition.specs.Res.{refuse};
-ghost use Rattle.definition.specs.Alone.{roomy, answer, Rewrites};
-ghost use Rattle.rewrite.specs.View.{Clear};
+ghost use Rattle.std.specs.Prelude.{◌≡◌, ◌≤◌, ◌<◌, suc, length};
+ghost use Rattle.definition.specs.Alone.{roomy, Rewrites};
+ghost use Rattle.definition.specs.View.{res_of};
+ghost use Rattle.rewrite.specs.View.{Clear, slot_count};
 ghost use Rattle.opcode.specs.Table.{IsTable, sheet_in};
 ghost use Rattle.rules.specs.View.{rules_in};
-ghost use Rattle.optimize.specs.View.{given, room, room_of, over_limit, answer_view, Tables, Within, Roomy, after_limits, after_rules, after_sheet};
+ghost use Rattle.optimize.specs.View.{given, room, room_of, limited, answer_view, Gives, Finds, Within, Roomy, after_limits, after_rules};
 
-use crate::Offset;
-use definition::{
-    BAD_CODE, CODE_FULL, ENTRY_SIZE, LABELS_FULL, LINES_FULL, MAX_CODE, MAX_LINES, MAX_PROTECTED,
-    OUTPUT_SHORT,
-};
-use opcode::sheet::SheetRead;
-use rules::RuleAnswer;
+use definition::{ENTRY_SIZE, MAX_CODE, MAX_LINES, MAX_PROTECTED, Refusal, Refused};
+use opcode::sheet;
+use rewrite::{MIDDLE_CODE, MIDDLE_SLOTS, SLOTS, SMALL_CODE, SMALL_SLOTS};
+use rules::Rules;
 
-// What is answered: a refusal's number and place, or 0, 0 and how many bytes, protected offsets and entries the outputs hold.
+// How many bytes, protected offsets and entries the outputs hold.
 #[derive(Clone, Copy)]
-pub struct Answer {
-    pub number: u8,
-    pub place: u32,
+pub struct Rewritten {
     pub bytes: usize,
     pub protected: usize,
     pub entries: usize,
-}
-
-// A refusal, which zeroes every output.
-fn refuse(
-    number: u8,
-    place: u32,
-    bytes: &mut [u8],
-    offsets: &mut [u16],
-    entries: &mut [u16],
-) -> Answer
-    ensures { answer_view result bytes.new offsets.new entries.new ≡ answer (room bytes.old offsets.old entries.old) (refuse number place) }
-{
-    store::zero_bytes(bytes, 0);
-    store::zero_numbers(offsets, 0);
-    store::zero_numbers(entries, 0);
-    Answer {
-        number: number,
-        place: place,
-        bytes: 0,
-        protected: 0,
-        entries: 0,
-    }
 }
 
 // Has each lent output room for any result?
@@ -61,27 +34,26 @@ fn roomy(bytes: usize, offsets: usize, entries: usize) -> bool
     )
 }
 
-// The refusal of what is over its limit, 10, 11 or 12; 0 if nothing is.
-fn over_limit(code: usize, protected: usize, entries: usize) -> u8
-    ensures { result ≡ over_limit code protected entries }
+// 10, 11 and 12.
+fn check_limits(code: usize, protected: usize, entries: usize) -> Result<(), Refused>
+    ensures { res_of (λ u. u) result ≡ limited code protected entries }
 {
-    if code > MAX_CODE {
-        return CODE_FULL;
-    }
-    if protected > MAX_PROTECTED {
-        return LABELS_FULL;
-    }
-    if entries > MAX_LINES {
-        return LINES_FULL;
-    }
-    0
+    let refusal = if code > MAX_CODE {
+        Refusal::CodeFull
+    } else if protected > MAX_PROTECTED {
+        Refusal::LabelsFull
+    } else if entries > MAX_LINES {
+        Refusal::LinesFull
+    } else {
+        return Ok(());
+    };
+    Err(Refused { refusal, place: 0 })
 }
 
 // Within the limits: 8, or the code rewritten and the lines mapped. The tables are lent, an element for each offset.
 fn rewrite_checked(
     sheet: &[u8],
-    rules: &[u16],
-    count: usize,
+    rules: Rules,
     code: &[u8],
     protected: &[u16],
     lines: &[u16],
@@ -91,141 +63,101 @@ fn rewrite_checked(
     bytes: &mut [u8],
     offsets: &mut [u16],
     entries: &mut [u16],
-) -> Answer
-    requires tables { Tables sheet.now rules.now count }
+) -> Result<Rewritten, Refused>
+    requires table { IsTable sheet.now }
     requires within { Within (given code.now protected.now lines.now) (room bytes.old offsets.old entries.old) }
     requires clear { Clear (length code.now) total.old }
     requires total_len { length total.old ≡ suc (length code.now) }
     requires clear_2 { Clear (length code.now) marks.old }
     requires clear_3 { Clear (length code.now) moves.old }
-    ensures { answer_view result bytes.new offsets.new entries.new ≡ answer (room bytes.old offsets.old entries.old) (after_limits (sheet_in sheet.now) (rules_in rules.now count) (given code.now protected.now lines.now)) }
+    ensures { Gives (room bytes.old offsets.old entries.old) (after_limits (sheet_in sheet.now) (rules_in rules.entry.table.now rules.entry.count) (given code.now protected.now lines.now)) result bytes.new offsets.new entries.new }
 {
-    match crate::check(sheet, code, protected, lines, total) {
-        Offset::Bad(x) => {
-            let place = numbers::word(x);
-            refuse(BAD_CODE, place, bytes, offsets, entries)
-        }
-        Offset::Fine => {
-            let k = protected.len();
-            let n = crate::rewrite_into(
-                sheet, rules, count, code, protected, bytes, offsets, total, marks, moves,
-            );
-            let e = crate::remap_line_map(total, n, lines, entries);
-            Answer {
-                number: 0,
-                place: 0,
-                bytes: n,
-                protected: k,
-                entries: e,
-            }
-        }
+    if let Err(at) = crate::check(sheet, code, protected, lines, total) {
+        return Err(Refused {
+            refusal: Refusal::BadCode,
+            place: usize::from(at),
+        });
     }
+    let n = crate::rewrite_into(
+        sheet, rules, code, protected, bytes, offsets, total, marks, moves,
+    );
+    let kept = crate::remap_line_map(total, n, lines, entries);
+    Ok(Rewritten {
+        bytes: n,
+        protected: protected.len(),
+        entries: kept,
+    })
 }
 
-// Within the limits, with code that is too long for small tables: the rest, by middle ones or by the longest.
-fn rewrite_long(
+// The same over tables of N elements, of which as many are used as the code has offsets.
+fn rewrite_over<const N: usize>(
     sheet: &[u8],
-    rules: &[u16],
-    count: usize,
+    rules: Rules,
     code: &[u8],
     protected: &[u16],
     lines: &[u16],
     bytes: &mut [u8],
     offsets: &mut [u16],
     entries: &mut [u16],
-) -> Answer
-    requires tables { Tables sheet.now rules.now count }
+) -> Result<Rewritten, Refused>
+    requires table { IsTable sheet.now }
     requires within { Within (given code.now protected.now lines.now) (room bytes.old offsets.old entries.old) }
-    ensures { answer_view result bytes.new offsets.new entries.new ≡ answer (room bytes.old offsets.old entries.old) (after_limits (sheet_in sheet.now) (rules_in rules.now count) (given code.now protected.now lines.now)) }
+    requires slots { length code.now < N }
+    requires few { N ≤ slot_count }
+    ensures { Gives (room bytes.old offsets.old entries.old) (after_limits (sheet_in sheet.now) (rules_in rules.entry.table.now rules.entry.count) (given code.now protected.now lines.now)) result bytes.new offsets.new entries.new }
 {
     let end = code.len() + 1;
-    if code.len() <= rewrite::MIDDLE_CODE {
-        let mut total = [0u16; rewrite::MIDDLE_SLOTS];
-        let mut marks = [0u8; rewrite::MIDDLE_SLOTS];
-        let mut moves = [0u16; rewrite::MIDDLE_SLOTS];
-        rewrite_checked(
-            sheet,
-            rules,
-            count,
-            code,
-            protected,
-            lines,
-            &mut total[..end],
-            &mut marks[..end],
-            &mut moves[..end],
-            bytes,
-            offsets,
-            entries,
-        )
-    } else {
-        let mut total = [0u16; rewrite::SLOTS];
-        let mut marks = [0u8; rewrite::SLOTS];
-        let mut moves = [0u16; rewrite::SLOTS];
-        rewrite_checked(
-            sheet,
-            rules,
-            count,
-            code,
-            protected,
-            lines,
-            &mut total[..end],
-            &mut marks[..end],
-            &mut moves[..end],
-            bytes,
-            offsets,
-            entries,
-        )
-    }
+    let mut total = [0u16; N];
+    let mut marks = [0u8; N];
+    let mut moves = [0u16; N];
+    rewrite_checked(
+        sheet,
+        rules,
+        code,
+        protected,
+        lines,
+        &mut total[..end],
+        &mut marks[..end],
+        &mut moves[..end],
+        bytes,
+        offsets,
+        entries,
+    )
 }
 
-// 10, 11 and 12, then the rest.
+// 10, 11 and 12, then the rest, over small tables, middle ones or the longest.
 fn rewrite_limited(
     sheet: &[u8],
-    rules: &[u16],
-    count: usize,
+    rules: Rules,
     code: &[u8],
     protected: &[u16],
     lines: &[u16],
     bytes: &mut [u8],
     offsets: &mut [u16],
     entries: &mut [u16],
-) -> Answer
-    requires tables { Tables sheet.now rules.now count }
+) -> Result<Rewritten, Refused>
+    requires table { IsTable sheet.now }
     requires roomy { Roomy (room bytes.old offsets.old entries.old) }
-    ensures { answer_view result bytes.new offsets.new entries.new ≡ answer (room bytes.old offsets.old entries.old) (after_rules (sheet_in sheet.now) (rules_in rules.now count) (given code.now protected.now lines.now)) }
+    ensures { Gives (room bytes.old offsets.old entries.old) (after_rules (sheet_in sheet.now) (rules_in rules.entry.table.now rules.entry.count) (given code.now protected.now lines.now)) result bytes.new offsets.new entries.new }
 {
-    let over = over_limit(code.len(), protected.len(), lines.len() / ENTRY_SIZE);
-    if over != 0 {
-        return refuse(over, 0, bytes, offsets, entries);
-    }
-    if code.len() <= rewrite::SMALL_CODE {
-        let end = code.len() + 1;
-        let mut total = [0u16; rewrite::SMALL_SLOTS];
-        let mut marks = [0u8; rewrite::SMALL_SLOTS];
-        let mut moves = [0u16; rewrite::SMALL_SLOTS];
-        rewrite_checked(
-            sheet,
-            rules,
-            count,
-            code,
-            protected,
-            lines,
-            &mut total[..end],
-            &mut marks[..end],
-            &mut moves[..end],
-            bytes,
-            offsets,
-            entries,
+    check_limits(code.len(), protected.len(), lines.len() / ENTRY_SIZE)?;
+    if code.len() <= SMALL_CODE {
+        rewrite_over::<SMALL_SLOTS>(
+            sheet, rules, code, protected, lines, bytes, offsets, entries,
+        )
+    } else if code.len() <= MIDDLE_CODE {
+        rewrite_over::<MIDDLE_SLOTS>(
+            sheet, rules, code, protected, lines, bytes, offsets, entries,
         )
     } else {
-        rewrite_long(
-            sheet, rules, count, code, protected, lines, bytes, offsets, entries,
+        rewrite_over::<SLOTS>(
+            sheet, rules, code, protected, lines, bytes, offsets, entries,
         )
     }
 }
 
-// The rules read (9), then the rest.
-fn rewrite_ruled(
+// 14, 7 and 9, then the rest.
+fn rewrite_read(
     sheet: &[u8],
     rules: &[u8],
     code: &[u8],
@@ -234,21 +166,30 @@ fn rewrite_ruled(
     bytes: &mut [u8],
     offsets: &mut [u16],
     entries: &mut [u16],
-) -> Answer
-    requires table { IsTable sheet.now }
-    requires roomy { Roomy (room bytes.old offsets.old entries.old) }
-    ensures { answer_view result bytes.new offsets.new entries.new ≡ answer (room bytes.old offsets.old entries.old) (after_sheet (sheet_in sheet.now) rules.now (given code.now protected.now lines.now)) }
+) -> Result<Rewritten, Refused>
+    ensures { Finds (room bytes.old offsets.old entries.old) sheet.now rules.now (given code.now protected.now lines.now) result bytes.new offsets.new entries.new }
 {
-    let mut table = [0u16; rules::TABLE_SIZE];
-    match rules::read_rules(rules, &mut table) {
-        RuleAnswer::Refused(number, place) => refuse(number, place, bytes, offsets, entries),
-        RuleAnswer::Rules(count) => rewrite_limited(
-            sheet, &table, count, code, protected, lines, bytes, offsets, entries,
-        ),
+    if !roomy(bytes.len(), offsets.len(), entries.len()) {
+        return Err(Refused {
+            refusal: Refusal::OutputShort,
+            place: 0,
+        });
     }
+    let mut roles = [0u8; sheet::TABLE_SIZE];
+    sheet::read_sheet(sheet, &mut roles)?;
+    let mut rows = [0u16; rules::TABLE_SIZE];
+    let count = rules::read_rules(rules, &mut rows)?;
+    let rules = Rules {
+        table: &rows,
+        count,
+    };
+    rewrite_limited(
+        &roles, rules, code, protected, lines, bytes, offsets, entries,
+    )
 }
 
-// Rewriting and line mapping called alone, from any bytes and numbers: line entries are ENTRY_SIZE numbers each, in and out.
+// Rewriting and line mapping called alone, from any bytes and numbers: line entries are ENTRY_SIZE numbers each, in and out. A refusal zeroes
+// every output.
 pub fn rewrite_alone(
     sheet: &[u8],
     rules: &[u8],
@@ -258,17 +199,16 @@ pub fn rewrite_alone(
     bytes: &mut [u8],
     offsets: &mut [u16],
     entries: &mut [u16],
-) -> Answer
+) -> Result<Rewritten, Refused>
     ensures { Rewrites (room bytes.old offsets.old entries.old) sheet.now rules.now (given code.now protected.now lines.now) (answer_view result bytes.new offsets.new entries.new) }
 {
-    if !roomy(bytes.len(), offsets.len(), entries.len()) {
-        return refuse(OUTPUT_SHORT, 0, bytes, offsets, entries);
+    let answer = rewrite_read(
+        sheet, rules, code, protected, lines, bytes, offsets, entries,
+    );
+    if answer.is_err() {
+        store::set_from(bytes, 0, 0);
+        store::set_from(offsets, 0, 0);
+        store::set_from(entries, 0, 0);
     }
-    let mut table = [0u8; opcode::sheet::TABLE_SIZE];
-    match opcode::sheet::read_sheet(sheet, &mut table) {
-        SheetRead::Refused(number, place) => refuse(number, place, bytes, offsets, entries),
-        SheetRead::Accepted => rewrite_ruled(
-            &table, rules, code, protected, lines, bytes, offsets, entries,
-        ),
-    }
+    answer
 }

@@ -1,5 +1,6 @@
 -- The text is never longer than text_room.
 use mathlib.Core.Path.{◌≡◌, refl, ap, sym, ◌∙◌}
+use mathlib.Core.List.{List}
 use Prim.Native.Nat.{ℕ, ◌*◌, ◌^◌, ◌≤◌}
 use native.Mathlib.Omega.{arith}
 use lib.ListN.{length}
@@ -11,7 +12,7 @@ use Rattle.definition.specs.Rules.{read_rules}
 use Rattle.definition.specs.Lent.{entry_numbers}
 use Rattle.definition.specs.Alone.{Rewritten, Answer, answer, rewrite_files, rewrite_into}
 use Rattle.definition.specs.Passes.{malformed_line, text}
-use Rattle.field.proofs.Results.{never, ok-is, ok-bind}
+use Rattle.field.proofs.Results.{ok-is, ok-bind}
 use Rattle.line_map.proofs.Entries.{length-numbers}
 use Rattle.store.specs.Store.{contents}
 use Rattle.text.specs.Text.{text_room}
@@ -24,12 +25,12 @@ use Rattle.passes_answer.proofs.Conclusion.{into-files}
 
 -- ---- an answer within the limits
 
-pub record Sized (a : Answer) : Type 0 where
-  pub code : length a.code ≡ max_code
-  pub protected : length a.protected ≡ max_protected
-  pub lines : length a.lines ≡ max_lines * entry_size
+pub record Sized (bytes moved list : List ℕ) : Type 0 where
+  pub code : length bytes ≡ max_code
+  pub protected : length moved ≡ max_protected
+  pub lines : length list ≡ max_lines * entry_size
 
-small : (r : Rewritten) (a : Answer) → a ≡ answer full_room (ok r) → Sized a → Known a.code a.protected a.lines → Small r
+small : (r : Rewritten) (a : Answer) → a ≡ answer full_room (ok r) → Sized a.code a.protected a.lines → Known a.code a.protected a.lines → Small r
 unfolding answer
 small r a e z k =
     let lines : length (entry_numbers r.line_map) ≤ max_lines * entry_size = filled-room (max_lines * entry_size) (entry_numbers r.line_map) (rw (← ap (λ (x : Answer). x.lines) e) z.lines) in
@@ -45,7 +46,7 @@ small r a e z k =
 -- ---- what is concluded
 
 no_result : {A : Type 0} (n p : ℕ) (x : A) → refuse n p ≡ ok x → ⊥
-no_result n p x e = never (cc)
+no_result n p x e = cc
 
 -- only a whole input has a result, and it is the call's
 whole-result : (e : Ending) (place : ℕ) (s : Stores) (x : Sheet × Rewritten) → concluded_as e place s ≡ ok x
@@ -64,7 +65,7 @@ whole-result countless place s x h =
     absurd (no_result bad_rule 0 x a.2)
 
 pub text-short : (e : Ending) (place : ℕ) (s : Stores) (a : Answer) → a ≡ answer full_room (rewrite_into place full_room (contents s.sheet) (handed_rules e s) (handed e s))
-    → Sized a → Known a.code a.protected a.lines → length (text (concluded_as e place s)) ≤ text_room
+    → Sized a.code a.protected a.lines → Known a.code a.protected a.lines → length (text (concluded_as e place s)) ≤ text_room
 text-short e place s a c z k = go (concluded_as e place s) refl
   where
     go : (x : Res (Sheet × Rewritten)) → concluded_as e place s ≡ x → length (text x) ≤ text_room

@@ -2,19 +2,18 @@
 // WHILE or a REPEAT. Each answer is that of the total reading, whatever the text.
 #![tactic(auto)]
 
-ghost use Rattle.std.specs.Prelude.{◌≡◌, ◌*◌, ◌<◌, length};
-ghost use Rattle.definition.specs.Limits.{max_nesting};
+ghost use Rattle.std.specs.Prelude.{◌≡◌, IfSome};
 ghost use Rattle.definition.specs.Program.{expr_at, stmt_at, block_of};
 ghost use Rattle.definition.specs.CompileExpr.{classify};
 ghost use Rattle.opcode.specs.View.{compare_view};
 ghost use Rattle.program_line.specs.View.{stmt_line, expr_line};
 ghost use Rattle.program.specs.Walk.{cursor_of, Near, Skipped};
-ghost use Rattle.program.specs.Ends.{ends_size, bodies, Sound, NoneNew};
-ghost use Rattle.program_shape.specs.Shape.{walk_from, operand_of, variable_in, constant_in, Sided, comparison_in, compared, classified, fused, sizes_fit, if_fits, exit_line, Exiting, while_by, repeat_by, Shaped, KnowsAt, Knows};
+ghost use Rattle.program.specs.Ends.{start_of, end_of, Sound, NoneNew};
+ghost use Rattle.program_shape.specs.Shape.{operand_of, variable_in, constant_in, Sided, classified, fused, sizes_fit, if_fits, exit_line, Exiting, while_by, repeat_by, Shaped, Knows};
 
 use definition::MAX_NESTING;
 use opcode::CompareOp;
-use program::{BODIES, Cursor, END_SIZE, ENDS_SIZE, PLACES_BELOW, Walk};
+use program::{Body, Cursor, Ends};
 use program_line::{ExprLine, StmtLine};
 
 // A side of a comparison, or a FOR's end.
@@ -22,13 +21,6 @@ use program_line::{ExprLine, StmtLine};
 pub enum Operand {
     Variable(u16),
     Constant(u32),
-    Other,
-}
-
-// The comparison that a line is, if it is one.
-#[derive(Clone, Copy)]
-pub enum Compared {
-    By(CompareOp),
     Other,
 }
 
@@ -40,18 +32,11 @@ pub struct ClassifiedCmp {
     pub constant: u32,
 }
 
-// A condition: one that CMP_BR tests, or any other.
-#[derive(Clone, Copy)]
-pub enum Condition {
-    Fused(ClassifiedCmp),
-    Other,
-}
-
 // An IF whose one branch is a sole EXIT and whose other is empty: where its condition stands, and where it ends.
 #[derive(Clone, Copy)]
-pub enum ExitIf {
-    Exits { condition: Cursor, end: Cursor },
-    Other,
+pub struct ExitIf {
+    pub condition: Cursor,
+    pub end: Cursor,
 }
 
 // A loop's shape, with where its condition stands; a WHILE's body goes on at `rest`, and a REPEAT ends at `end`.
@@ -62,39 +47,20 @@ pub enum Shape {
     Plain,
 }
 
-// Where a body ends, if that was noted.
-#[derive(Clone, Copy)]
-pub enum BodyEnd {
-    Known(Cursor),
-    Unknown,
-}
-
-fn walk_from(c: Cursor) -> Walk
-    ensures { result ≡ walk_from c }
-{
-    Walk {
-        at: c.at,
-        row: c.row,
-        refused: 0,
-    }
-}
+// ---- skips: walks that heed no fault, which are never refused
 
 // Where the expression at a place ends.
 pub fn skip_expr(text: &[u8], variables: u16, left: usize, c: Cursor) -> Cursor
     requires { Near text.now c.at c.row }
     ensures { Skipped text.now (expr_at left variables text.now (cursor_of c)).1 result }
 {
-    let w = program::walk_expr(text, variables, false, left, walk_from(c));
-    Cursor {
-        at: w.at,
-        row: w.row,
-    }
+    program::walk_expr(text, variables, false, left, c).unwrap()
 }
 
 // Where a block of n statements ends; the bodies in it are noted.
 pub fn skip_block(
     text: &[u8],
-    ends: &mut [u16],
+    ends: &mut Ends,
     variables: u16,
     left: usize,
     n: usize,
@@ -105,93 +71,71 @@ pub fn skip_block(
     ensures skipped { Skipped text.now (block_of (λ d. stmt_at left variables text.now d) n (cursor_of c)).1 result }
     ensures sound_2 { Sound text.now variables ends.new }
 {
-    let w = program::walk_stmts(text, ends, variables, false, left, n, walk_from(c));
-    Cursor {
-        at: w.at,
-        row: w.row,
-    }
+    program::walk_stmts(text, ends, variables, false, left, n, c).unwrap()
 }
 
-// The end of the k-th body that is noted, if that is the one of n statements at a place.
-fn known_at(ends: &[u16], k: usize, n: u16, c: Cursor) -> BodyEnd
-    requires ends_len { length ends.now ≡ ends_size }
-    requires k_bound { k < bodies * max_nesting }
-    ensures { KnowsAt ends.now k n (cursor_of c) result }
+// Where a noted body ends, if it is the one of n statements at a place.
+fn noted_end(body: Body, n: u16, c: Cursor) -> Option<Cursor>
+    ensures { IfSome result (λ e. (start_of body ≡ cursor_of c) × (body.count ≡ n) × (e ≡ end_of body)) }
 {
-    let s = END_SIZE * k;
-    let at = numbers::wide(ends[s]);
-    let row = numbers::wide(ends[s + 1]);
-    if at != c.at {
-        return BodyEnd::Unknown;
+    if usize::from(body.at) == c.at && usize::from(body.row) == c.row && body.count == n {
+        Some(Cursor {
+            at: usize::from(body.end),
+            row: usize::from(body.last),
+        })
+    } else {
+        None
     }
-    if row != c.row {
-        return BodyEnd::Unknown;
-    }
-    if ends[s + 2] != n {
-        return BodyEnd::Unknown;
-    }
-    let end = numbers::wide(ends[s + 3]);
-    let last = numbers::wide(ends[s + 4]);
-    BodyEnd::Known(Cursor { at: end, row: last })
 }
 
 // The end that is noted of the body of n statements at a place.
-fn known_end(ends: &[u16], left: usize, n: u16, c: Cursor) -> BodyEnd
-    requires { length ends.now ≡ ends_size }
+fn known_end(ends: &Ends, left: usize, n: u16, c: Cursor) -> Option<Cursor>
     ensures { Knows ends.now left n (cursor_of c) result }
 {
     if left >= MAX_NESTING {
-        return BodyEnd::Unknown;
+        return None;
     }
-    let first = known_at(ends, BODIES * left, n, c);
-    match first {
-        BodyEnd::Known(end) => BodyEnd::Known(end),
-        BodyEnd::Unknown => known_at(ends, BODIES * left + 1, n, c),
+    match noted_end(ends.first[left], n, c) {
+        Some(end) => Some(end),
+        None => noted_end(ends.second[left], n, c),
     }
 }
 
 // A body is skipped from here on: what was noted before it is of no more use.
-fn start_skip(ends: &mut [u16], at: usize)
-    requires { length ends.old ≡ ends_size }
+fn start_skip(ends: &mut Ends, at: usize)
     ensures { NoneNew ends.old ends.new }
 {
-    if at >= PLACES_BELOW {
-        return;
+    if let Ok(from) = u16::try_from(at) {
+        ends.from = from;
     }
-    ends[ENDS_SIZE - 1] = at as u16;
 }
 
 // Where a loop's body of n statements ends. In loops within loops an outer one's walk has mostly noted it.
-fn body_end(text: &[u8], ends: &mut [u16], variables: u16, left: usize, n: u16, c: Cursor) -> Cursor
+fn body_end(text: &[u8], ends: &mut Ends, variables: u16, left: usize, n: u16, c: Cursor) -> Cursor
     requires near { Near text.now c.at c.row }
     requires sound { Sound text.now variables ends.old }
     ensures skipped { Skipped text.now (block_of (λ d. stmt_at left variables text.now d) n (cursor_of c)).1 result }
     ensures sound_2 { Sound text.now variables ends.new }
 {
-    let known = known_end(ends, left, n, c);
-    match known {
-        BodyEnd::Known(end) => end,
-        BodyEnd::Unknown => {
+    match known_end(ends, left, n, c) {
+        Some(end) => end,
+        None => {
             start_skip(ends, c.at);
-            skip_block(text, ends, variables, left, n as usize, c)
+            skip_block(text, ends, variables, left, usize::from(n), c)
         }
     }
 }
 
 // ---- conditions
 
+#[tactic(auto, unfolding(crate::specs::Shape::open_shape))]
 fn operand_of(line: ExprLine) -> Operand
     ensures { result ≡ operand_of (expr_line line) }
 {
     match line {
         ExprLine::Const(k) => Operand::Constant(k),
         ExprLine::Read(v) => Operand::Variable(v),
-        ExprLine::Bool(_) => Operand::Other,
-        ExprLine::Binary(_) => Operand::Other,
-        ExprLine::Unary(_) => Operand::Other,
-        ExprLine::Compare(_) => Operand::Other,
-        ExprLine::ShortCircuit(_) => Operand::Other,
-        ExprLine::Bad(_) => Operand::Other,
+        _ => Operand::Other,
     }
 }
 
@@ -199,100 +143,63 @@ fn operand_of(line: ExprLine) -> Operand
 pub fn operand_at(text: &[u8], variables: u16, left: usize, c: Cursor) -> Operand
     ensures { Sided (expr_at left variables text.now (cursor_of c)).0 result }
 {
-    let at = c.at;
-    let r = program_line::next_expr(text, variables, left, at);
-    let line = r.line;
-    operand_of(line)
-}
-
-fn comparison_of(line: ExprLine) -> Compared
-    ensures { compared result ≡ comparison_in (expr_line line) }
-{
-    match line {
-        ExprLine::Compare(op) => Compared::By(op),
-        ExprLine::Const(_) => Compared::Other,
-        ExprLine::Read(_) => Compared::Other,
-        ExprLine::Bool(_) => Compared::Other,
-        ExprLine::Binary(_) => Compared::Other,
-        ExprLine::Unary(_) => Compared::Other,
-        ExprLine::ShortCircuit(_) => Compared::Other,
-        ExprLine::Bad(_) => Compared::Other,
+    match program_line::next_expr(text, variables, left, c.at) {
+        Ok(next) => operand_of(next.line),
+        Err(_) => Operand::Other,
     }
 }
 
 // Variable against constant; a constant on the left exchanges the sides.
-fn fuse(op: CompareOp, a: Operand, b: Operand) -> Condition
+#[tactic(auto, using(crate::proofs::Laws::unfused), unfolding(crate::specs::Shape::open_shape))]
+fn fuse(op: CompareOp, a: Operand, b: Operand) -> Option<ClassifiedCmp>
     ensures { classified result ≡ fused (compare_view op) (variable_in a) (constant_in a) (variable_in b) (constant_in b) }
 {
-    match a {
-        Operand::Variable(v) => match b {
-            Operand::Constant(k) => Condition::Fused(ClassifiedCmp {
-                op: op,
-                variable: v,
-                constant: k,
-            }),
-            Operand::Variable(_) => Condition::Other,
-            Operand::Other => Condition::Other,
-        },
-        Operand::Constant(k) => match b {
-            Operand::Variable(v) => Condition::Fused(ClassifiedCmp {
-                op: op.commute(),
-                variable: v,
-                constant: k,
-            }),
-            Operand::Constant(_) => Condition::Other,
-            Operand::Other => Condition::Other,
-        },
-        Operand::Other => Condition::Other,
+    match (a, b) {
+        (Operand::Variable(variable), Operand::Constant(constant)) => Some(ClassifiedCmp {
+            op,
+            variable,
+            constant,
+        }),
+        (Operand::Constant(constant), Operand::Variable(variable)) => Some(ClassifiedCmp {
+            op: op.commute(),
+            variable,
+            constant,
+        }),
+        _ => None,
     }
 }
 
-// Whether the condition at a place is variable against constant.
-pub fn classify(text: &[u8], variables: u16, left: usize, c: Cursor) -> Condition
+// The condition at a place, if it is variable against constant.
+pub fn classify(text: &[u8], variables: u16, left: usize, c: Cursor) -> Option<ClassifiedCmp>
     requires { Near text.now c.at c.row }
     ensures { classified result ≡ classify (expr_at left variables text.now (cursor_of c)).0 }
 {
-    let at = c.at;
-    let r = program_line::next_expr(text, variables, left, at);
-    let line = r.line;
-    let by = comparison_of(line);
-    match by {
-        Compared::Other => Condition::Other,
-        Compared::By(op) => {
-            let first = program::next_line(text, c, r.end);
-            let l = left - 1;
-            let a = operand_at(text, variables, l, first);
-            let second = skip_expr(text, variables, l, first);
-            let b = operand_at(text, variables, l, second);
-            fuse(op, a, b)
-        }
-    }
+    let next = program_line::next_expr(text, variables, left, c.at).ok()?;
+    let ExprLine::Compare(op) = next.line else {
+        return None;
+    };
+    let first = program::next_line(text, c, next.end);
+    let a = operand_at(text, variables, left - 1, first);
+    let second = skip_expr(text, variables, left - 1, first);
+    let b = operand_at(text, variables, left - 1, second);
+    fuse(op, a, b)
 }
 
 // ---- shapes of loops
 
 // A sole EXIT in then and an empty else, or the other way round.
+#[tactic(auto, using(std::proofs::lemmas::Bool::Decides::nat_tests), unfolding(crate::specs::Shape::open_shape))]
 fn sizes_fit(when: bool, then: u16, otherwise: u16) -> bool
     ensures { result ≡ sizes_fit when then otherwise }
 {
     if when {
-        if otherwise != 0 {
-            return false;
-        }
-        if then != 1 {
-            return false;
-        }
-        return true;
+        otherwise == 0 && then == 1
+    } else {
+        then == 0 && otherwise == 1
     }
-    if then != 0 {
-        return false;
-    }
-    if otherwise != 1 {
-        return false;
-    }
-    true
 }
 
+#[tactic(auto, unfolding(crate::specs::Shape::open_shape))]
 fn if_fits(when: bool, line: StmtLine) -> bool
     ensures { result ≡ if_fits when (stmt_line line) }
 {
@@ -302,83 +209,67 @@ fn if_fits(when: bool, line: StmtLine) -> bool
             otherwise,
             ..
         } => sizes_fit(when, then, otherwise),
-        StmtLine::Assign { .. } => false,
-        StmtLine::Case { .. } => false,
-        StmtLine::For { .. } => false,
-        StmtLine::Loop { .. } => false,
-        StmtLine::Exit { .. } => false,
-        StmtLine::Continue { .. } => false,
-        StmtLine::Return { .. } => false,
-        StmtLine::Bad(_) => false,
+        _ => false,
     }
 }
 
+#[tactic(auto, using(std::proofs::lemmas::Bool::Decides::nat_tests), unfolding(crate::specs::Shape::open_shape))]
 fn exits(i: u16, line: StmtLine) -> bool
     ensures { result ≡ exit_line i (stmt_line line) }
 {
     match line {
-        StmtLine::Exit { loop_number, .. } => { if i == loop_number { true } else { false } }
-        StmtLine::Assign { .. } => false,
-        StmtLine::If { .. } => false,
-        StmtLine::Case { .. } => false,
-        StmtLine::For { .. } => false,
-        StmtLine::Loop { .. } => false,
-        StmtLine::Continue { .. } => false,
-        StmtLine::Return { .. } => false,
-        StmtLine::Bad(_) => false,
+        StmtLine::Exit { loop_number, .. } => i == loop_number,
+        _ => false,
     }
 }
 
 // IF c THEN EXIT i at a place, or IF c ELSE EXIT i.
-fn exit_at(text: &[u8], variables: u16, left: usize, c: Cursor, i: u16, when: bool) -> ExitIf
+fn exit_at(
+    text: &[u8],
+    variables: u16,
+    left: usize,
+    c: Cursor,
+    i: u16,
+    when: bool,
+) -> Option<ExitIf>
     requires { Near text.now c.at c.row }
     ensures { Exiting when i left variables text.now (cursor_of c) result }
 {
-    let at = c.at;
-    let r = program_line::next_stmt(text, variables, left, at);
-    let line = r.line;
-    let fits = if_fits(when, line);
-    if fits {
-        let condition = program::next_line(text, c, r.end);
-        let l = left - 1;
-        let p = skip_expr(text, variables, l, condition);
-        let there = p.at;
-        let then = program_line::next_stmt(text, variables, l, there);
-        let exit = then.line;
-        let out = exits(i, exit);
-        if out {
-            let end = program::next_line(text, p, then.end);
-            return ExitIf::Exits {
-                condition: condition,
-                end: end,
-            };
-        }
-        return ExitIf::Other;
+    let head = program_line::next_stmt(text, variables, left, c.at).ok()?;
+    if !if_fits(when, head.line) {
+        return None;
     }
-    ExitIf::Other
+    let condition = program::next_line(text, c, head.end);
+    let then = skip_expr(text, variables, left - 1, condition);
+    let sole = program_line::next_stmt(text, variables, left - 1, then.at).ok()?;
+    if !exits(i, sole.line) {
+        return None;
+    }
+    let end = program::next_line(text, then, sole.end);
+    Some(ExitIf { condition, end })
 }
 
-fn while_by(e: ExitIf) -> Shape
+fn while_by(e: Option<ExitIf>) -> Shape
     ensures { result ≡ while_by e }
 {
     match e {
-        ExitIf::Exits { condition, end } => Shape::While {
-            condition: condition,
-            rest: end,
+        Some(e) => Shape::While {
+            condition: e.condition,
+            rest: e.end,
         },
-        ExitIf::Other => Shape::Plain,
+        None => Shape::Plain,
     }
 }
 
-fn repeat_by(e: ExitIf) -> Shape
+fn repeat_by(e: Option<ExitIf>) -> Shape
     ensures { result ≡ repeat_by e }
 {
     match e {
-        ExitIf::Exits { condition, end } => Shape::Repeat {
-            condition: condition,
-            end: end,
+        Some(e) => Shape::Repeat {
+            condition: e.condition,
+            end: e.end,
         },
-        ExitIf::Other => Shape::Plain,
+        None => Shape::Plain,
     }
 }
 
@@ -386,7 +277,7 @@ fn repeat_by(e: ExitIf) -> Shape
 // skipped for that unless its end is noted in `ends`; what is skipped is noted there.
 pub fn loop_shape(
     text: &[u8],
-    ends: &mut [u16],
+    ends: &mut Ends,
     variables: u16,
     left: usize,
     c: Cursor,
@@ -399,15 +290,12 @@ pub fn loop_shape(
     ensures shaped { Shaped i n m left variables text.now (cursor_of c) result }
     ensures sound_2 { Sound text.now variables ends.new }
 {
-    if m > 1 {
-        return Shape::Plain;
+    match m {
+        0 if n > 0 => while_by(exit_at(text, variables, left, c, i, false)),
+        1 => {
+            let p = body_end(text, ends, variables, left, n, c);
+            repeat_by(exit_at(text, variables, left, p, i, true))
+        }
+        _ => Shape::Plain,
     }
-    if m == 1 {
-        let p = body_end(text, ends, variables, left, n, c);
-        return repeat_by(exit_at(text, variables, left, p, i, true));
-    }
-    if n == 0 {
-        return Shape::Plain;
-    }
-    while_by(exit_at(text, variables, left, c, i, false))
 }

@@ -2,8 +2,5 @@ use Rattle.program_shape.specs.Shape.{cmp_view}
 use Rattle.compile_expr.proofs.Laws.{fuses}
 use Rattle.compile_expr.proofs.emit_classified_cmp_br.Goals as goal
 
-pub emit_cmp_br-requires : goal.emit_cmp_br-requires
-emit_cmp_br-requires c = c.requires
-
 pub returns : goal.returns
-returns c = fuses _ (cmp_view c.args.classified) _ _ c.branching_on.ensures c.emit_cmp_br.ensures
+returns c = fuses _ (cmp_view c.args.classified) _ _ c.branching_on-op.ensures c.emit_cmp_br.ensures

@@ -1,15 +1,16 @@
-use mathlib.Core.Path.{sym, ◌∙◌}
-use Rattle.optimize.proofs.Checks.{check-begins, check-goes-on, check-bad, check-ends}
+use mathlib.Core.Path.{◌≡◌}
+use borrow.Author.Rules.{rules}
+use Rattle.std.specs.Prelude.{Err}
+use Rattle.optimize.proofs.Checks.{check-goes-on, check-bad, check-ends}
 use Rattle.optimize.proofs.check_protected.Goals as goal
 
-pub loop-i-init : goal.loop-i-init
-loop-i-init c = check-begins _ _
+pub loop-x-preserved : goal.loop-x-preserved
+loop-x-preserved c = check-goes-on _ _ _ c.requires c.loop-x.invariant c.loop-x-test.true c.in_ok-check_offset.ensures
 
-pub returns-then-not-is_boundary : goal.returns-then-not-is_boundary
-returns-then-not-is_boundary c = check-bad _ _ _ c.loop-i.invariant c.loop-i-test.true (sym c.if-not-is_boundary.true ∙ c.is_boundary.ensures)
-
-pub loop-i-preserved : goal.loop-i-preserved
-loop-i-preserved c = check-goes-on _ _ _ c.requires c.loop-i.invariant c.loop-i-test.true (sym c.if-not-is_boundary.false ∙ c.is_boundary.ensures)
+pub returns-in_err-check_offset : goal.returns-in_err-check_offset
+returns-in_err-check_offset c =
+    let e : c.from_residual.result ≡ Err c.in_err-check_offset.field-0.0 = search rules in
+    rw (e, c.in_err-check_offset.ensures.0) (check-bad _ _ _ c.loop-x.invariant c.loop-x-test.true c.in_err-check_offset.ensures.1)
 
 pub returns : goal.returns
-returns c = check-ends _ _ _ c.requires c.loop-i.invariant c.loop-i-test.false
+returns c = check-ends _ _ _ c.requires c.loop-x.invariant c.loop-x-test.false

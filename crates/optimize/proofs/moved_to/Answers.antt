@@ -1,8 +1,7 @@
-use Rattle.optimize.proofs.Tables.{moved-past-end, moved_at}
+use mathlib.Core.Path.{sym}
+use native.Mathlib.Omega.{arith}
+use Rattle.optimize.proofs.Tables.{moved_in}
 use Rattle.optimize.proofs.moved_to.Goals as goal
 
-pub returns-then-at-moves : goal.returns-then-at-moves
-returns-then-at-moves c = moved_at _ _ c.wide-at.ensures
-
-pub returns-else-at-moves : goal.returns-else-at-moves
-returns-else-at-moves c = moved-past-end _ _ c.wide-at.ensures c.if-at-moves.false
+pub returns : goal.returns
+returns c = rw (c.unwrap_or.ensures, c.copied.ensures, c.get.ensures.lookup.4 (omega arith) 0, c.from.ensures) (sym (moved_in _ _))

@@ -1,25 +1,33 @@
-use mathlib.Core.Path.{sym, ◌∙◌}
-use Rattle.program.specs.Walk.{cursor_of}
-use Rattle.program_shape.proofs.Laws.{exits-not, if-there, if-end, exit-end, exits-other, exit-there, exits-here}
+use mathlib.Core.Path.{sym}
+use Rattle.definition.specs.Program.{stmt_forms}
+use Rattle.program_line.specs.View.{stmt_line}
+use Rattle.program.proofs.Laws.{line-inside}
+use Rattle.program_shape.proofs.Laws.{found-some, found-none, exits-fault, exits-not, exits-unread, exits-other, exits-here}
 use Rattle.program_shape.proofs.exit_at.Goals as goal
 
-pub next_line-condition-requires : goal.next_line-condition-requires
-next_line-condition-requires c = record { near = c.requires; at_in_bounds = (if-there c.args.when 0 _ _ _ (cursor_of c.args.c) _ c.next_stmt-r.ensures.is (sym c.if_fits-fits.ensures ∙ c.if-fits.true)).0; end_value = if-end _ (sym c.if_fits-fits.ensures ∙ c.if-fits.true) c.next_stmt-r.ensures }
+pub returns-in_err-head : goal.returns-in_err-head
+returns-in_err-head c = rw c.from_residual.ensures (exits-fault _ _ _ _ _ _ _ (found-none _ c.in_err-head.ensures.value c.next_stmt.ensures).1)
 
-pub overflow_sub-l : goal.overflow_sub-l
-overflow_sub-l c = (if-there c.args.when 0 _ _ _ (cursor_of c.args.c) _ c.next_stmt-r.ensures.is (sym c.if_fits-fits.ensures ∙ c.if-fits.true)).1
+pub returns-then-not-if_fits : goal.returns-then-not-if_fits
+returns-then-not-if_fits c = exits-not _ _ _ _ _ _ _ (found-some _ _ c.in_ok-head.ensures.value c.next_stmt.ensures).is (sym c.if-not-if_fits.ensures)
 
-pub skip_expr-p-requires : goal.skip_expr-p-requires
-skip_expr-p-requires c = c.next_line-condition.ensures.near
+pub next_line-condition-requires-clause-at_in_bounds : goal.next_line-condition-requires-clause-at_in_bounds
+next_line-condition-requires-clause-at_in_bounds c = (line-inside stmt_line (stmt_forms c.args.variables) _ _ _ _ (found-some _ _ c.in_ok-head.ensures.value c.next_stmt.ensures)).0
 
-pub next_line-end-requires : goal.next_line-end-requires
-next_line-end-requires c = record { near = c.skip_expr-p.ensures.near; at_in_bounds = exit-there c.args.when _ _ _ _ (cursor_of c.args.c) _ c.next_stmt-r.ensures.is (sym c.if_fits-fits.ensures ∙ c.if-fits.true) c.next_line-condition.ensures c.skip_expr-p.ensures _ c.next_stmt-then.ensures.is (sym c.exits-out.ensures ∙ c.if-out.true); end_value = exit-end _ _ (sym c.exits-out.ensures ∙ c.if-out.true) c.next_stmt-then.ensures }
+pub overflow_sub-left : goal.overflow_sub-left
+overflow_sub-left c = (line-inside stmt_line (stmt_forms c.args.variables) _ _ _ _ (found-some _ _ c.in_ok-head.ensures.value c.next_stmt.ensures)).1
 
-pub returns-then-out : goal.returns-then-out
-returns-then-out c = exits-here _ _ _ _ _ _ _ c.next_stmt-r.ensures.is (sym c.if_fits-fits.ensures ∙ c.if-fits.true) c.next_line-condition.ensures c.skip_expr-p.ensures _ c.next_stmt-then.ensures.is (sym c.exits-out.ensures ∙ c.if-out.true) c.next_line-end.ensures
+pub overflow_sub-left-2 : goal.overflow_sub-left-2
+overflow_sub-left-2 c = (line-inside stmt_line (stmt_forms c.args.variables) _ _ _ _ (found-some _ _ c.in_ok-head.ensures.value c.next_stmt.ensures)).1
 
-pub returns-then-fits : goal.returns-then-fits
-returns-then-fits c = exits-other _ _ _ _ _ _ _ c.next_stmt-r.ensures.is (sym c.if_fits-fits.ensures ∙ c.if-fits.true) c.next_line-condition.ensures c.skip_expr-p.ensures _ c.next_stmt-then.ensures.is (sym c.exits-out.ensures ∙ c.if-out.false)
+pub returns-in_err-sole : goal.returns-in_err-sole
+returns-in_err-sole c = rw c.from_residual-in_err-sole.ensures (exits-unread _ _ _ _ _ _ _ (found-some _ _ c.in_ok-head.ensures.value c.next_stmt.ensures).is (sym c.if-not-if_fits.ensures) c.next_line-condition.ensures c.skip_expr-then.ensures _ (found-none _ c.in_err-sole.ensures.value c.next_stmt-2.ensures).1)
+
+pub returns-then-not-exits : goal.returns-then-not-exits
+returns-then-not-exits c = exits-other _ _ _ _ _ _ _ (found-some _ _ c.in_ok-head.ensures.value c.next_stmt.ensures).is (sym c.if-not-if_fits.ensures) c.next_line-condition.ensures c.skip_expr-then.ensures _ (found-some _ _ c.in_ok-sole.ensures.value c.next_stmt-2.ensures).is (sym c.if-not-exits.ensures)
+
+pub next_line-end-requires-clause-at_in_bounds : goal.next_line-end-requires-clause-at_in_bounds
+next_line-end-requires-clause-at_in_bounds c = (line-inside stmt_line (stmt_forms c.args.variables) _ _ _ _ (found-some _ _ c.in_ok-sole.ensures.value c.next_stmt-2.ensures)).0
 
 pub returns : goal.returns
-returns c = exits-not _ _ _ _ _ _ _ c.next_stmt-r.ensures.is (sym c.if_fits-fits.ensures ∙ c.if-fits.false)
+returns c = exits-here _ _ _ _ _ _ _ (found-some _ _ c.in_ok-head.ensures.value c.next_stmt.ensures).is (sym c.if-not-if_fits.ensures) c.next_line-condition.ensures c.skip_expr-then.ensures _ (found-some _ _ c.in_ok-sole.ensures.value c.next_stmt-2.ensures).is (sym c.if-not-exits.ensures) c.next_line-end.ensures

@@ -1,20 +1,10 @@
-use mathlib.Core.Path.{◌∙◌, sym}
-use Prim.Native.Nat.{ℕ}
-use lib.ListN.{length-replicate}
+use mathlib.Core.Path.{sym, ◌∙◌}
 use Rattle.optimize.specs.View.{given, room}
-use Rattle.optimize.proofs.Entry.{roomy-is, short, refused-7, after-sheet, sheet-ready}
-use Rattle.opcode.specs.Table.{table_size}
-use Rattle.opcode.proofs.Readings.{read_whole}
+use Rattle.optimize.proofs.Entry.{told-refused, told-kept}
 use Rattle.optimize.proofs.alone.rewrite_alone.Goals as goal
 
-pub returns-then-not-roomy : goal.returns-then-not-roomy
-returns-then-not-roomy c = short c.args.sheet.now c.args.rules.now (given c.args.code.now c.args.protected.now c.args.lines.now) (room c.args.bytes.now c.args.offsets.now c.args.entries.now) (sym c.roomy.ensures ∙ c.if-not-roomy.true) c.refuse.ensures
+pub returns-then-is_err : goal.returns-then-is_err
+returns-then-is_err c = told-refused c.args.sheet.now c.args.rules.now (given c.args.code.now c.args.protected.now c.args.lines.now) (room c.args.bytes.now c.args.offsets.now c.args.entries.now) c.rewrite_read-answer.result c.rewrite_read-answer.ensures (sym c.is_err.ensures.value ∙ c.if-is_err.true) c.rewrite_read-answer.auto.bytes c.rewrite_read-answer.auto.offsets c.rewrite_read-answer.auto.entries c.set_from.ensures c.set_from-then-is_err.ensures c.set_from-then-is_err-2.ensures
 
-pub rewrite_ruled-requires : goal.rewrite_ruled-requires
-rewrite_ruled-requires c = record { table = sheet-ready c.args.sheet.now c.read_sheet.new.sheet c.read_sheet.result (read_whole (length-replicate {A = ℕ} table_size 0) c.read_sheet.ensures) c.in-Accepted.is; roomy = roomy-is (sym c.roomy.ensures ∙ c.if-not-roomy.false) }
-
-pub returns-in-Refused : goal.returns-in-Refused
-returns-in-Refused c = refused-7 c.args.sheet.now c.args.rules.now (given c.args.code.now c.args.protected.now c.args.lines.now) (room c.args.bytes.now c.args.offsets.now c.args.entries.now) c.read_sheet.new.sheet c.read_sheet.result (sym c.roomy.ensures ∙ c.if-not-roomy.false) (read_whole (length-replicate {A = ℕ} table_size 0) c.read_sheet.ensures) c.in-Refused.is c.refuse-in-Refused.ensures
-
-pub returns-in-Accepted : goal.returns-in-Accepted
-returns-in-Accepted c = after-sheet c.args.sheet.now c.args.rules.now (given c.args.code.now c.args.protected.now c.args.lines.now) (room c.args.bytes.now c.args.offsets.now c.args.entries.now) c.read_sheet.new.sheet c.read_sheet.result (sym c.roomy.ensures ∙ c.if-not-roomy.false) (read_whole (length-replicate {A = ℕ} table_size 0) c.read_sheet.ensures) c.in-Accepted.is c.rewrite_ruled.ensures
+pub returns-else-is_err : goal.returns-else-is_err
+returns-else-is_err c = told-kept c.args.sheet.now c.args.rules.now (given c.args.code.now c.args.protected.now c.args.lines.now) (room c.args.bytes.now c.args.offsets.now c.args.entries.now) c.rewrite_read-answer.result c.rewrite_read-answer.ensures (sym c.is_err.ensures.value ∙ c.if-is_err.false)

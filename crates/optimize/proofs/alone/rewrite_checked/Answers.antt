@@ -4,17 +4,8 @@ use Rattle.optimize.specs.View.{given}
 use Rattle.optimize.proofs.Whole.{refused-8, finished}
 use Rattle.optimize.proofs.alone.rewrite_checked.Goals as goal
 
-pub check-requires : goal.check-requires
-check-requires c = record { table = c.requires.tables.table; code_len_bound = c.requires.within.few; clear = c.requires.clear; table_len = c.requires.total_len }
+pub returns-in-Err : goal.returns-in-Err
+returns-in-Err c = refused-8 (sheet_in c.args.sheet.now) (rules_in c.args.rules.table.now c.args.rules.count) (given c.args.code.now c.args.protected.now c.args.lines.now) c.in-Err.ensures c.from.ensures
 
-pub rewrite_into-n-requires : goal.rewrite_into-n-requires
-rewrite_into-n-requires c = record { runnable = record { table = c.requires.tables.table; held = c.requires.tables.held; few = c.requires.within.few; small = c.check.ensures.small c.in-Fine.is }; code_in_bounds = (c.requires.within.code, c.requires.within.protected); clear = c.requires.clear_2; clear_2 = c.requires.clear_3 }
-
-pub remap_line_map-e-requires : goal.remap_line_map-e-requires
-remap_line_map-e-requires c = c.requires.within.lines
-
-pub returns-in-Bad : goal.returns-in-Bad
-returns-in-Bad c = refused-8 (sheet_in c.args.sheet.now) (rules_in c.args.rules.now c.args.count) (given c.args.code.now c.args.protected.now c.args.lines.now) _ c.check.ensures c.in-Bad.is c.word-place.ensures c.refuse.ensures
-
-pub returns-in-Fine : goal.returns-in-Fine
-returns-in-Fine c = finished (sheet_in c.args.sheet.now) (rules_in c.args.rules.now c.args.count) c.args.code.now c.args.protected.now c.args.lines.now _ c.args.bytes.now c.args.offsets.now c.args.entries.now c.check.ensures c.in-Fine.is c.rewrite_into-n.ensures c.remap_line_map-e.ensures
+pub returns : goal.returns
+returns c = finished (sheet_in c.args.sheet.now) (rules_in c.args.rules.table.now c.args.rules.count) c.args.code.now c.args.protected.now c.args.lines.now _ c.args.bytes.now c.args.offsets.now c.args.entries.now c.in_default.ensures c.rewrite_into-n.ensures c.remap_line_map-kept.ensures

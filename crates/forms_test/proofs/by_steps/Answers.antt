@@ -1,6 +1,0 @@
-use Rattle.emit.proofs.Chains.{held-empty}
-use borrow.Author.Rules.{rules}
-use Rattle.forms_test.proofs.by_steps.Goals as goal
-
-pub loop_statement-done-requires : goal.loop_statement-done-requires
-loop_statement-done-requires g c = record { fine = search rules; room = search rules; slots = search rules; held = held-empty }
