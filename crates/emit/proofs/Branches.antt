@@ -1,7 +1,7 @@
 -- Patches and branches.
 use Rattle.std.proofs.Common.{None}
 use mathlib.Core.Path.{◌≡◌, refl, ◌∙◌}
-use mathlib.Core.List.{List, [], ◌∷◌, ◌++◌}
+use mathlib.Core.List.{List, ◌∷◌, ◌++◌}
 use Prim.Native.Nat.{ℕ, suc, ◌+◌, ◌*◌, ◌<◌}
 use native.Mathlib.Omega.{arith}
 use lib.Dec.{leb}
@@ -9,7 +9,7 @@ use lib.ListN.{length}
 use lib.Seq.{sets, length-sets}
 use Rattle.definition.specs.Limits.{max_code, max_branches, code_full, entry_size}
 use Rattle.definition.specs.Res.{Res, ok, refuse, ◌>>=◌, ◌>>◌, demand}
-use Rattle.definition.specs.Opcode.{Role, Sheet, CompareOp, comparison_byte, jmp, jmp_if_not, cmp_br}
+use Rattle.definition.specs.Opcode.{Role, Sheet, CompareOp, comparison_byte, cmp_br}
 use Rattle.definition.specs.Emit as def
 use Rattle.definition.specs.Emit.{jmp_operand_delta, cmp_br_operand_delta, LineEntry, emit_jmp, emit_jmp_if_not, act, add, added, recorded, patched, branch, le16}
 use Rattle.definition.specs.Lent.{entry_in}
@@ -76,14 +76,6 @@ branch-done s r operand p {code' = code'} h room is a n =
 module _ (s : Sheet) (r : Role) (operand : List ℕ) (l x delta : ℕ) {p : def.PendingPatch} {e u : Emitter} {code book code' book' : List ℕ} (is : p ≡ record { instruction_offset = x; operand_delta = delta; label = l }) where
   pub branch-of : Coded (once (branch s r operand p.operand_delta p.label)) e code book u code' book' → Coded (once (branch s r operand delta l)) e code book u code' book'
   branch-of c = rw is at c
-
-pub jmp-is : (s : Sheet) (l : ℕ) (x : def.Emitter) → act s (emit_jmp l) x ≡ branch s jmp [] jmp_operand_delta l x
-unfolding act
-jmp-is s l x = refl
-
-pub jmp-if-not-is : (s : Sheet) (l : ℕ) (x : def.Emitter) → act s (emit_jmp_if_not l) x ≡ branch s jmp_if_not [] jmp_operand_delta l x
-unfolding act
-jmp-if-not-is s l x = refl
 
 -- ---- a CMP_BR
 

@@ -12,7 +12,7 @@ use lib.Seq.{get_or-set_same, get_or-set_other, take-set-le, take-set-lt}
 use Rattle.definition.specs.Limits.{max_constants}
 use Rattle.definition.specs.Emit.{index_of}
 use Rattle.store.proofs.Fills.{replicate-none}
-use Rattle.emit.specs.Pool.{bucket_count, head_base, link_base, count_at, stale_at, pool_size, bucket_of, last_in, Chained, Held, covers, nearer, chained, entered, Appended}
+use Rattle.emit.specs.Pool.{bucket_count, head_base, link_base, count_at, stale_at, pool_size, bucket_of, last_in, Chained, Held, covers, chained, entered, Appended}
 use Rattle.emit.proofs.Constants.{first_found, first-none}
 
 pub bucket-few : (k : ℕ) → bucket_of k < bucket_count
@@ -70,14 +70,6 @@ last-same pool pool' h (suc n) same = go (last-same pool pool' h n (λ i l. same
     go m b false e = last-past pool' h n (λ q. eqb-false _ _ e (sym b ∙ q)) ∙ m ∙ sym (last-past pool h n (eqb-false _ _ e))
 
 -- ---- the search along a bucket
-
-pub nearer-hit : (x k i found : ℕ) → x ≡ k → i ≡ nearer x k i found
-unfolding nearer
-nearer-hit x k i found e = rw (nearer, eq-eqb x k e)
-
-pub nearer-miss : (x k i found : ℕ) → (x ≡ k → ⊥) → found ≡ nearer x k i found
-unfolding nearer
-nearer-miss x k i found off = rw (nearer, ne_eqb x k off)
 
 -- of the constants from `left` on the first that is k is what was found
 pub record Searching (pool : List ℕ) (n k found left : ℕ) : Type 0 where
@@ -137,17 +129,11 @@ module _ (pool : List ℕ) (n k : ℕ) (c : Chained pool n) where
             rw same (here (rw same at q))
         go i past few q false far false near = let b = before e in absurd (none-past (left - 1) i (omega arith) (leb-false (left - 1) i near) q)
 
-    pub search-goes-on : {next now : ℕ} → now ≡ nearer (get_or pool (left - 1) 0) k (left - 1) found → next ≡ get_or pool (link_base + (left - 1)) 0 → Searching pool n k now next
-    unfolding nearer
-    search-goes-on {next} {now} is e = go (eqb (get_or pool (left - 1) 0) k) refl
-      where
-        go : (t : Bool) → eqb (get_or pool (left - 1) 0) k ≡ t → Searching pool n k now next
-        go true q =
-            let here : now ≡ left - 1 = is ∙ rw (nearer, q) in
-            rw here (search-step e (omega (arith, s.most)) (λ few. eqb-true _ _ q) (omega arith) (omega (arith, s.far)) (λ z. omega arith))
-        go false q =
-            let there : now ≡ found = is ∙ rw (nearer, q) in
-            rw there (search-step e s.within s.hit (omega (arith, s.far)) (omega arith) (λ z. absurd (eqb-false _ _ q z)))
+    pub search-hit : {next : ℕ} → get_or pool (left - 1) 0 ≡ k → next ≡ get_or pool (link_base + (left - 1)) 0 → Searching pool n k (left - 1) next
+    search-hit here e = search-step e (omega (arith, s.most)) (λ few. here) (omega arith) (omega (arith, s.far)) (λ z. omega arith)
+
+    pub search-miss : {next : ℕ} → (get_or pool (left - 1) 0 ≡ k → ⊥) → next ≡ get_or pool (link_base + (left - 1)) 0 → Searching pool n k found next
+    search-miss off e = search-step e s.within s.hit (omega (arith, s.far)) (omega arith) (λ z. absurd (off z))
 
   pub search-ends : {found left : ℕ} → Searching pool n k found left → left ≤ 0 → n ≤ length pool → (found ≡ index_of k (take n pool)) × (found ≤ n)
   search-ends {found} {left} s done long = go (leb n found) refl

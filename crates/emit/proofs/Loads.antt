@@ -13,7 +13,7 @@ use lib.ListN.{length, take, drop, set, length-drop, length-append}
 use lib.Seq.{sets, sets-eq, paste, length-sets, length-take-le, take-take, take-nil, take-set-lt, take-suc-set, set-append_left}
 use Rattle.definition.specs.Limits.{max_code, code_full}
 use Rattle.definition.specs.Res.{Res, ok, refuse, ◌>>=◌, ◌>>◌, demand}
-use Rattle.definition.specs.Opcode.{Sheet, Role, dup, load_var, store_var, opcode}
+use Rattle.definition.specs.Opcode.{Sheet, dup, opcode}
 use Rattle.definition.specs.Emit as def
 use Rattle.definition.specs.Emit.{load_variable, store_variable, emit_opcode, refused, act, add, fold_store, folded, load_after, le16}
 use Rattle.emit.specs.declared.Emitter.{Emitter}
@@ -156,24 +156,3 @@ module _ (s : Sheet) (v : ℕ) (form : LoadForm) {e u : Emitter} {code book code
 
 pub written-coded : {f : Step} {e r : Emitter} {code book code' : List ℕ} → length book ≡ book_size → Written f e code r code' → Coded f e code book r code' book
 written-coded {book = book} slots d = record { fine = d.fine; room = d.room; slots = slots; kept = λ pool. d.kept book pool; did = λ pool. d.did book pool }
-
--- the step of each form
-pub load_is : (s : Sheet) (v : ℕ) (x : def.Emitter) → load_by Load s v x ≡ add s load_var (le16 v) (def.loaded v) x
-unfolding load_by
-load_is s v x = refl
-
-pub dup-is : (s : Sheet) (v : ℕ) (x : def.Emitter) → load_by Dup s v x ≡ add s dup [] def.other x
-unfolding load_by
-dup-is s v x = refl
-
-pub fold_is : (s : Sheet) (v : ℕ) (x : def.Emitter) → load_by Fold s v x ≡ fold_store s x
-unfolding load_by
-fold_is s v x = refl
-
-pub store_is : (s : Sheet) (v : ℕ) (x : def.Emitter) → act s (store_variable v) x ≡ add s store_var (le16 v) (def.stored v) x
-unfolding act
-store_is s v x = refl
-
-pub opcode-is : (s : Sheet) (r : Role) (x : def.Emitter) → act s (emit_opcode r) x ≡ add s r [] def.other x
-unfolding act
-opcode-is s r x = refl

@@ -42,10 +42,6 @@ pub record Held (pool : List ℕ) : Type 0 where
   pub size : length pool ≡ pool_size
   pub sound : get_or pool stale_at 0 ≡ 0 → Chained pool (get_or pool count_at 0)
 
--- the index i if x, the constant there, is k
-unfoldable pub nearer : ℕ → ℕ → ℕ → ℕ → ℕ
-nearer x k i found = elim (eqb x k) [ true ↦ i | false ↦ found ]
-
 -- is it the table of the first n constants?
 unfoldable pub covers : List ℕ → ℕ → Bool
 covers pool n = eqb (get_or pool stale_at 0) 0 && eqb (get_or pool count_at 0) n

@@ -81,6 +81,7 @@ pub fn put_line(book: &mut Book, n: usize, entry: LineEntry)
 }
 
 // The n-th line entry, in the order of emission.
+#[tactic(auto, using(crate::proofs::Tables::line_read))]
 pub fn line_at(book: &Book, n: usize) -> LineEntry
     requires n_lt_max_lines { n < max_lines }
     ensures { entry_view result ≡ entry_in (row line_base entry_size book.now n) }

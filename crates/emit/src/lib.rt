@@ -1,8 +1,9 @@
 // The emitter (emit.rs, and the pool of compile.rs): counts, the last instruction, depths, position and refusal by value; its tables are lent.
 //
 // Lent are the code (MAX_CODE bytes), the book (BOOK_SIZE numbers: labels, patches and line entries) and the pool (POOL_SIZE constants), each exactly as
-// long. A method has only those that its call can change. Its contract names the definition's call that it is, in every state: one that refuses leaves the
-// state that it met, a refusal is sticky, and a refused emitter comes back as it was, with what is lent.
+// long. A method has only those that its call can change, so they are no struct. Its contract names the definition's call that it is, in every state: one that
+// refuses leaves the state that it met, a refusal is sticky, and a refused emitter comes back as it was, with what is lent. `Fine` is a clause and no ghost
+// field: contracts name emitters made of parts (`altered`, `readied`), and each would have to carry its proof.
 #![tactic(auto)]
 
 ghost use Rattle.std.specs.Prelude.{◌≡◌, ◌≤◌, ◌<◌, ◌+◌, max, [], length};
@@ -22,7 +23,7 @@ ghost use Rattle.emit.specs.Load.{Loads};
 ghost use Rattle.emit.specs.Parts.{altered, readied, Noted, Prepared, Written, Branched, Put, Added, cmp_operand, patching};
 
 use crate::book::BOOK_SIZE;
-use crate::load::{LoadForm, Loaded, Read};
+use crate::load::{LoadForm, Loaded};
 use crate::patch::PendingPatch;
 use definition::{MAX_CODE, MAX_LABELS, MAX_LINES, Refusal, Refused};
 use line_map::{LineEntry, Pos};
@@ -342,6 +343,7 @@ impl Emitter {
     }
 
     // An instruction of one byte.
+    #[tactic(auto, unfolding(definition::specs::Emit::act))]
     pub fn emit_opcode(self, sheet: &[u8], code: &mut [u8], book: &mut Book, role: Role) -> Emitter
         requires fine { Fine self }
         requires code_len { length code.old ≡ max_code }
@@ -384,39 +386,17 @@ impl Emitter {
         requires code_len { length code.old ≡ max_code }
         ensures { Loads (sheet_in sheet.now) v self code.old book.old result code.new book.new }
     {
-        let size = self.size;
-        match load::form(self.last, v) {
-            LoadForm::Load => {
-                let e = self.add_u16(sheet, code, book, Role::LoadVar, v, Last::Loaded(v));
-                let read = Read {
-                    offset: size,
-                    dup: false,
-                    moved: false,
-                };
-                load::done(e, read)
-            }
-            LoadForm::Dup => {
-                let e = self.add_plain(sheet, code, book, Role::Dup);
-                let read = Read {
-                    offset: size,
-                    dup: true,
-                    moved: false,
-                };
-                load::done(e, read)
-            }
-            LoadForm::Fold => {
-                let e = self.fold_store(sheet, code);
-                let read = Read {
-                    offset: size - STORE_SIZE,
-                    dup: true,
-                    moved: true,
-                };
-                load::done(e, read)
-            }
-        }
+        let form = load::form(self.last, v);
+        let e = match form {
+            LoadForm::Load => self.add_u16(sheet, code, book, Role::LoadVar, v, Last::Loaded(v)),
+            LoadForm::Dup => self.add_plain(sheet, code, book, Role::Dup),
+            LoadForm::Fold => self.fold_store(sheet, code),
+        };
+        load::done(e, load::read_by(form, self.size))
     }
 
     // `emit_store_with_tracking`: a store that the next load may fold into.
+    #[tactic(auto, unfolding(definition::specs::Emit::act))]
     pub fn store_variable(self, sheet: &[u8], code: &mut [u8], book: &mut Book, v: u16) -> Emitter
         requires fine { Fine self }
         requires code_len { length code.old ≡ max_code }

@@ -1,9 +1,9 @@
 // How a load is emitted, and what it did: known here and nowhere else.
-ghost use Rattle.std.specs.Prelude.{◌≡◌};
+ghost use Rattle.std.specs.Prelude.{◌≡◌, ◌≤◌};
 ghost use Rattle.emit.specs.View.{last_view};
-ghost use Rattle.emit.specs.Load.{load_form};
+ghost use Rattle.emit.specs.Load.{load_form, read_by};
 
-use crate::{Emitter, Last};
+use crate::{Emitter, Last, STORE_SIZE};
 
 // What a load did: the offset of the byte that carries the read, whether that is a DUP, and whether the store before it moved by one.
 #[derive(Clone, Copy)]
@@ -37,6 +37,31 @@ pub fn form(last: Last, v: u16) -> LoadForm
         Last::Loaded(w) if w == v => LoadForm::Dup,
         Last::Stored(w) if w == v => LoadForm::Fold,
         _ => LoadForm::Load,
+    }
+}
+
+// What each form reads, where the code had `size` bytes before.
+#[tactic(auto, unfolding(crate::specs::Load::read_by))]
+pub fn read_by(form: LoadForm, size: usize) -> Read
+    requires { form ≡ LoadForm.Fold → 3 ≤ size }
+    ensures { result ≡ read_by form size }
+{
+    match form {
+        LoadForm::Load => Read {
+            offset: size,
+            dup: false,
+            moved: false,
+        },
+        LoadForm::Dup => Read {
+            offset: size,
+            dup: true,
+            moved: false,
+        },
+        LoadForm::Fold => Read {
+            offset: size - STORE_SIZE,
+            dup: true,
+            moved: true,
+        },
     }
 }
 

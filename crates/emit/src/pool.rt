@@ -2,7 +2,7 @@
 ghost use Rattle.std.specs.Prelude.{◌≡◌, ◌≤◌, ◌<◌, length, take, MatchOption};
 ghost use Rattle.definition.specs.Limits.{max_constants};
 ghost use Rattle.definition.specs.Emit.{index_of};
-ghost use Rattle.emit.specs.Pool.{bucket_count, bucket_of, covers, nearer, Chained, Held, Appended, Keeps};
+ghost use Rattle.emit.specs.Pool.{bucket_count, bucket_of, covers, Chained, Held, Appended, Keeps};
 
 use crate::{Constant, Pool};
 use definition::MAX_CONSTANTS;
@@ -21,6 +21,7 @@ const STALE_AT: usize = COUNT_AT + 1;
 // Constants of a pool, with its table.
 pub const SIZE: usize = STALE_AT + 1;
 
+#[tactic(auto, unfolding(crate::specs::Pool::bucket_of))]
 fn bucket(k: Constant) -> usize
     ensures value { result ≡ bucket_of k }
     ensures below { result < bucket_count }
@@ -45,13 +46,6 @@ fn scan(pool: &Pool, n: usize, k: Constant) -> usize
     pool[..n].iter().position(|x| *x == k).unwrap_or(n)
 }
 
-// Index i if the constant there is k.
-fn nearer(x: Constant, k: Constant, i: usize, found: usize) -> usize
-    ensures { result ≡ nearer x k i found }
-{
-    if x == k { i } else { found }
-}
-
 // The same along its bucket, from the last to the first: each link says where to go on, so it is no `for`.
 fn search(pool: &Pool, n: usize, k: Constant) -> usize
     requires chained { Chained pool.now n }
@@ -62,7 +56,9 @@ fn search(pool: &Pool, n: usize, k: Constant) -> usize
     let mut left = pool[HEAD_BASE + bucket(k)] as usize;
     while left > 0 {
         let i = left - 1;
-        found = nearer(pool[i], k, i, found);
+        if pool[i] == k {
+            found = i;
+        }
         left = pool[LINK_BASE + i] as usize;
     }
     found

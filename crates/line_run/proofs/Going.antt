@@ -1,24 +1,20 @@
 -- The loop of `remap_line_map`, over plain lists: where it stands between two turns, and that a turn keeps it so.
 use mathlib.Core.Path.{◌≡◌, refl, sym, ap, ◌∙◌}
-use mathlib.Core.Bool.{Bool, true, false, ◌||◌}
 use mathlib.Core.List.{List, [], ◌∷◌, ◌++◌, append-nil, append_assoc}
 use Prim.Native.Nat.{ℕ, zero, suc, ◌+◌, ◌≤◌, ◌<◌}
 use native.Mathlib.Omega.{arith}
 use native.Mathlib.Nat.{not-suc-le-zero, le_of_suc-le-suc}
-use lib.Dec.{leb}
 use lib.ListN.{length, get_or, set, take, drop, length-append, length-map, length-take, get_or-map, drop_of_length-le}
 use Rattle.definition.specs.Emit as def
-use Rattle.definition.specs.Rewrite.{moved_to}
-use Rattle.definition.specs.Optimize.{is_last, remap_line_map}
+use Rattle.definition.specs.Optimize.{remap_line_map}
 use Rattle.line_map.specs.declared.LineEntry.{LineEntry}
 use Rattle.line_map.specs.View.{entry_view}
-use Rattle.optimize.specs.declared.Kept.{Kept}
-use Rattle.optimize.specs.declared.Kept.TheVariants.{None, At}
-use Rattle.optimize.specs.View.{map_in, kept_view}
-use Rattle.optimize.proofs.Lines.{remap-test}
-use Rattle.line_run.specs.declared.Turn.{Turn}
-use Rattle.line_run.specs.declared.Step.{Step}
-use Rattle.line_run.specs.Run.{entry_of, entries_in, moved, turned, over, kept, RemapsRun}
+use Rattle.std.specs.Prelude as std
+use Rattle.std.specs.Prelude.{Some, None}
+use Rattle.field.specs.View.{option_of}
+use Rattle.optimize.specs.View.{map_in, remapped_view, last_after}
+use Rattle.optimize.proofs.Lines.{remap-more}
+use Rattle.line_run.specs.Run.{entries_in, over, kept, RemapsRun}
 
 -- ---- lists
 
@@ -37,16 +33,6 @@ module _ {X : Type 0} where
   over-set ds [] x l = absurd (not-suc-le-zero l)
   over-set [] (y ∷ ys) x l = refl
   over-set (d ∷ ds) (y ∷ ys) x l = ap {B = List X} (λ r. d ∷ r) (over-set ds ys x (le_of_suc-le-suc l))
-
-  over-long : (ds ys : List X) → length ds ≤ length ys → length (over ds ys) ≡ length ys
-  over-long [] ys l = refl
-  over-long (d ∷ ds) [] l = absurd (not-suc-le-zero l)
-  over-long (d ∷ ds) (y ∷ ys) l = ap suc (over-long ds ys (le_of_suc-le-suc l))
-
-  set-get : (xs : List X) (i : ℕ) (d : X) → set xs i (get_or xs i d) ≡ xs
-  set-get [] i d = refl
-  set-get (x ∷ xs) zero d = refl
-  set-get (x ∷ xs) (suc i) d = ap {B = List X} (λ r. x ∷ r) (set-get xs i d)
 
   next_of : (ys : List X) (i n : ℕ) (d : X) → i < n → n ≤ length ys → drop i (take n ys) ≡ get_or ys i d ∷ drop (suc i) (take n ys)
   next_of ys i zero d l m = absurd (not-suc-le-zero l)
@@ -73,98 +59,53 @@ module _ (moves : List ℕ) (end : ℕ) (ys : List LineEntry) (count : ℕ) wher
   All = kept moves end count ys
 
   -- what is kept of the entries from a place on
-  abbrev Left : Kept → ℕ → List def.LineEntry
-  Left last at = remap_line_map (map_in moves) end (kept_view last) (drop at (take count (entries_in ys)))
+  abbrev Left : std.Option ℕ → ℕ → List def.LineEntry
+  Left last at = remap_line_map (map_in moves) end (option_of last) (drop at (take count (entries_in ys)))
 
-  -- between two turns: done are the entries kept, which stand at the front, and what is kept of the rest comes after them
-  pub record Going (t : Turn) (zs : List LineEntry) : Type 0 where
+  -- before entry `at`: done are the n entries kept, which stand at the front, and what is kept of the rest comes after them
+  pub record Going (at n : ℕ) (last : std.Option ℕ) (zs : List LineEntry) : Type 0 where
     pub done : List def.LineEntry
-    pub many : t.kept ≡ length done
-    pub behind : t.kept ≤ t.at
-    pub inside : t.at ≤ count
+    pub many : n ≡ length done
+    pub behind : n ≤ at
     pub stands : entries_in zs ≡ over done (entries_in ys)
-    pub more : All ≡ done ++ Left t.last t.at
+    pub more : All ≡ done ++ Left last at
 
-  pub begins : Going (record { at = 0; kept = 0; last = None }) ys
-  begins = record { done = []; many = refl; behind = omega arith; inside = omega arith; stands = refl; more = refl }
+  pub begins : Going 0 0 None ys
+  begins = record { done = []; many = refl; behind = omega arith; stands = refl; more = refl }
 
   module _ (enough : count ≤ length ys) where
-    none_left : (last : Kept) → remap_line_map (map_in moves) end (kept_view last) [] ≡ []
+    none_left : (last : std.Option ℕ) → remap_line_map (map_in moves) end (option_of last) [] ≡ []
     unfolding remap_line_map
     none_left last = refl
 
-    pub ends : {t : Turn} {zs : List LineEntry} → Going t zs → count ≤ t.at → RemapsRun moves end count ys zs t.kept
-    ends {t} {zs} g past =
-        let e : All ≡ g.done = g.more ∙ rw (none_of (entries_in ys) t.at count past, none_left t.last) (append-nil g.done) in
+    pub ends : {at n : ℕ} {last : std.Option ℕ} {zs : List LineEntry} → Going at n last zs → count ≤ at → RemapsRun moves end count ys zs n
+    ends {at} {last = last} g past =
+        let e : All ≡ g.done = g.more ∙ rw (none_of (entries_in ys) at count past, none_left last) (append-nil g.done) in
         record { many = g.many ∙ ap length (sym e); is = g.stands ∙ ap (λ (l : List def.LineEntry). over l (entries_in ys)) (sym e) }
 
-    short : {t : Turn} {zs : List LineEntry} (g : Going t zs) → length g.done ≤ length (entries_in ys)
-    short {t} {zs} g = omega (arith, g.many, g.behind, g.inside, enough, length-map ys entry_view)
+    module _ {at n : ℕ} {last : std.Option ℕ} {zs : List LineEntry} (g : Going at n last zs) (l : at < count) where
+      short : length g.done ≤ length (entries_in ys)
+      short = omega (arith, g.many, g.behind, enough, length-map ys entry_view)
 
-    pub as_long : {t : Turn} {zs : List LineEntry} → Going t zs → length zs ≡ length ys
-    as_long {t} {zs} g = sym (length-map zs entry_view) ∙ ap length g.stands ∙ over-long g.done (entries_in ys) (short g) ∙ length-map ys entry_view
+      -- the entry that is read is the run's own
+      reads : drop at (take count (entries_in ys)) ≡ entry_view (get_or zs at blank) ∷ drop (suc at) (take count (entries_in ys))
+      reads =
+          let same : entry_view (get_or zs at blank) ≡ get_or (entries_in ys) at (entry_view blank) =
+          sym (get_or-map entry_view zs at blank) ∙ rw g.stands (over-get g.done (entries_in ys) at (entry_view blank) (omega (arith, g.many, g.behind)) short) in
+          rw same (next_of (entries_in ys) at count (entry_view blank) l (omega (arith, enough, length-map ys entry_view)))
 
-    -- a turn by what becomes of its entry: nothing of it is kept
-    took-gone : (t : Turn) (zs : List LineEntry) (g : Going t zs) → t.at < count → All ≡ g.done ++ Left t.last (suc t.at)
-        → let r = turned (get_or zs t.kept blank) t [] in Going r.turn (set zs t.kept r.entry)
-    took-gone t zs g l e = record {
-      done = g.done;
-      many = g.many;
-      behind = omega (arith, g.behind);
-      inside = omega (arith, l);
-      stands = ap entries_in (set-get zs t.kept blank) ∙ g.stands;
-      more = rw (one t.at) e;
-    }
+      module _ (r : std.Option LineEntry) (is : remapped_view r ≡ remap_line_map (map_in moves) end (option_of last) (entry_view (get_or zs at blank) ∷ [])) where
+        pub went : All ≡ g.done ++ (remapped_view r ++ Left (last_after r last) (at + 1))
+        went = g.more ∙ ap (λ (xs : List def.LineEntry). g.done ++ xs) (rw (one at, reads) (remap-more (map_in moves) end r last (entry_view (get_or zs at blank)) _ is))
 
-    -- or it is, as x
-    took-kept : (t : Turn) (zs : List LineEntry) (g : Going t zs) (x : def.LineEntry) → t.at < count → All ≡ g.done ++ x ∷ Left (At x.offset) (suc t.at)
-        → let r = turned (get_or zs t.kept blank) t (x ∷ []) in Going r.turn (set zs t.kept r.entry)
-    took-kept t zs g x l e = record {
-      done = g.done ++ x ∷ [];
-      many = omega (arith, length-append g.done (x ∷ []), g.many);
-      behind = omega (arith, g.behind);
-      inside = omega (arith, l);
-      stands = entry_set zs t.kept (entry_of x) ∙ rw (g.stands, g.many) (over-set g.done (entries_in ys) x (omega (arith, g.many, g.behind, enough, l, length-map ys entry_view)));
-      more = rw (one t.at) (e ∙ sym (append_assoc g.done (x ∷ []) _));
-    }
+      pub goes-gone : [] ≡ remap_line_map (map_in moves) end (option_of last) (entry_view (get_or zs at blank) ∷ []) → Going (at + 1) n last zs
+      goes-gone is = record { done = g.done; many = g.many; behind = omega (arith, g.behind); stands = g.stands; more = went None is }
 
-    -- the entry that a turn reads is the run's own
-    reads : (t : Turn) (zs : List LineEntry) (g : Going t zs) → t.at < count
-        → drop t.at (take count (entries_in ys)) ≡ entry_view (get_or zs t.at blank) ∷ drop (suc t.at) (take count (entries_in ys))
-    reads t zs g l =
-        let same : entry_view (get_or zs t.at blank) ≡ get_or (entries_in ys) t.at (entry_view blank) =
-        sym (get_or-map entry_view zs t.at blank) ∙ rw g.stands (over-get g.done (entries_in ys) t.at (entry_view blank) (omega (arith, g.many, g.behind)) (short g)) in
-        rw same (next_of (entries_in ys) t.at count (entry_view blank) l (omega (arith, enough, length-map ys entry_view)))
-
-    pub goes_on : (t : Turn) (zs : List LineEntry) (r : Step) → Going t zs → t.at < count → r ≡ turned (get_or zs t.kept blank) t (moved moves end t.last (get_or zs t.at blank))
-        → Going r.turn (set zs t.kept r.entry)
-    unfolding remap_line_map
-    goes_on t zs r g l is = by_test (leb end (moved_to (map_in moves) x.offset) || is_last (kept_view t.last) (moved_to (map_in moves) x.offset)) refl
-      where
-        x : def.LineEntry
-        x = entry_view (get_or zs t.at blank)
-
-        old : LineEntry
-        old = get_or zs t.kept blank
-
-        rest : List def.LineEntry
-        rest = drop (suc t.at) (take count (entries_in ys))
-
-        y : def.LineEntry
-        y = record { offset = moved_to (map_in moves) x.offset; pos = x.pos }
-
-        here : All ≡ g.done ++ remap_line_map (map_in moves) end (kept_view t.last) (x ∷ rest)
-        here = g.more ∙ ap (λ (l : List def.LineEntry). g.done ++ remap_line_map (map_in moves) end (kept_view t.last) l) (reads t zs g l)
-
-        by_test : (b : Bool) → (leb end (moved_to (map_in moves) x.offset) || is_last (kept_view t.last) (moved_to (map_in moves) x.offset)) ≡ b
-            → Going r.turn (set zs t.kept r.entry)
-        by_test true q =
-            let r-is : r ≡ turned old t [] = is ∙ ap (turned old t) (remap-test (map_in moves) end (kept_view t.last) x [] true q) in
-            rw (r-is) (took-gone t zs g l (here ∙ ap (λ (l : List def.LineEntry). g.done ++ l) (remap-test (map_in moves) end (kept_view t.last) x rest true q)))
-        by_test false q =
-            let r-is : r ≡ turned old t (y ∷ []) = is ∙ ap (turned old t) (remap-test (map_in moves) end (kept_view t.last) x [] false q) in
-            rw (r-is) (took-kept t zs g y l (here ∙ ap (λ (l : List def.LineEntry). g.done ++ l) (remap-test (map_in moves) end (kept_view t.last) x rest false q)))
-
-    pub nearer : (t : Turn) (zs : List LineEntry) (m : List def.LineEntry) → (turned (get_or zs t.kept blank) t m).turn.at ≡ t.at + 1
-    nearer t zs [] = refl
-    nearer t zs (x ∷ xs) = refl
+      pub goes-kept : (e : LineEntry) → entry_view e ∷ [] ≡ remap_line_map (map_in moves) end (option_of last) (entry_view (get_or zs at blank) ∷ []) → Going (at + 1) (n + 1) (Some e.offset) (set zs n e)
+      goes-kept e is = record {
+        done = g.done ++ entry_view e ∷ [];
+        many = omega (arith, length-append g.done (entry_view e ∷ []), g.many);
+        behind = omega (arith, g.behind);
+        stands = entry_set zs n e ∙ rw (g.stands, g.many) (over-set g.done (entries_in ys) (entry_view e) (omega (arith, g.many, g.behind, enough, l, length-map ys entry_view)));
+        more = went (Some e) is ∙ sym (append_assoc g.done (entry_view e ∷ []) _);
+      }

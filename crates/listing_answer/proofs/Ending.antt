@@ -10,31 +10,30 @@ use Rattle.definition.specs.Listing.{text}
 use Rattle.store.specs.Store.{at, contents, push_all}
 use Rattle.store.specs.Fill.{zeroed_from}
 use Rattle.input_machine.specs.Machine.{State, Ending, ending, listed_at}
-use Rattle.input_reader.specs.View.{is_counted, handed_count, handed_rules}
-use Rattle.input_reader.proofs.Handing.{handed-used}
+use Rattle.input_reader.specs.Handed.{handed as part}
+use Rattle.input_reader.specs.View.{is_counted, handed_rules}
 use Rattle.text.specs.Text.{listing_room, Told}
 use Rattle.text.proofs.Told.{told-put}
 use Rattle.listing_answer.specs.View.{handed_program, full_room, answer_text, Known}
 use Rattle.listing_answer.proofs.Conclusion.{concluded-text}
 use Rattle.listing_answer.proofs.Short.{Sized, text-short}
 
-pub finished-by : (st : State) (before mid : List ℕ) {after : List ℕ} {m : ℕ} {room : Room} {a : Answer} {n : ℕ} {counted : Bool} (v : Ending) → length before ≡ listing_room
+pub finished-by : (st : State) (before mid : List ℕ) {after : List ℕ} {m : ℕ} {room : Room} {a : Answer} {sheet : List ℕ} {counted : Bool} (v : Ending) → length before ≡ listing_room
     → v ≡ ending st.head → counted ≡ is_counted v → room ≡ full_room
-    → n ≡ handed_count true st.stores.sheet.used (length st.stores.sheet.cells)
+    → sheet ≡ part true st.stores.sheet
     → Compiles room (contents st.stores.sheet) (handed_rules (ending st.head) st.stores) (handed_program (ending st.head) st.stores) a
-    → at mid m ≡ push_all (at before 0) (answer_text counted (read_sheet (take n st.stores.sheet.cells)) a)
+    → at mid m ≡ push_all (at before 0) (answer_text counted (read_sheet sheet) a)
     → Sized a → Known a.code a.constants a.lines → after ≡ zeroed_from m mid
     → Told listing_room text (contents st.stores.sheet) (λ place. listed_at place st) after m
-unfolding listed_at
-finished-by st before mid {m = m} {room = room} {a = a} {n = n} {counted = counted} v long h cs full c r p z k rest =
+unfolding listed_at part
+finished-by st before mid {m = m} {room = room} {a = a} {sheet = sheet} {counted = counted} v long h cs full c r p z k rest =
     let e = ending st.head in
     let s = st.stores in
-    let sheet : take n s.sheet.cells ≡ contents s.sheet = rw c (handed-used s.sheet.used s.sheet.cells) in
     let called : a ≡ answer full_room (compile_into r.place full_room (contents s.sheet) (handed_rules e s) (handed_program e s)) =
     r.is ∙ ap (λ (q : Room). answer q (compile_into r.place q (contents s.sheet) (handed_rules e s) (handed_program e s))) full in
     let put = p
-    ∙ ap (λ (w : Bool). push_all (at before 0) (answer_text w (read_sheet (take n s.sheet.cells)) a)) (cs ∙ ap is_counted h)
-    ∙ ap (λ (l : List ℕ). push_all (at before 0) (answer_text (is_counted e) (read_sheet l) a)) sheet
+    ∙ ap (λ (w : Bool). push_all (at before 0) (answer_text w (read_sheet sheet) a)) (cs ∙ ap is_counted h)
+    ∙ ap (λ (l : List ℕ). push_all (at before 0) (answer_text (is_counted e) (read_sheet l) a)) c
     ∙ ap (λ (b : Answer). push_all (at before 0) (answer_text (is_counted e) (read_sheet (contents s.sheet)) b)) called
     ∙ ap (push_all (at before 0)) (concluded-text e r.place s) in
     told-put listing_room r.place before mid long (text-short e r.place s a called z k) r.free put rest

@@ -1,7 +1,7 @@
 -- What is handed over, and what is put for an answer.
 use mathlib.Core.Path.{◌≡◌, ap, ◌∙◌}
 use mathlib.Core.Bool.{Bool, true, false}
-use mathlib.Core.List.{[], ◌∷◌}
+use mathlib.Core.List.{List, [], ◌∷◌}
 use mathlib.Core.Option.{Option}
 use Prim.Native.Nat.{ℕ, ◌*◌, min}
 use borrow.Author.Tests.{eq-eqb, ne_eqb}
@@ -14,30 +14,32 @@ use Rattle.definition.specs.Listing.{number_line, constant_lines, entry_lines}
 use Rattle.store.specs.Store.{Store, contents, push_all}
 use Rattle.store.proofs.Fills.{take-least}
 use Rattle.input_machine.specs.Machine.{Stores, Ending, whole, cut, countless}
-use Rattle.input_reader.specs.View.{is_counted, handed_count, handed_rules}
-use Rattle.input_reader.proofs.Handing.{handed-used, handed-none, rules-handed, part}
+use Rattle.input_reader.specs.Handed.{handed as part}
+use Rattle.input_reader.specs.View.{is_counted, handed_rules}
 use Rattle.text.specs.Text.{instructions_by}
 use Rattle.text.proofs.Puts.{put_four}
-use Rattle.listing_answer.specs.View.{handed_program, whole_text, countless_text, answer_text}
+use Rattle.listing_answer.specs.View.{handed_program, whole_text}
 
 -- ---- by the ending
 
+rules-handed : (e : Ending) (s : Stores) → part (is_counted e) s.rules ≡ handed_rules e s
+unfolding part is_counted handed_rules
+rules-handed whole s = refl
+rules-handed (cut n) s = refl
+rules-handed countless s = refl
+
 program-handed : (e : Ending) (s : Stores) → part (is_counted e) s.code ≡ handed_program e s
-unfolding is_counted handed_program
-program-handed whole s = handed-used s.code.used s.code.cells
-program-handed (cut n) s = handed-used s.code.used s.code.cells
-program-handed countless s = handed-none s.code.used s.code.cells
+unfolding part is_counted handed_program
+program-handed whole s = refl
+program-handed (cut n) s = refl
+program-handed countless s = refl
 
 -- the call on the parts that were computed is the call on what is handed over
-pub read_by : {room : Room} {a : Answer} (e v : Ending) (s : Stores) {counted : Bool} {na nb nc : ℕ} → v ≡ e → counted ≡ is_counted v
-    → na ≡ handed_count true s.sheet.used (length s.sheet.cells)
-    → nb ≡ handed_count counted s.rules.used (length s.rules.cells)
-    → nc ≡ handed_count counted s.code.used (length s.code.cells)
-    → Compiles room (take na s.sheet.cells) (take nb s.rules.cells) (take nc s.code.cells) a
-    → Compiles room (contents s.sheet) (handed_rules e s) (handed_program e s) a
-read_by e v s h c ea eb ec r =
-    let c = c ∙ ap is_counted h in
-    rw (← handed-used s.sheet.used s.sheet.cells, ← rules-handed e s, ← program-handed e s, ← c, ← ea, ← eb, ← ec) r
+pub read_by : {room : Room} {a : Answer} (e v : Ending) (s : Stores) {counted : Bool} {sheet rules program : List ℕ} → v ≡ e → counted ≡ is_counted v
+    → sheet ≡ part true s.sheet → rules ≡ part counted s.rules → program ≡ part counted s.code
+    → Compiles room sheet rules program a → Compiles room (contents s.sheet) (handed_rules e s) (handed_program e s) a
+unfolding part
+read_by e v s h c es er ep r = rw (← rules-handed e s, ← program-handed e s, ← h, ← c, ← er, ← ep) (rw es at r)
 
 -- ---- what is put
 
@@ -56,24 +58,3 @@ whole-put sheet a s {s1 = s1} {s2 = s2} {s3 = s3} {s4 = s4} en ek em p q r t =
     let r : s3 ≡ push_all s2 (entry_lines (entries_of (take (a.entry_count * entry_size) a.lines))) = rw (← take-least (a.entry_count * entry_size) a.lines, ← em) r in
     let t : s4 ≡ push_all s3 (instructions_by sheet (take a.code_length a.code)) = rw (← take-least a.code_length a.code, ← en) t in
     put_four _ _ _ _ s p q r t
-
-pub sheet-put : (n p : ℕ) (s : Store) {t : Store} → n ≡ bad_sheet → t ≡ push_all s (number_line n (p ∷ [])) → t ≡ push_all s (countless_text n p)
-unfolding countless_text
-sheet-put n p s e q = rw (eq-eqb n bad_sheet e, countless_text) q
-
-pub count-put : (n p : ℕ) (s : Store) {t : Store} → (n ≡ bad_sheet → ⊥) → t ≡ push_all s (number_line bad_rule (0 ∷ [])) → t ≡ push_all s (countless_text n p)
-unfolding countless_text
-count-put n p s e q = rw (ne_eqb n bad_sheet e, countless_text) q
-
-module _ (c : Bool) (sheet : Option Sheet) (a : Answer) (s : Store) {t : Store} where
-  pub countless-put : c ≡ false → t ≡ push_all s (countless_text a.number a.place) → t ≡ push_all s (answer_text c sheet a)
-  unfolding answer_text
-  countless-put e q = rw e q
-
-  pub refusal-put : c ≡ true → (a.number ≡ 0 → ⊥) → t ≡ push_all s (number_line a.number (a.place ∷ [])) → t ≡ push_all s (answer_text c sheet a)
-  unfolding answer_text
-  refusal-put e h q = rw (e, answer_text) (rw (ne_eqb a.number 0 h) q)
-
-  pub answer-put : c ≡ true → a.number ≡ 0 → t ≡ push_all s (whole_text sheet a) → t ≡ push_all s (answer_text c sheet a)
-  unfolding answer_text
-  answer-put e z q = rw (e, answer_text) (rw (eq-eqb a.number 0 z) q)

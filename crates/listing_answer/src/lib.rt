@@ -68,6 +68,7 @@ fn put_whole(
 }
 
 // Where no rules were counted only the sheet's refusal stands; else the count line is refused.
+#[tactic(auto, using(std::proofs::lemmas::Bool::Decides::nat_tests), unfolding(crate::specs::View::answer_text, crate::specs::View::countless_text))]
 fn put_answer(
     counted: bool,
     a: Answer,
@@ -77,7 +78,8 @@ fn put_answer(
     lines: &[u16],
     out: &mut [u8],
 ) -> usize
-    ensures { at out.new result ≡ push_all (at out.old 0) (answer_text counted (read_sheet sheet.now) (answer_view a code.now constants.now lines.now)) }
+    ensures put { at out.new result ≡ push_all (at out.old 0) (answer_text counted (read_sheet sheet.now) (answer_view a code.now constants.now lines.now)) }
+    ensures known { Known code.now constants.now lines.now }
 {
     if !counted && a.number != BAD_SHEET {
         return text::put_refusal(out, 0, BAD_RULE as u64, 0);
@@ -86,22 +88,6 @@ fn put_answer(
         return text::put_refusal(out, 0, a.number as u64, a.place as u64);
     }
     put_whole(a, sheet, code, constants, lines, out)
-}
-
-// The same, with what the types of the outputs say of their elements: the text is then short.
-fn put_short(
-    counted: bool,
-    a: Answer,
-    sheet: &[u8],
-    code: &[u8],
-    constants: &[Constant],
-    lines: &[u16],
-    out: &mut [u8],
-) -> usize
-    ensures result_after { at out.new result ≡ push_all (at out.old 0) (answer_text counted (read_sheet sheet.now) (answer_view a code.now constants.now lines.now)) }
-    ensures known { Known code.now constants.now lines.now }
-{
-    put_answer(counted, a, sheet, code, constants, lines, out)
 }
 
 // The text for what a reader has read, from the output's start, and 0 behind it; its length is answered. Every text fits.
@@ -114,7 +100,7 @@ pub fn finish(reader: &Reader, out: &mut [u8; LISTING_ROOM]) -> usize
     let a = compile_read(reader, &mut code, &mut constants, &mut lines);
     let counted = input_reader::is_counted(input_reader::ending_of(reader.head));
     let sheet = reader.sheet.handed(true);
-    let n = put_short(counted, a, sheet, &code, &constants, &lines, out);
+    let n = put_answer(counted, a, sheet, &code, &constants, &lines, out);
     store::set_from(out, n, 0);
     n
 }

@@ -4,22 +4,15 @@
 #![tactic(auto)]
 
 use input_reader::{CODE_ROOM, ENTRY_ROOM, OFFSET_ROOM, Phase, RULE_ROOM, Reader, SHEET_ROOM};
+use std::io;
 use std::io::Write;
 use text::TEXT_ROOM;
 
-// The text of the answer; false where it could not be written.
-fn print<W: Write>(
-    to: &mut W,
-    reader: Reader,
-    sheet: &[u8],
-    rules: &[u8],
-    code: &[u8],
-    offsets: &[u16],
-    entries: &[u16],
-) -> bool {
+// Writes the text of the answer.
+fn print<W: Write>(to: &mut W, reader: &Reader) -> io::Result<()> {
     let mut out = [0u8; TEXT_ROOM];
-    let n = passes_answer::finish(reader, sheet, rules, code, offsets, entries, &mut out);
-    to.write_all(&out[..n]).is_ok()
+    let n = passes_answer::finish(reader, &mut out);
+    to.write_all(&out[..n])
 }
 
 fn main(rt: HostRuntime) {
@@ -28,8 +21,7 @@ fn main(rt: HostRuntime) {
     let mut code = [0u8; CODE_ROOM];
     let mut offsets = [0u16; OFFSET_ROOM];
     let mut entries = [0u16; ENTRY_ROOM];
-    let turn = standard_input::read_all(
-        &mut rt.stdin(),
+    let mut reader = Reader::start(
         Phase::CodeLine,
         &mut sheet,
         &mut rules,
@@ -37,19 +29,11 @@ fn main(rt: HostRuntime) {
         &mut offsets,
         &mut entries,
     );
-    if turn.failed {
+    if standard_input::read_all(&mut rt.stdin(), &mut reader).is_err() {
         let _ = rt.eprintln("passes: standard input cannot be read");
         return;
     }
-    if !print(
-        &mut rt.stdout(),
-        turn.reader,
-        &sheet,
-        &rules,
-        &code,
-        &offsets,
-        &entries,
-    ) {
+    if print(&mut rt.stdout(), &reader).is_err() {
         let _ = rt.eprintln("passes: standard output cannot be written");
     }
 }

@@ -1,7 +1,7 @@
 -- What is handed over, and what is put for an answer.
 use mathlib.Core.Path.{◌≡◌, refl, ap, sym, ◌∙◌}
 use mathlib.Core.Bool.{Bool, true}
-use mathlib.Core.List.{[], ◌∷◌}
+use mathlib.Core.List.{List, [], ◌∷◌}
 use mathlib.Core.Option.{Option}
 use Prim.Native.Nat.{ℕ, ◌*◌, min}
 use borrow.Author.Tests.{eq-eqb, ne_eqb}
@@ -18,17 +18,23 @@ use Rattle.input_machine.specs.Machine.{Stores, Ending, whole, cut, countless, g
 use Rattle.text.specs.Text.{instructions_by}
 use Rattle.optimize.specs.View.{given}
 use Rattle.passes_answer.specs.View.{handed, is_whole, whole_text, ending_text, answer_text}
-use Rattle.input_reader.specs.View.{is_counted, handed_count, handed_rules}
-use Rattle.input_reader.proofs.Handing.{handed-used, handed-none, rules-handed, part}
+use Rattle.input_reader.specs.Handed.{handed as part}
+use Rattle.input_reader.specs.View.{is_counted, handed_rules}
 use Rattle.text.proofs.Puts.{put_four}
 
 -- ---- by the ending
 
+rules-handed : (e : Ending) (s : Stores) → part (is_counted e) s.rules ≡ handed_rules e s
+unfolding part is_counted handed_rules
+rules-handed whole s = refl
+rules-handed (cut n) s = refl
+rules-handed countless s = refl
+
 given-handed : (e : Ending) (s : Stores) → given (part (is_whole e) s.code) (part (is_whole e) s.offsets) (part (is_whole e) s.entries) ≡ handed e s
-unfolding is_whole handed given_in
-given-handed whole s = rw (handed-used s.code.used s.code.cells, handed-used s.offsets.used s.offsets.cells, handed-used s.entries.used s.entries.cells) refl
-given-handed (cut n) s = rw (handed-none s.code.used s.code.cells, handed-none s.offsets.used s.offsets.cells, handed-none s.entries.used s.entries.cells) refl
-given-handed countless s = rw (handed-none s.code.used s.code.cells, handed-none s.offsets.used s.offsets.cells, handed-none s.entries.used s.entries.cells) refl
+unfolding part is_whole handed given_in
+given-handed whole s = refl
+given-handed (cut n) s = refl
+given-handed countless s = refl
 
 -- ---- what is put
 
@@ -61,15 +67,8 @@ pub ending-put : (e v : Ending) (sheet : Option Sheet) (a : Answer) (s : Store) 
 ending-put e v sheet a s h z p = p ∙ sym (ap (λ (w : Ending). push_all s (answer_text w sheet a)) h ∙ ap (push_all s) (not-refused e sheet a z))
 
 -- the call on the parts that were computed is the call on what is handed over
-pub read_by : {room : Room} {a : Answer} (e v : Ending) (s : Stores) {counted all : Bool} {na nb nc nd ne : ℕ} → v ≡ e → counted ≡ is_counted v → all ≡ is_whole v
-    → na ≡ handed_count true s.sheet.used (length s.sheet.cells)
-    → nb ≡ handed_count counted s.rules.used (length s.rules.cells)
-    → nc ≡ handed_count all s.code.used (length s.code.cells)
-    → nd ≡ handed_count all s.offsets.used (length s.offsets.cells)
-    → ne ≡ handed_count all s.entries.used (length s.entries.cells)
-    → Rewrites room (take na s.sheet.cells) (take nb s.rules.cells) (given (take nc s.code.cells) (take nd s.offsets.cells) (take ne s.entries.cells)) a
-    → Rewrites room (contents s.sheet) (handed_rules e s) (handed e s) a
-read_by e v s h c w ea eb ec ed ee r =
-    let c = c ∙ ap is_counted h in
-    let w = w ∙ ap is_whole h in
-    rw (← handed-used s.sheet.used s.sheet.cells, ← rules-handed e s, ← given-handed e s, ← c, ← w, ← ea, ← eb, ← ec, ← ed, ← ee) r
+pub read_by : {room : Room} {a : Answer} (e v : Ending) (s : Stores) {counted all : Bool} {sheet rules code offsets entries : List ℕ} → v ≡ e → counted ≡ is_counted v → all ≡ is_whole v
+    → sheet ≡ part true s.sheet → rules ≡ part counted s.rules → code ≡ part all s.code → offsets ≡ part all s.offsets → entries ≡ part all s.entries
+    → Rewrites room sheet rules (given code offsets entries) a → Rewrites room (contents s.sheet) (handed_rules e s) (handed e s) a
+unfolding part
+read_by e v s h c w es er ec eo ee r = rw (← rules-handed e s, ← given-handed e s, ← h, ← c, ← w, ← er, ← ec, ← eo, ← ee) (rw es at r)

@@ -1,5 +1,6 @@
 -- The text is never longer than text_room.
 use mathlib.Core.Path.{◌≡◌, refl, ap, sym, ◌∙◌}
+use mathlib.Core.List.{List}
 use Prim.Native.Nat.{ℕ, ◌*◌, ◌^◌, ◌≤◌}
 use native.Mathlib.Omega.{arith}
 use lib.ListN.{length}
@@ -24,12 +25,12 @@ use Rattle.passes_answer.proofs.Conclusion.{into-files}
 
 -- ---- an answer within the limits
 
-pub record Sized (a : Answer) : Type 0 where
-  pub code : length a.code ≡ max_code
-  pub protected : length a.protected ≡ max_protected
-  pub lines : length a.lines ≡ max_lines * entry_size
+pub record Sized (bytes moved list : List ℕ) : Type 0 where
+  pub code : length bytes ≡ max_code
+  pub protected : length moved ≡ max_protected
+  pub lines : length list ≡ max_lines * entry_size
 
-small : (r : Rewritten) (a : Answer) → a ≡ answer full_room (ok r) → Sized a → Known a.code a.protected a.lines → Small r
+small : (r : Rewritten) (a : Answer) → a ≡ answer full_room (ok r) → Sized a.code a.protected a.lines → Known a.code a.protected a.lines → Small r
 unfolding answer
 small r a e z k =
     let lines : length (entry_numbers r.line_map) ≤ max_lines * entry_size = filled-room (max_lines * entry_size) (entry_numbers r.line_map) (rw (← ap (λ (x : Answer). x.lines) e) z.lines) in
@@ -64,7 +65,7 @@ whole-result countless place s x h =
     absurd (no_result bad_rule 0 x a.2)
 
 pub text-short : (e : Ending) (place : ℕ) (s : Stores) (a : Answer) → a ≡ answer full_room (rewrite_into place full_room (contents s.sheet) (handed_rules e s) (handed e s))
-    → Sized a → Known a.code a.protected a.lines → length (text (concluded_as e place s)) ≤ text_room
+    → Sized a.code a.protected a.lines → Known a.code a.protected a.lines → length (text (concluded_as e place s)) ≤ text_room
 text-short e place s a c z k = go (concluded_as e place s) refl
   where
     go : (x : Res (Sheet × Rewritten)) → concluded_as e place s ≡ x → length (text x) ≤ text_room

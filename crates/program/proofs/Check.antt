@@ -16,7 +16,7 @@ use Rattle.definition.specs.Tree.{Fault, Program, Block}
 use Rattle.definition.specs.Program as def
 use Rattle.definition.specs.Program.{is, not, Header, line_at, header_forms, next_line, stmt_at, block_of, fault_of_block, ends_in_lf, header_of, no_fault, top_stmts, read_program}
 use Rattle.field.proofs.Parts.{line-ends}
-use Rattle.field.proofs.Results.{never, ok-is, ok-demand, ok-bind}
+use Rattle.field.proofs.Results.{ok-is, ok-demand, ok-bind}
 use Rattle.field.proofs.Tests.{and_left, and_right}
 use Rattle.std.specs.Prelude.{Result, Ok, Err}
 use Rattle.std.specs.List.{ends_with}
@@ -66,7 +66,7 @@ behind text p f c = no_fault f >> (demand (leb (length text) c.at) wrong_lines c
 -- where a walk that heeds faults stands, it is answered
 behind-refused : (text : List ℕ) (p : Program) (f : Option Fault) (c : def.Cursor) (n r : ℕ) → refuse n r ≡ outcome true f c → behind text p f c ≡ refuse n r
 unfolding outcome behind no_fault ◌>>◌
-behind-refused text p none c n r e = never (cc)
+behind-refused text p none c n r e = absurd (cc)
 behind-refused text p (some f) c n r e =
     let a : f.number ≡ n = cc in
     let b : f.place ≡ r = cc in
@@ -75,7 +75,7 @@ behind-refused text p (some f) c n r e =
 behind-on : (text : List ℕ) (p : Program) (f : Option Fault) (c d : def.Cursor) → ok d ≡ outcome true f c → behind text p f c ≡ demand (leb (length text) d.at) wrong_lines d.row >> ok p
 unfolding outcome behind no_fault ◌>>◌
 behind-on text p none c d e = let q : c ≡ d = cc in rw q
-behind-on text p (some f) c d e = never (cc)
+behind-on text p (some f) c d e = absurd (cc)
 
 module _ {text : List ℕ} {h : Header} (headed : Headed text h) {top : Cursor} (passed : Skipped text (next_line text (record { at = 0; row = 1 })) top) {n : ℕ} (all : n ≡ h.statements) where
   abbrev body : Block × def.Cursor
@@ -110,7 +110,7 @@ module _ {text : List ℕ} {h : Header} (headed : Headed text h) {top : Cursor} 
 no-fault : {A : Type 0} (f : Option Fault) (m : Res A) (x : A) → (no_fault f >> m) ≡ ok x → m ≡ ok x
 unfolding no_fault ◌>>◌
 no-fault none m x e = e
-no-fault (some f) m x e = never (cc)
+no-fault (some f) m x e = absurd (cc)
 
 -- the header of a text that is read, and its tree
 read_as_lem : (text : List ℕ) (p : Program) → read_program text ≡ ok p
@@ -129,7 +129,7 @@ module _ (text : List ℕ) where
     where
       go : (r : Res Program) → read_program text ≡ r
           → ◌>>=◌ {B = Header × ℕ} r (λ q. ◌>>=◌ {B = Header × ℕ} (header_of (line_at header_forms max_nesting text 0)) (λ h. ok (h, (next_line text (record { at = 0; row = 1 })).at))) ≡ refuse n p → r ≡ refuse n p
-      go (ok q) k e = let e' = rw (read_as_lem text q k).1 at e in never (cc)
+      go (ok q) k e = let e' = rw (read_as_lem text q k).1 at e in absurd (cc)
       go (refuse m q) k e =
           let a : m ≡ n = cc in
           let b : q ≡ p = cc in

@@ -21,7 +21,6 @@ use Rattle.definition.specs.declared.Refusal.{Refusal}
 use Rattle.definition.specs.declared.Refused.{Refused}
 use Rattle.field.specs.View.{Ends, line_end}
 use Rattle.field.proofs.Parts.{line-ends}
-use Rattle.field.proofs.Results.{never}
 use Rattle.field.proofs.Refusals.{LineTold, anything, at_told}
 use Rattle.program_line.specs.declared.Next.{Next}
 use Rattle.program_line.specs.declared.LabelLine.{LabelLine}
@@ -165,8 +164,8 @@ module _ {P : Type 0} (forms : List (Form P)) (left : ℕ) (text : List ℕ) (at
       go : (t u : Bool) → ltb at (length text) ≡ t → eqb left 0 ≡ u
           → ◌≡◌ {A = Line P} (elim t [ false ↦ not wrong_lines | true ↦ elim u [ true ↦ not too_deep | false ↦ line_of forms (split comma (first_line (drop at text))) ] ]) (is l)
           → (at < length text) × (0 < left)
-      go false u a b e = never (cc)
-      go true true a b e = never (cc)
+      go false u a b e = absurd (cc)
+      go true true a b e = absurd (cc)
       go true false a b e = let h = eqb-false left 0 b in (ltb-true at (length text) a, omega arith)
 
 -- ---- the reading at a place
@@ -362,7 +361,7 @@ module _ {T P : Type 0} (of : T → P) (forms : List (Form P)) (left : ℕ) (tex
 -- ---- a walk that heeds no fault goes to the place that is read
 
 pub unrefused : {f : def.Cursor → Res def.Cursor} {text : List ℕ} {c : Cursor} (d : def.Cursor) (e : Refused) → Walked f text c (Err e) → f (cursor_of c) ≡ ok d → ⊥
-unrefused d e w k = let p = w.did ∙ k in never (cc)
+unrefused d e w k = let p = w.did ∙ k in absurd (cc)
 
 pub skipped : {f : def.Cursor → Res def.Cursor} {text : List ℕ} {c : Cursor} (d : def.Cursor) (r : Cursor) → Walked f text c (Ok r) → f (cursor_of c) ≡ ok d → Skipped text d r
 skipped d r w e = let p = w.did ∙ e in record { is = cc; near = w.stands.0 }

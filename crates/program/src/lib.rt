@@ -161,30 +161,142 @@ pub fn next_line(text: &[u8], c: Cursor, end: usize) -> Cursor
     behind(text, c, end)
 }
 
-// ---- walks. One that heeds no fault is never refused: it goes on from a line at fault
+// ---- walks
 
-// So many expressions.
-#[cycle(exprs)]
-fn walk_exprs(
-    text: &[u8],
+// A walk over parts of a program of so many variables. One that heeds no fault is never refused: it goes on from a line at fault.
+#[derive(Clone, Copy)]
+struct Walk<'a> {
+    text: &'a [u8],
     variables: u16,
     heed: bool,
-    left: usize,
-    n: usize,
-    c: Cursor,
-) -> Result<Cursor, Refused>
-    requires { Near text.now c.at c.row }
-    ensures { Walked (many n (over_expr heed left variables text.now)) text.now c result }
-{
-    let mut on = c;
-    for _ in 0..n {
-        on = walk_expr(text, variables, heed, left, on)?;
-    }
-    Ok(on)
 }
 
-// An expression, with so many nesting levels left.
-#[cycle(exprs)]
+impl<'a> Walk<'a> {
+    // So many expressions.
+    #[cycle(exprs)]
+    fn exprs(&self, left: usize, n: usize, c: Cursor) -> Result<Cursor, Refused>
+        requires { Near self.now.text.now c.at c.row }
+        ensures { Walked (many n (over_expr self.now.heed left self.now.variables self.now.text.now)) self.now.text.now c result }
+    {
+        let mut on = c;
+        for _ in 0..n {
+            on = self.expr(left, on)?;
+        }
+        Ok(on)
+    }
+
+    // An expression, with so many nesting levels left.
+    #[cycle(exprs)]
+    fn expr(&self, left: usize, c: Cursor) -> Result<Cursor, Refused>
+        requires { Near self.now.text.now c.at c.row }
+        ensures { Walked (over_expr self.now.heed left self.now.variables self.now.text.now) self.now.text.now c result }
+    {
+        match program_line::next_expr(self.text, self.variables, left, c.at) {
+            Err(refusal) => fail(c, self.heed, refusal),
+            Ok(next) => {
+                let on = next_line(self.text, c, next.end);
+                self.exprs(left - 1, operands_of(next.line), on)
+            }
+        }
+    }
+
+    // So many labels.
+    fn labels(&self, left: usize, n: usize, c: Cursor) -> Result<Cursor, Refused>
+        requires { Near self.now.text.now c.at c.row }
+        ensures { Walked (many n (over_label self.now.heed left self.now.text.now)) self.now.text.now c result }
+    {
+        let mut on = c;
+        for _ in 0..n {
+            on = self.label(left, on)?;
+        }
+        Ok(on)
+    }
+
+    // A label's line.
+    fn label(&self, left: usize, c: Cursor) -> Result<Cursor, Refused>
+        requires { Near self.now.text.now c.at c.row }
+        ensures { Walked (over_label self.now.heed left self.now.text.now) self.now.text.now c result }
+    {
+        match program_line::next_label(self.text, left, c.at) {
+            Err(refusal) => fail(c, self.heed, refusal),
+            Ok(next) => Ok(next_line(self.text, c, next.end)),
+        }
+    }
+
+    // So many arms.
+    #[cycle(stmts)]
+    fn arms(&self, ends: &mut Ends, left: usize, n: usize, c: Cursor) -> Result<Cursor, Refused>
+        requires near { Near self.now.text.now c.at c.row }
+        requires sound { Sound self.now.text.now self.now.variables ends.old }
+        ensures walked { Walked (many n (over_arm self.now.heed left self.now.variables self.now.text.now)) self.now.text.now c result }
+        ensures sound_2 { Sound self.now.text.now self.now.variables ends.new }
+    {
+        let mut on = c;
+        for _ in 0..n {
+            on = self.arm(ends, left, on)?;
+        }
+        Ok(on)
+    }
+
+    // An arm: its line, its labels and its body.
+    #[cycle(stmts)]
+    fn arm(&self, ends: &mut Ends, left: usize, c: Cursor) -> Result<Cursor, Refused>
+        requires near { Near self.now.text.now c.at c.row }
+        requires sound { Sound self.now.text.now self.now.variables ends.old }
+        ensures walked { Walked (over_arm self.now.heed left self.now.variables self.now.text.now) self.now.text.now c result }
+        ensures sound_2 { Sound self.now.text.now self.now.variables ends.new }
+    {
+        match program_line::next_arm(self.text, left, c.at) {
+            Err(refusal) => fail(c, self.heed, refusal),
+            Ok(next) => {
+                let arm = next.line;
+                let on = next_line(self.text, c, next.end);
+                let body = self.labels(left, usize::from(arm.labels), on)?;
+                self.stmts(ends, left, usize::from(arm.statements), body)
+            }
+        }
+    }
+
+    // So many statements.
+    #[cycle(stmts)]
+    fn stmts(&self, ends: &mut Ends, left: usize, n: usize, c: Cursor) -> Result<Cursor, Refused>
+        requires near { Near self.now.text.now c.at c.row }
+        requires sound { Sound self.now.text.now self.now.variables ends.old }
+        ensures walked { Walked (many n (over_stmt self.now.heed left self.now.variables self.now.text.now)) self.now.text.now c result }
+        ensures sound_2 { Sound self.now.text.now self.now.variables ends.new }
+    {
+        let mut on = c;
+        for _ in 0..n {
+            on = self.stmt(ends, left, on)?;
+        }
+        Ok(on)
+    }
+
+    // A statement, with so many nesting levels left: its line, then its parts.
+    #[cycle(stmts)]
+    fn stmt(&self, ends: &mut Ends, left: usize, c: Cursor) -> Result<Cursor, Refused>
+        requires near { Near self.now.text.now c.at c.row }
+        requires sound { Sound self.now.text.now self.now.variables ends.old }
+        ensures walked { Walked (over_stmt self.now.heed left self.now.variables self.now.text.now) self.now.text.now c result }
+        ensures sound_2 { Sound self.now.text.now self.now.variables ends.new }
+    {
+        match program_line::next_stmt(self.text, self.variables, left, c.at) {
+            Err(refusal) => fail(c, self.heed, refusal),
+            Ok(next) => {
+                let p = parts_of(next.line);
+                let l = left - 1;
+                let on = next_line(self.text, c, next.end);
+                let arms = self.exprs(l, p.exprs, on)?;
+                let first = self.arms(ends, l, p.arms, arms)?;
+                let second = self.stmts(ends, l, p.first, first)?;
+                ends.note(self.heed, l, p, first, second);
+                self.stmts(ends, l, p.second, second)
+            }
+        }
+    }
+}
+
+// Over an expression, with so many nesting levels left, in a program of so many variables.
 pub fn walk_expr(
     text: &[u8],
     variables: u16,
@@ -195,97 +307,15 @@ pub fn walk_expr(
     requires { Near text.now c.at c.row }
     ensures { Walked (over_expr heed left variables text.now) text.now c result }
 {
-    match program_line::next_expr(text, variables, left, c.at) {
-        Err(refusal) => fail(c, heed, refusal),
-        Ok(next) => {
-            let on = next_line(text, c, next.end);
-            walk_exprs(text, variables, heed, left - 1, operands_of(next.line), on)
-        }
-    }
+    let walk = Walk {
+        text,
+        variables,
+        heed,
+    };
+    walk.expr(left, c)
 }
 
-// So many labels.
-fn walk_labels(text: &[u8], heed: bool, left: usize, n: usize, c: Cursor) -> Result<Cursor, Refused>
-    requires { Near text.now c.at c.row }
-    ensures { Walked (many n (over_label heed left text.now)) text.now c result }
-{
-    let mut on = c;
-    for _ in 0..n {
-        on = walk_label(text, heed, left, on)?;
-    }
-    Ok(on)
-}
-
-// A label's line.
-fn walk_label(text: &[u8], heed: bool, left: usize, c: Cursor) -> Result<Cursor, Refused>
-    requires { Near text.now c.at c.row }
-    ensures { Walked (over_label heed left text.now) text.now c result }
-{
-    match program_line::next_label(text, left, c.at) {
-        Err(refusal) => fail(c, heed, refusal),
-        Ok(next) => Ok(next_line(text, c, next.end)),
-    }
-}
-
-// So many arms.
-#[cycle(stmts)]
-fn walk_arms(
-    text: &[u8],
-    ends: &mut Ends,
-    variables: u16,
-    heed: bool,
-    left: usize,
-    n: usize,
-    c: Cursor,
-) -> Result<Cursor, Refused>
-    requires near { Near text.now c.at c.row }
-    requires sound { Sound text.now variables ends.old }
-    ensures walked { Walked (many n (over_arm heed left variables text.now)) text.now c result }
-    ensures sound_2 { Sound text.now variables ends.new }
-{
-    let mut on = c;
-    for _ in 0..n {
-        on = walk_arm(text, ends, variables, heed, left, on)?;
-    }
-    Ok(on)
-}
-
-// An arm: its line, its labels and its body.
-#[cycle(stmts)]
-fn walk_arm(
-    text: &[u8],
-    ends: &mut Ends,
-    variables: u16,
-    heed: bool,
-    left: usize,
-    c: Cursor,
-) -> Result<Cursor, Refused>
-    requires near { Near text.now c.at c.row }
-    requires sound { Sound text.now variables ends.old }
-    ensures walked { Walked (over_arm heed left variables text.now) text.now c result }
-    ensures sound_2 { Sound text.now variables ends.new }
-{
-    match program_line::next_arm(text, left, c.at) {
-        Err(refusal) => fail(c, heed, refusal),
-        Ok(next) => {
-            let arm = next.line;
-            let on = next_line(text, c, next.end);
-            let body = walk_labels(text, heed, left, usize::from(arm.labels), on)?;
-            walk_stmts(
-                text,
-                ends,
-                variables,
-                heed,
-                left,
-                usize::from(arm.statements),
-                body,
-            )
-        }
-    }
-}
-
-// So many statements.
-#[cycle(stmts)]
+// Over so many statements.
 pub fn walk_stmts(
     text: &[u8],
     ends: &mut Ends,
@@ -300,41 +330,12 @@ pub fn walk_stmts(
     ensures walked { Walked (many n (over_stmt heed left variables text.now)) text.now c result }
     ensures sound_2 { Sound text.now variables ends.new }
 {
-    let mut on = c;
-    for _ in 0..n {
-        on = walk_stmt(text, ends, variables, heed, left, on)?;
-    }
-    Ok(on)
-}
-
-// A statement, with so many nesting levels left: its line, then its parts.
-#[cycle(stmts)]
-fn walk_stmt(
-    text: &[u8],
-    ends: &mut Ends,
-    variables: u16,
-    heed: bool,
-    left: usize,
-    c: Cursor,
-) -> Result<Cursor, Refused>
-    requires near { Near text.now c.at c.row }
-    requires sound { Sound text.now variables ends.old }
-    ensures walked { Walked (over_stmt heed left variables text.now) text.now c result }
-    ensures sound_2 { Sound text.now variables ends.new }
-{
-    match program_line::next_stmt(text, variables, left, c.at) {
-        Err(refusal) => fail(c, heed, refusal),
-        Ok(next) => {
-            let p = parts_of(next.line);
-            let l = left - 1;
-            let on = next_line(text, c, next.end);
-            let arms = walk_exprs(text, variables, heed, l, p.exprs, on)?;
-            let first = walk_arms(text, ends, variables, heed, l, p.arms, arms)?;
-            let second = walk_stmts(text, ends, variables, heed, l, p.first, first)?;
-            ends.note(heed, l, p, first, second);
-            walk_stmts(text, ends, variables, heed, l, p.second, second)
-        }
-    }
+    let walk = Walk {
+        text,
+        variables,
+        heed,
+    };
+    walk.stmts(ends, left, n, c)
 }
 
 // ---- where bodies of loops end. A REPEAT is seen behind its body, so these are looked up when it is emitted; what is noted only saves time

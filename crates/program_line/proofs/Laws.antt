@@ -182,19 +182,6 @@ module _ {T L : Type 0} (of : T → L) where
   unfolding held
   line-found forms letter {fields} {make} {s} {t} {ns} fresh ran fit l e = found-at (ap (made make) (sym ran.is) ∙ rw fresh (sym (fit.is _))) (sym ran.line) (finished_at make ns t.text.now t.place t.verdict l e)
 
--- a byte that is no letter of theirs
-abbrev pub Differ : {L : Type 0} → List (Form L) → ℕ → Type 0
-Differ [] b = Unit {0}
-Differ (x ∷ xs) b = (b ≡ x.letter → ⊥) × Differ xs b
-
-differ : {L : Type 0} (forms : List (Form L)) (b : ℕ) → Differ forms b → (fs : List (List ℕ)) → by_letter forms b fs ≡ not bad_form
-unfolding by_letter
-differ [] b h fs = refl
-differ (x ∷ xs) b h fs = rw (by_letter, ne_eqb x.letter b (λ e. h.0 (sym e))) (differ xs b h.1 fs)
-
-pub no-letter : {T L : Type 0} (of : T → L) (forms : List (Form L)) (b : ℕ) → Differ forms b → (fs : List (List ℕ)) (stop : ℕ) → Found of (Err BadForm) (by_letter forms b fs) stop
-no-letter of forms b d fs stop = record { is = sym (differ forms b d fs); ends = tt }
-
 -- ---- the text at a place
 
 letter-one : (bs : List ℕ) → length bs ≡ 1 → bs ≡ get_or bs 0 0 ∷ []

@@ -3,7 +3,7 @@ use Rattle.std.specs.Prelude.{ℕ, ◌+◌, ◌≤◌, ◌<◌, ◌≡◌, ◌�
 use Rattle.definition.specs.Field as def
 use Rattle.definition.specs.Field.{comma, Field, Read, malformed, outside, Numbers, wrong, far, are, numbers}
 use Rattle.definition.specs.Tree.{pos_numbers}
-use Rattle.definition.specs.Program.{Line, pos_fields}
+use Rattle.definition.specs.Program.{Line, pos_fields, by_letter, header_forms, stmt_forms, expr_forms, arm_forms, label_forms, placed, form}
 use Rattle.definition.specs.declared.Refusal.{Refusal}
 use Rattle.definition.specs.declared.Refusal.TheVariants.{BadForm, BadRange, TooDeep, WrongLines}
 use Rattle.field.specs.View.{line_fields, line_end}
@@ -143,3 +143,8 @@ pub record Fetched {T : Type 0} (by : ℕ → Scan → Result (Next T) Refusal �
 unfoldable pub open_Scan : Unit {0}
 unfolding behind_if farther worse finished_by
 open_Scan = tt
+
+-- the same of the definition's letters
+unfoldable pub open_forms : Unit {0}
+unfolding by_letter header_forms stmt_forms expr_forms arm_forms label_forms placed form
+open_forms = tt

@@ -160,9 +160,9 @@ fn short_circuit_op(n: u16) -> ShortCircuitOp
 
 // ---- the fields behind a line's letter
 
-// How the numbers of a line stand so far: a malformed one (2) wins over one outside its range (3), whatever their order. So a field at fault
+// How the numbers of a line stand so far, from good to bad: a malformed one (2) wins over one outside its range (3), whatever their order. So a field at fault
 // does not end the line's reading with `?`, and its fault is kept here until the line's end.
-#[derive(Clone, Copy)]
+#[derive(Clone, Copy, PartialEq, Eq, PartialOrd, Ord)]
 pub enum Verdict {
     Good,
     Far,
@@ -203,11 +203,8 @@ fn worse(verdict: Verdict, read: Result<u32, Fault>) -> Verdict
 {
     match read {
         Ok(_) => verdict,
+        Err(Fault::Outside) => verdict.max(Verdict::Far),
         Err(Fault::Malformed) => Verdict::Wrong,
-        Err(Fault::Outside) => match verdict {
-            Verdict::Wrong => Verdict::Wrong,
-            Verdict::Good | Verdict::Far => Verdict::Far,
-        },
     }
 }
 
@@ -472,6 +469,7 @@ fn short_circuit_line(mut s: Scan, variables: u16) -> Result<Next<ExprLine>, Ref
 
 // ---- a line by its letter, whichever it is
 
+#[tactic(auto, using(std::proofs::lemmas::Bool::Decides::nat_tests), unfolding(crate::specs::Scan::open_forms))]
 fn header_of(letter: u8, s: Scan) -> Result<Next<HeaderLine>, Refusal>
     requires { Fresh s }
     ensures { Found header_line result (by_letter header_forms letter (rest s.entry)) (ending s.entry) }
@@ -482,6 +480,7 @@ fn header_of(letter: u8, s: Scan) -> Result<Next<HeaderLine>, Refusal>
     }
 }
 
+#[tactic(auto, using(std::proofs::lemmas::Bool::Decides::nat_tests), unfolding(crate::specs::Scan::open_forms))]
 fn stmt_of(letter: u8, s: Scan, variables: u16) -> Result<Next<StmtLine>, Refusal>
     requires { Fresh s }
     ensures { Found stmt_line result (by_letter (stmt_forms variables) letter (rest s.entry)) (ending s.entry) }
@@ -499,6 +498,7 @@ fn stmt_of(letter: u8, s: Scan, variables: u16) -> Result<Next<StmtLine>, Refusa
     }
 }
 
+#[tactic(auto, using(std::proofs::lemmas::Bool::Decides::nat_tests), unfolding(crate::specs::Scan::open_forms))]
 fn expr_of(letter: u8, s: Scan, variables: u16) -> Result<Next<ExprLine>, Refusal>
     requires { Fresh s }
     ensures { Found expr_line result (by_letter (expr_forms variables) letter (rest s.entry)) (ending s.entry) }
@@ -515,6 +515,7 @@ fn expr_of(letter: u8, s: Scan, variables: u16) -> Result<Next<ExprLine>, Refusa
     }
 }
 
+#[tactic(auto, using(std::proofs::lemmas::Bool::Decides::nat_tests), unfolding(crate::specs::Scan::open_forms))]
 fn arm_of(letter: u8, s: Scan) -> Result<Next<ArmLine>, Refusal>
     requires { Fresh s }
     ensures { Found arm_line result (by_letter arm_forms letter (rest s.entry)) (ending s.entry) }
@@ -525,6 +526,7 @@ fn arm_of(letter: u8, s: Scan) -> Result<Next<ArmLine>, Refusal>
     }
 }
 
+#[tactic(auto, using(std::proofs::lemmas::Bool::Decides::nat_tests), unfolding(crate::specs::Scan::open_forms))]
 fn label_of(letter: u8, s: Scan) -> Result<Next<LabelLine>, Refusal>
     requires { Fresh s }
     ensures { Found label_line result (by_letter label_forms letter (rest s.entry)) (ending s.entry) }

@@ -12,7 +12,6 @@ use Rattle.definition.specs.Tree.{Pos, Source, Expr, Stmt, if, Arms, is_done, is
 use Rattle.definition.specs.Program as def
 use Rattle.definition.specs.Program.{Line, is, not, Reader, A, I, S, F, L, X, N, R, K, B, D, O, U, C, H, StmtLine, ExprLine, next_line, line_at, stmt_forms, expr_forms, expr_of, expr_at, stmt_of, stmt_at, block_of}
 use Rattle.definition.specs.CompileExpr.{read_of, constant_of, zip, or_classified, classify}
-use Rattle.field.proofs.Results.{never}
 use Rattle.field.proofs.Tests.{and_left, and_right}
 use Rattle.std.specs.Prelude as code
 use Rattle.std.specs.Prelude.{Some, None, Ok, Err}
@@ -59,10 +58,10 @@ module _ (left v : ℕ) {text : List ℕ} (c : Cursor) where
 module _ {T P : Type 0} {of : T → P} {x : Line P} {stop : ℕ} where
   pub found-some : (r : code.Result (Next T) Refusal) (n : Next T) → Some n ≡ result_ok r → Found of r x stop → Found of (Ok n) x stop
   found-some (Ok m) n e f = let same : n ≡ m = cc in rw same f
-  found-some (Err k) n e f = never (cc)
+  found-some (Err k) n e f = absurd (cc)
 
   pub found-none : (r : code.Result (Next T) Refusal) → None ≡ result_ok r → Found of r x stop → (k : ℕ) × (not k ≡ x)
-  found-none (Ok m) e f = never (cc)
+  found-none (Ok m) e f = absurd (cc)
   found-none (Err k) e f = (refusal_number k, f.is)
 
 -- ---- ends of bodies that were noted
@@ -170,14 +169,14 @@ line-exits i expr stmt arms s c (R p) = refl
 
 exit-ends : (i : ℕ) (expr : Reader Expr) (stmt : Reader Stmt) (arms : ℕ → Reader Arms) (s : Pos → Source) (c : def.Cursor) (l : StmtLine) → exit_line i l ≡ true → (stmt_of expr stmt arms s c l).1 ≡ c
 unfolding stmt_of exit_line
-exit-ends i expr stmt arms s c (A p v) e = never (cc)
-exit-ends i expr stmt arms s c (I p n m) e = never (cc)
-exit-ends i expr stmt arms s c (S p n m) e = never (cc)
-exit-ends i expr stmt arms s c (F p j v k n) e = never (cc)
-exit-ends i expr stmt arms s c (L p j n m) e = never (cc)
+exit-ends i expr stmt arms s c (A p v) e = absurd (cc)
+exit-ends i expr stmt arms s c (I p n m) e = absurd (cc)
+exit-ends i expr stmt arms s c (S p n m) e = absurd (cc)
+exit-ends i expr stmt arms s c (F p j v k n) e = absurd (cc)
+exit-ends i expr stmt arms s c (L p j n m) e = absurd (cc)
 exit-ends i expr stmt arms s c (X p j) e = refl
-exit-ends i expr stmt arms s c (N p j) e = never (cc)
-exit-ends i expr stmt arms s c (R p) e = never (cc)
+exit-ends i expr stmt arms s c (N p j) e = absurd (cc)
+exit-ends i expr stmt arms s c (R p) e = absurd (cc)
 
 module _ (i left v : ℕ) (text : List ℕ) (c : def.Cursor) (l : StmtLine) (k : is l ≡ line_at (stmt_forms v) left text c.at) where
   exit-at : is_exit_stmt i (stmt_at left v text c).0 ≡ exit_line i l
@@ -223,14 +222,14 @@ record Fitting (when : Bool) (l : StmtLine) : Type 0 where
 
 fitting : (when : Bool) (l : StmtLine) → if_fits when l ≡ true → Fitting when l
 unfolding if_fits
-fitting when (A p v) e = never (cc)
+fitting when (A p v) e = absurd (cc)
 fitting when (I p n m) e = record { pos = p; first = n; second = m; line = refl; fit = e }
-fitting when (S p n m) e = never (cc)
-fitting when (F p j v k n) e = never (cc)
-fitting when (L p j n m) e = never (cc)
-fitting when (X p j) e = never (cc)
-fitting when (N p j) e = never (cc)
-fitting when (R p) e = never (cc)
+fitting when (S p n m) e = absurd (cc)
+fitting when (F p j v k n) e = absurd (cc)
+fitting when (L p j n m) e = absurd (cc)
+fitting when (X p j) e = absurd (cc)
+fitting when (N p j) e = absurd (cc)
+fitting when (R p) e = absurd (cc)
 
 -- the condition and the places make the answer
 exit_by_lem : (left v : ℕ) (text : List ℕ) (c d : def.Cursor) (o : Option Expr) (r : code.Option ExitIf) → exit_condition left v text r ≡ o → exit_places text c d r → r ≡ exit_by text c d o

@@ -3,13 +3,13 @@ use Rattle.text.proofs.Told.{part-long}
 use Rattle.passes_answer.proofs.put_whole.Goals as goal
 
 pub slice_bounds-put_offsets-end : goal.slice_bounds-put_offsets-end
-slice_bounds-put_offsets-end c = part-long _ _ _ c.least-k.ensures
+slice_bounds-put_offsets-end c = part-long _ _ _ c.min-k.ensures
 
 pub slice_bounds-put_entries-end : goal.slice_bounds-put_entries-end
 slice_bounds-put_entries-end c = part-long _ _ _ c.entry_numbers-m.ensures
 
 pub slice_bounds-put_instructions-end : goal.slice_bounds-put_instructions-end
-slice_bounds-put_instructions-end c = part-long _ _ _ c.least-n.ensures
+slice_bounds-put_instructions-end c = part-long _ _ _ c.min-n.ensures
 
-pub returns : goal.returns
-returns c = whole-put _ _ _ c.least-n.ensures c.least-k.ensures c.entry_numbers-m.ensures c.put_counts-one.ensures c.put_offsets-two.ensures c.put_entries-three.ensures c.put_instructions.ensures
+pub returns-clause-is : goal.returns-clause-is
+returns-clause-is c = whole-put _ _ _ c.min-n.ensures c.min-k.ensures c.entry_numbers-m.ensures c.put_counts.ensures.is c.put_offsets.ensures.is c.put_entries.ensures.is c.put_instructions.ensures.is

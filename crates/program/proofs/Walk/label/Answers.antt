@@ -2,7 +2,7 @@ use mathlib.Core.Path.{sym}
 use Rattle.definition.specs.Program.{label_forms}
 use Rattle.program_line.specs.View.{label_line}
 use Rattle.program.proofs.Laws.{fails, goes_over, line-inside, label-fault, label-over, walked_none}
-use Rattle.program.proofs.walk_label.Goals as goal
+use Rattle.program.proofs.Walk.label.Goals as goal
 
 pub next_line-requires-clause-at_in_bounds : goal.next_line-requires-clause-at_in_bounds
 next_line-requires-clause-at_in_bounds c = (line-inside label_line label_forms _ _ _ _ c.in-Ok.ensures).0

@@ -1,6 +1,6 @@
 use Rattle.std.proofs.lemmas.Result.{err_from_is_err_and}
 use Rattle.program.proofs.Laws.{begins, goes_on, ends, breaks}
-use Rattle.program.proofs.walk_labels.Goals as goal
+use Rattle.program.proofs.Walk.labels.Goals as goal
 
 pub loop-init : goal.loop-init
 loop-init c = begins _ _ c.requires
