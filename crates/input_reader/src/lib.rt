@@ -76,9 +76,7 @@ const LAST_FIELD: u8 = ENTRY_SIZE as u8 - 1;
 const RULES: u32 = MAX_RULES as u32;
 
 // The largest number of a code line.
-const MAX_BYTE: u32 = 255;
-
-const LAST_LINE: u64 = 18446744073709551615;
+const MAX_BYTE: u32 = u8::MAX as u32;
 
 // The room that loses nothing of any input.
 pub const SHEET_ROOM: usize = FIELD_ROOM as usize * (FIELD_WIDTH as usize + 1);
@@ -93,6 +91,7 @@ pub const ENTRY_ROOM: usize = ENTRY_SIZE * (MAX_LINES + 1);
 
 pub const PROGRAM_ROOM: usize = MAX_PROGRAM + 1;
 
+// The machine's rooms are these.
 pub fn sheet_room() -> usize
     ensures { result ≡ def.sheet_room }
 {

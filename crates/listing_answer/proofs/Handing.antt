@@ -1,5 +1,5 @@
 -- What is handed over, and what is put for an answer.
-use mathlib.Core.Path.{◌≡◌, ap, ◌∙◌}
+use mathlib.Core.Path.{◌≡◌, refl, ap, ◌∙◌}
 use mathlib.Core.Bool.{Bool, true, false}
 use mathlib.Core.List.{List, [], ◌∷◌}
 use mathlib.Core.Option.{Option}
@@ -16,17 +16,12 @@ use Rattle.store.proofs.Fills.{take-least}
 use Rattle.input_machine.specs.Machine.{Stores, Ending, whole, cut, countless}
 use Rattle.input_reader.specs.Handed.{handed as part}
 use Rattle.input_reader.specs.View.{is_counted, handed_rules}
+use Rattle.input_reader.proofs.Handing.{rules-handed}
 use Rattle.text.specs.Text.{instructions_by}
 use Rattle.text.proofs.Puts.{put_four}
 use Rattle.listing_answer.specs.View.{handed_program, whole_text}
 
 -- ---- by the ending
-
-rules-handed : (e : Ending) (s : Stores) → part (is_counted e) s.rules ≡ handed_rules e s
-unfolding part is_counted handed_rules
-rules-handed whole s = refl
-rules-handed (cut n) s = refl
-rules-handed countless s = refl
 
 program-handed : (e : Ending) (s : Stores) → part (is_counted e) s.code ≡ handed_program e s
 unfolding part is_counted handed_program

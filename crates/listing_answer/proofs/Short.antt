@@ -1,5 +1,6 @@
 -- The text is never longer than listing_room.
 use mathlib.Core.Path.{◌≡◌, refl, ap, sym, ◌∙◌}
+use mathlib.Core.List.{List}
 use Prim.Native.Nat.{ℕ, ◌*◌, ◌^◌, ◌≤◌}
 use native.Mathlib.Omega.{arith}
 use lib.ListN.{length}
@@ -10,7 +11,7 @@ use Rattle.definition.specs.Sheet.{read_sheet}
 use Rattle.definition.specs.Lent.{entry_numbers}
 use Rattle.definition.specs.Compile.{FinalizedFunction, Answer, answer, compile_files, compile_into}
 use Rattle.definition.specs.Listing.{text}
-use Rattle.field.proofs.Results.{never, ok-is, ok-bind}
+use Rattle.field.proofs.Results.{ok-is, ok-bind}
 use Rattle.line_map.proofs.Entries.{length-numbers}
 use Rattle.store.specs.Store.{contents}
 use Rattle.text.specs.Text.{listing_room}
@@ -23,12 +24,12 @@ use Rattle.listing_answer.proofs.Conclusion.{into-files}
 
 -- ---- an answer within the limits
 
-pub record Sized (a : Answer) : Type 0 where
-  pub code : length a.code ≡ max_code
-  pub constants : length a.constants ≡ max_constants
-  pub lines : length a.lines ≡ max_lines * entry_size
+pub record Sized (bytes words list : List ℕ) : Type 0 where
+  pub code : length bytes ≡ max_code
+  pub constants : length words ≡ max_constants
+  pub lines : length list ≡ max_lines * entry_size
 
-brief : (f : FinalizedFunction) (a : Answer) → a ≡ answer full_room (ok f) → Sized a → Known a.code a.constants a.lines → Brief f
+brief : (f : FinalizedFunction) (a : Answer) → a ≡ answer full_room (ok f) → Sized a.code a.constants a.lines → Known a.code a.constants a.lines → Brief f
 unfolding answer
 brief f a e z k =
     let lines : length (entry_numbers f.line_map) ≤ max_lines * entry_size = filled-room (max_lines * entry_size) (entry_numbers f.line_map) (rw (← ap (λ (x : Answer). x.lines) e) z.lines) in
@@ -55,10 +56,10 @@ result : (e : Ending) (place : ℕ) (s : Stores) (x : Sheet × FinalizedFunction
 unfolding listed_as handed_rules handed_program
 result whole place s x h = from-result place s x h
 result (cut n) place s x h = from-result place s x h
-result countless place s x h = let a = ok-bind (given (read_sheet (contents s.sheet)) bad_sheet place) _ x h in never (let q : refuse bad_rule 0 ≡ ok x = a.2 in cc)
+result countless place s x h = let a = ok-bind (given (read_sheet (contents s.sheet)) bad_sheet place) _ x h in absurd (let q : refuse bad_rule 0 ≡ ok x = a.2 in cc)
 
 pub text-short : (e : Ending) (place : ℕ) (s : Stores) (a : Answer) → a ≡ answer full_room (compile_into place full_room (contents s.sheet) (handed_rules e s) (handed_program e s))
-    → Sized a → Known a.code a.constants a.lines → length (text (listed_as e place s)) ≤ listing_room
+    → Sized a.code a.constants a.lines → Known a.code a.constants a.lines → length (text (listed_as e place s)) ≤ listing_room
 text-short e place s a c z k = go (listed_as e place s) refl
   where
     go : (x : Res (Sheet × FinalizedFunction)) → listed_as e place s ≡ x → length (text x) ≤ listing_room

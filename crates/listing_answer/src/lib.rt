@@ -1,7 +1,7 @@
 // The end of the listing's input: what was read is compiled, and the text of the answer is put into a lent output.
 #![tactic(auto)]
 
-ghost use Rattle.std.specs.Prelude.{◌≡◌};
+ghost use Rattle.std.specs.Prelude.{◌≡◌, Ok};
 ghost use Rattle.definition.specs.Sheet.{read_sheet};
 ghost use Rattle.definition.specs.Compile.{Compiles};
 ghost use Rattle.definition.specs.Listing.{cut_line, listed, text};
@@ -9,14 +9,14 @@ ghost use Rattle.store.specs.Store.{at, contents, push_all};
 ghost use Rattle.input_machine.specs.Machine.{ending, listed_at};
 ghost use Rattle.input_reader.specs.View.{head_view, stores_view, state_view, handed_rules};
 ghost use Rattle.compile.specs.Call.{room, answer_view};
-ghost use Rattle.text.specs.Text.{listing_room, Told};
+ghost use Rattle.text.specs.Text.{listing_room, store_of, Told};
 ghost use Rattle.listing_answer.specs.View.{handed_program, whole_text, answer_text, Known};
 
-use compile::call::Answer;
-use definition::{BAD_RULE, BAD_SHEET, ENTRY_SIZE, MAX_CODE, MAX_CONSTANTS, MAX_LINES};
+use compile::call::Compiled;
+use definition::{BAD_RULE, ENTRY_SIZE, MAX_CODE, MAX_CONSTANTS, MAX_LINES, Refusal, Refused};
 use emit::Constant;
 use input_reader::{PROGRAM_ROOM, Phase, RULE_ROOM, Reader, SHEET_ROOM};
-use text::LISTING_ROOM;
+use text::{LISTING_ROOM, Text};
 
 // Numbers that a full line list takes.
 const LINE_NUMBERS: usize = MAX_LINES * ENTRY_SIZE;
@@ -27,7 +27,7 @@ fn compile_read(
     code: &mut [u8],
     constants: &mut [Constant],
     lines: &mut [u16],
-) -> Answer
+) -> Result<Compiled, Refused>
     ensures { let s = stores_view reader.now in let e = ending (head_view reader.now.head) in Compiles (room code.old constants.old lines.old) (contents s.sheet) (handed_rules e s) (handed_program e s) (answer_view result code.new constants.new lines.new) }
 {
     let counted = input_reader::is_counted(input_reader::ending_of(reader.head));
@@ -42,52 +42,53 @@ fn compile_read(
 }
 
 fn put_whole(
-    a: Answer,
+    f: Compiled,
     sheet: &[u8],
     code: &[u8],
     constants: &[Constant],
     lines: &[u16],
-    out: &mut [u8],
-) -> usize
-    ensures { at out.new result ≡ push_all (at out.old 0) (whole_text (read_sheet sheet.now) (answer_view a code.now constants.now lines.now)) }
+    to: &mut Text,
+)
+    ensures is { store_of to.new ≡ push_all (store_of to.old) (whole_text (read_sheet sheet.now) (answer_view (Ok f) code.now constants.now lines.now)) }
+    ensures same { to.new.out.ghost_name ≡ to.old.out.ghost_name }
 {
-    let n = a.bytes.min(code.len());
-    let k = a.constants.min(constants.len());
-    let m = text::entry_numbers(a.entries, lines.len());
-    let one = text::put_sizes(
-        out,
-        0,
-        a.bytes as u64,
-        a.depth as u64,
-        a.constants as u64,
-        a.entries as u64,
+    let n = f.bytes.min(code.len());
+    let k = f.constants.min(constants.len());
+    let m = text::entry_numbers(f.entries, lines.len());
+    to.put_sizes(
+        f.bytes as u64,
+        f.depth as u64,
+        f.constants as u64,
+        f.entries as u64,
     );
-    let two = text::put_constants(out, one, &constants[..k]);
-    let three = text::put_entries(out, two, &lines[..m]);
-    text::put_instructions(out, three, sheet, &code[..n])
+    to.put_constants(&constants[..k]);
+    to.put_entries(&lines[..m]);
+    to.put_instructions(sheet, &code[..n]);
 }
 
-// Where no rules were counted only the sheet's refusal stands; else the count line is refused.
+// Where no rules were counted only the sheet's refusal stands; else the count line is refused. With what the types of the outputs say of their
+// elements: the text is then short.
 #[tactic(auto, using(std::proofs::lemmas::Bool::Decides::nat_tests), unfolding(crate::specs::View::answer_text, crate::specs::View::countless_text))]
 fn put_answer(
     counted: bool,
-    a: Answer,
+    answer: Result<Compiled, Refused>,
     sheet: &[u8],
     code: &[u8],
     constants: &[Constant],
     lines: &[u16],
-    out: &mut [u8],
-) -> usize
-    ensures put { at out.new result ≡ push_all (at out.old 0) (answer_text counted (read_sheet sheet.now) (answer_view a code.now constants.now lines.now)) }
+    to: &mut Text,
+)
+    ensures is { store_of to.new ≡ push_all (store_of to.old) (answer_text counted (read_sheet sheet.now) (answer_view answer code.now constants.now lines.now)) }
+    ensures same { to.new.out.ghost_name ≡ to.old.out.ghost_name }
     ensures known { Known code.now constants.now lines.now }
 {
-    if !counted && a.number != BAD_SHEET {
-        return text::put_refusal(out, 0, BAD_RULE as u64, 0);
+    match answer {
+        Err(e) if counted || e.refusal == Refusal::BadSheet => {
+            to.put_refusal(u64::from(e.refusal.number()), e.place as u64)
+        }
+        Ok(f) if counted => put_whole(f, sheet, code, constants, lines, to),
+        _ => to.put_refusal(u64::from(BAD_RULE), 0),
     }
-    if a.number != 0 {
-        return text::put_refusal(out, 0, a.number as u64, a.place as u64);
-    }
-    put_whole(a, sheet, code, constants, lines, out)
 }
 
 // The text for what a reader has read, from the output's start, and 0 behind it; its length is answered. Every text fits.
@@ -97,10 +98,12 @@ pub fn finish(reader: &Reader, out: &mut [u8; LISTING_ROOM]) -> usize
     let mut code = [0u8; MAX_CODE];
     let mut constants = [0u32; MAX_CONSTANTS];
     let mut lines = [0u16; LINE_NUMBERS];
-    let a = compile_read(reader, &mut code, &mut constants, &mut lines);
+    let answer = compile_read(reader, &mut code, &mut constants, &mut lines);
     let counted = input_reader::is_counted(input_reader::ending_of(reader.head));
     let sheet = reader.sheet.handed(true);
-    let n = put_answer(counted, a, sheet, &code, &constants, &lines, out);
+    let mut to = Text::new(out);
+    put_answer(counted, answer, sheet, &code, &constants, &lines, &mut to);
+    let n = to.used;
     store::set_from(out, n, 0);
     n
 }

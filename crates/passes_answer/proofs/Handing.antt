@@ -1,10 +1,9 @@
 -- What is handed over, and what is put for an answer.
-use mathlib.Core.Path.{◌≡◌, refl, ap, sym, ◌∙◌}
+use mathlib.Core.Path.{◌≡◌, refl}
 use mathlib.Core.Bool.{Bool, true}
 use mathlib.Core.List.{List, [], ◌∷◌}
 use mathlib.Core.Option.{Option}
 use Prim.Native.Nat.{ℕ, ◌*◌, min}
-use borrow.Author.Tests.{eq-eqb, ne_eqb}
 use lib.ListN.{length, take}
 use Rattle.definition.specs.Limits.{entry_size}
 use Rattle.definition.specs.Opcode.{Sheet}
@@ -17,18 +16,13 @@ use Rattle.store.proofs.Fills.{take-least}
 use Rattle.input_machine.specs.Machine.{Stores, Ending, whole, cut, countless, given_in}
 use Rattle.text.specs.Text.{instructions_by}
 use Rattle.optimize.specs.View.{given}
-use Rattle.passes_answer.specs.View.{handed, is_whole, whole_text, ending_text, answer_text}
+use Rattle.passes_answer.specs.View.{handed, is_whole, whole_text}
 use Rattle.input_reader.specs.Handed.{handed as part}
 use Rattle.input_reader.specs.View.{is_counted, handed_rules}
+use Rattle.input_reader.proofs.Handing.{rules-handed}
 use Rattle.text.proofs.Puts.{put_four}
 
 -- ---- by the ending
-
-rules-handed : (e : Ending) (s : Stores) → part (is_counted e) s.rules ≡ handed_rules e s
-unfolding part is_counted handed_rules
-rules-handed whole s = refl
-rules-handed (cut n) s = refl
-rules-handed countless s = refl
 
 given-handed : (e : Ending) (s : Stores) → given (part (is_whole e) s.code) (part (is_whole e) s.offsets) (part (is_whole e) s.entries) ≡ handed e s
 unfolding part is_whole handed given_in
@@ -54,17 +48,7 @@ whole-put sheet a s {s1 = s1} {s2 = s2} {s3 = s3} {s4 = s4} en ek em p q r t =
     let t : s4 ≡ push_all s3 (instructions_by sheet (take a.code_length a.code)) = rw (← take-least a.code_length a.code, ← en) t in
     put_four _ _ _ _ s p q r t
 
-pub refusal-put : (e : Ending) (sheet : Option Sheet) (a : Answer) (s : Store) {t : Store} → (a.number ≡ 0 → ⊥) → t ≡ push_all s (number_line a.number (a.place ∷ [])) → t ≡ push_all s (answer_text e sheet a)
-unfolding answer_text
-refusal-put e sheet a s h p = rw (ne_eqb a.number 0 h, answer_text) p
-
--- what the ending says, where nothing was refused
-not-refused : (e : Ending) (sheet : Option Sheet) (a : Answer) → a.number ≡ 0 → answer_text e sheet a ≡ ending_text e sheet a
-unfolding answer_text
-not-refused e sheet a z = rw (eq-eqb a.number 0 z, answer_text)
-
-pub ending-put : (e v : Ending) (sheet : Option Sheet) (a : Answer) (s : Store) {t : Store} → v ≡ e → a.number ≡ 0 → t ≡ push_all s (ending_text e sheet a) → t ≡ push_all s (answer_text v sheet a)
-ending-put e v sheet a s h z p = p ∙ sym (ap (λ (w : Ending). push_all s (answer_text w sheet a)) h ∙ ap (push_all s) (not-refused e sheet a z))
+-- ---- what is handed over
 
 -- the call on the parts that were computed is the call on what is handed over
 pub read_by : {room : Room} {a : Answer} (e v : Ending) (s : Stores) {counted all : Bool} {sheet rules code offsets entries : List ℕ} → v ≡ e → counted ≡ is_counted v → all ≡ is_whole v

@@ -12,7 +12,7 @@ use Rattle.definition.specs.Rules.{read_rules}
 use Rattle.definition.specs.Lent.{entry_numbers}
 use Rattle.definition.specs.Alone.{Rewritten, Answer, answer, rewrite_files, rewrite_into}
 use Rattle.definition.specs.Passes.{malformed_line, text}
-use Rattle.field.proofs.Results.{never, ok-is, ok-bind}
+use Rattle.field.proofs.Results.{ok-is, ok-bind}
 use Rattle.line_map.proofs.Entries.{length-numbers}
 use Rattle.store.specs.Store.{contents}
 use Rattle.text.specs.Text.{text_room}
@@ -46,7 +46,7 @@ small r a e z k =
 -- ---- what is concluded
 
 no_result : {A : Type 0} (n p : ℕ) (x : A) → refuse n p ≡ ok x → ⊥
-no_result n p x e = never (cc)
+no_result n p x e = cc
 
 -- only a whole input has a result, and it is the call's
 whole-result : (e : Ending) (place : ℕ) (s : Stores) (x : Sheet × Rewritten) → concluded_as e place s ≡ ok x

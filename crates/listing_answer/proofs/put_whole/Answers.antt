@@ -11,5 +11,5 @@ slice_bounds-put_entries-end c = part-long _ _ _ c.entry_numbers-m.ensures
 pub slice_bounds-put_instructions-end : goal.slice_bounds-put_instructions-end
 slice_bounds-put_instructions-end c = part-long _ _ _ c.min-n.ensures
 
-pub returns : goal.returns
-returns c = whole-put _ _ _ c.min-n.ensures c.min-k.ensures c.entry_numbers-m.ensures c.put_sizes-one.ensures c.put_constants-two.ensures c.put_entries-three.ensures c.put_instructions.ensures
+pub returns-clause-is : goal.returns-clause-is
+returns-clause-is c = whole-put _ _ _ c.min-n.ensures c.min-k.ensures c.entry_numbers-m.ensures c.put_sizes.ensures.is c.put_constants.ensures.is c.put_entries.ensures.is c.put_instructions.ensures.is
