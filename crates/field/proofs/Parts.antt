@@ -1,19 +1,13 @@
 -- Parts: what `split` gives, walked from one end of a part to the next.
 use mathlib.Core.Path.{◌≡◌, refl, ap, sym, ◌∙◌}
-use mathlib.Core.Bool.{Bool, true, false, cond}
+use mathlib.Core.Bool.{Bool, true, false}
 use mathlib.Core.List.{List, [], ◌∷◌}
 use Prim.Native.Nat.{ℕ, suc, ◌+◌, ◌-◌, ◌≤◌, ◌<◌}
 use native.Mathlib.Numerals.{add-one}
 use native.Mathlib.Omega.{arith}
-use native.Mathlib.Decide.{dec_lt}
-use borrow.Author.Tests.{lt-ltb, le-ltb}
-use lib.Dec.{eqb, ltb}
+use lib.Dec.{eqb}
 use lib.ListN.{length, get_or, take, drop, length-drop, drop_of_length-le}
 use lib.Seq.{drop-cons, drop-drop}
-use Rattle.std.specs.Prelude as code
-use Rattle.std.specs.List.{position, position_or_len}
-use Rattle.std.specs.Option.{unwrap_or}
-use Rattle.std.proofs.lemmas.List.Recursion.{is_position_or_len}
 use Rattle.definition.specs.Field.{lf, onto, split, first_line}
 use Rattle.field.specs.View.{until, before, Ends, Finding, line_end}
 
@@ -153,25 +147,7 @@ split-is sep bs = go (split-some sep bs)
     go : {ps : List (List ℕ)} → Some ps → (x : List ℕ) × (xs : List (List ℕ)) × (ps ≡ x ∷ xs)
     go (some-part {x = x} {xs = xs}) = (x, xs, refl)
 
--- ---- finding an end
-
-until-place : (stops : ℕ → Bool) (bs : List ℕ) → length (until stops bs) ≡ position_or_len stops bs
-unfolding until
-until-place stops =
-    is_position_or_len (λ bs. length (until stops bs)) stops refl
-    (λ b bs. elim (stops b) as (λ t. length {A = ℕ} (elim t [ true ↦ [] | false ↦ b ∷ until stops bs ]) ≡ cond t 0 (1 + length (until stops bs))) [ true ↦ refl | false ↦ omega arith ])
-
-place-or-length : (stops : ℕ → Bool) (bs : List ℕ) → unwrap_or (position stops bs) (length bs) ≡ length (until stops bs)
-place-or-length stops bs = rw (until-place stops bs) (go (position_or_len stops bs) (length bs) (omega (arith, until-place stops bs, until-short stops bs)))
-  where
-    go : (i n : ℕ) → i ≤ n → unwrap_or (cond (ltb i n) (code.Some i) code.None) n ≡ i
-    go i n h = elim (dec_lt i n) [ yes l ↦ rw (lt-ltb i n l) | no l ↦ rw (le-ltb i n (omega arith)) (omega arith) ]
-
--- by the place of the first byte that stops
-pub ends-place : (stops : ℕ → Bool) (bytes : List ℕ) (at : ℕ) {rest : List ℕ} {o : code.Option ℕ} → rest ≡ drop at bytes → o ≡ position stops rest → Ends (until stops) bytes at (at + unwrap_or o (length rest))
-ends-place stops bytes at r e = rw (e, r, place-or-length stops (drop at bytes)) (record { is = refl; low = omega arith; high = omega (arith, until-short stops (drop at bytes), length-drop at bytes) })
-
--- byte by byte
+-- ---- finding an end, byte by byte
 pub finds-start : (stops : ℕ → Bool) (bytes : List ℕ) (at : ℕ) → Finding stops bytes at at
 finds-start stops bytes at = record { low = omega arith; high = omega arith; more = refl }
 
@@ -180,6 +156,15 @@ module _ {stops : ℕ → Bool} {bytes : List ℕ} {at i : ℕ} (f : Finding sto
   finds-next h n =
       let one : length (until stops (drop i bytes)) ≡ length (until stops (drop (i + 1) bytes)) + 1 = rw (until-next stops bytes i h n) (omega arith) in
       record { low = omega (arith, f.low); high = omega (arith, f.low, f.high); more = omega (arith, f.more) }
+
+  finds-none : until stops (drop i bytes) ≡ [] → Ends (until stops) bytes at i
+  finds-none e = record { is = omega (arith, f.more, ap length e); low = f.low; high = f.high }
+
+  pub finds-here : i < length bytes → stops (get_or bytes i 0) ≡ true → Ends (until stops) bytes at i
+  finds-here h e = finds-none (until-here stops bytes i h e)
+
+  pub finds-end : length bytes ≤ i → Ends (until stops) bytes at i
+  finds-end h = finds-none (until_end stops bytes i h)
 
   -- where the rest ends, all of it does
   pub finds-rest : {r : ℕ} → Ends (until stops) bytes i r → Ends (until stops) bytes at r

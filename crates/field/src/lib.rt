@@ -91,13 +91,18 @@ fn negative(number: Option<u64>) -> Result<u32, Fault>
     }
 }
 
-// Where what starts at `at` ends: at the first byte that stops it, or with the bytes.
+// Where what starts at `at` ends: at the first byte that stops it, or with the bytes. A loop, since `position` over the part from `at` on takes a tenth
+// more instructions for reading a sheet.
 fn end_where<F: Fn(u8) -> bool>(bytes: &[u8], at: usize, stops: F) -> usize
     requires { F.IsAlwaysCallable stops }
     ensures { (test : ℕ → Bool) → ((b : ℕ) (r : Bool) → F.post stops b r → r ≡ test b) → Ends (until test) bytes.now at result }
 {
-    let rest = bytes.get(at..).unwrap_or(&[]);
-    at + rest.iter().position(|b| stops(*b)).unwrap_or(rest.len())
+    for i in at..bytes.len() {
+        if stops(bytes[i]) {
+            return i;
+        }
+    }
+    at.max(bytes.len())
 }
 
 // Where the line that starts at `at` ends: its LF, or the text's end.

@@ -19,7 +19,6 @@ use Rattle.std.specs.Prelude as code
 use Rattle.std.specs.Prelude.{Result, Ok, Err}
 use Rattle.definition.specs.declared.Refused.{Refused}
 use Rattle.definition.specs.View.{res_of}
-use Rattle.std.specs.Option.{ok_or}
 use Rattle.std.specs.Result.{result_unwrap_or}
 use Rattle.rules.specs.View.{row_size, table_size, row_of, rows_of, read_into, answer_of, table_for, Answered, Rows, line_of, line_at}
 use Rattle.store.specs.Fill.{zeroed_from}
@@ -83,15 +82,6 @@ module _ (next : ℕ) where
   unfolding line_of
   line-some none e = absurd (cc)
   line-some (some r) {l} e = let same : l ≡ record { numbers = row_of r; next = next } = cc in (r, refl, ap (λ (x : Line). x.numbers) same, ap (λ (x : Line). x.next) same)
-
--- what `ok_or` makes of an option
-pub ok-or-ok : {A E : Type 0} {x : A} (o : code.Option A) (e : E) → ok_or o e ≡ Ok x → code.Some x ≡ o
-ok-or-ok (code.Some y) e q = cc
-ok-or-ok code.None e q = absurd (cc)
-
-pub ok-or-err : {A E : Type 0} {d : E} (o : code.Option A) (e : E) → ok_or o e ≡ Err d → (o ≡ code.None) × (d ≡ e)
-ok-or-err (code.Some y) e q = absurd (cc)
-ok-or-err code.None e q = (refl, cc)
 
 -- ---- the walk over the lines
 

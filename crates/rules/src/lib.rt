@@ -254,7 +254,9 @@ fn read_rows(text: &[u8], table: &mut [u16]) -> Result<usize, Refused>
         if count == MAX_RULES {
             return Err(bad);
         }
-        let line = read_line(text, at).ok_or(bad)?;
+        let Some(line) = read_line(text, at) else {
+            return Err(bad);
+        };
         let start = count * ROW_SIZE;
         table[start..start + ROW_SIZE].copy_from_slice(&line.numbers);
         count += 1;
