@@ -2,34 +2,33 @@
 use mathlib.Core.Path.{◌≡◌, refl, ap, sym, ◌∙◌}
 use mathlib.Core.Bool.{Bool, true, false}
 use mathlib.Core.List.{List}
-use Prim.Native.Nat.{ℕ, zero, suc, ◌+◌, ◌-◌, ◌<◌}
+use Prim.Native.Nat.{ℕ, suc, ◌+◌, ◌-◌}
 use native.Mathlib.Numerals.{add-one}
-use native.Mathlib.Omega.{arith}
-use lib.ListN.{length}
 use Rattle.definition.specs.Opcode.{Sheet, Role, BinaryOp, UnaryOp, CompareOp, ShortCircuitOp, AndThen, OrElse, load_true, load_false, binary_role, unary_role}
 use Rattle.definition.specs.Opcode as role
 use Rattle.definition.specs.Tree.{Expr, const, bool, read, short_circuit}
 use Rattle.definition.specs.Program as def
-use Rattle.definition.specs.Program.{is, not, K, B, D, O, U, C, H, ExprLine, Reader, line_at, next_line, fault_at, expr_forms, expr_of, expr_at}
+use Rattle.definition.specs.Program.{Line, is, not, K, B, D, O, U, C, H, ExprLine, Reader, line_at, next_line, fault_at, expr_forms, expr_of, expr_at}
 use Rattle.definition.specs.Emit as emit
 use Rattle.definition.specs.Emit.{Call, bind_label, load_variable, load_constant, emit_opcode, emit_jmp, emit_jmp_if_not, reset_stack_depth, refused}
 use Rattle.definition.specs.Walk.{Calls, say}
 use Rattle.definition.specs.Walk as walk
 use Rattle.definition.specs.Expr.{emit_expr}
+use Rattle.opcode.specs.declared.ShortCircuitOp as circuit
+use Rattle.opcode.specs.View.{short_circuit_view}
 use Rattle.program_line.specs.declared.ExprLine as code
+use Rattle.program_line.specs.declared.ExprLine.TheVariants as expr-line
 use Rattle.program_line.specs.View.{expr_line}
-use Rattle.program_line.specs.Scan.{Found}
-use Rattle.program_line.proofs.Laws.{good-end}
 use Rattle.program.specs.declared.Cursor.{Cursor}
 use Rattle.program.specs.Walk.{cursor_of, Near, Skipped}
-use Rattle.program.proofs.Laws.{expr-bad, expr-is, line-some, line-there}
+use Rattle.program.proofs.Laws.{expr-bad, expr-is}
 use Rattle.emit.specs.declared.Emitter.{Emitter}
 use Rattle.emit.specs.View.{World, world, Stage, going, halted}
 use Rattle.emit.specs.Steps.{◌>->◌, run, call, Ready, Bare, Booked, Created, Coded, Filled}
 use Rattle.emit.proofs.Steps.{filled-by, bare-filled, booked-filled, created-filled, coded-filled}
 use Rattle.emit.proofs.Calls.{run-then, seq-filled, said-filled, fresh-filled}
 use Rattle.expr.specs.declared.Walked.{Walked}
-use Rattle.expr.specs.Went.{Went, WentExpr, WentTwo, emit_two, bool_role, Operated, Behind}
+use Rattle.expr.specs.Went.{Went, WentExpr, WentTwo, emit_two, bool_role, Operated}
 
 -- ---- parts of a walk
 
@@ -83,74 +82,72 @@ module _ (s : Sheet) (h left v : ℕ) (text : List ℕ) (c : Cursor) where
   emit-bool true = refl
   emit-bool false = refl
 
-  -- a line with nothing behind it
-  module _ {e : Emitter} {r : Walked} (on : Behind text c e r) where
-    -- what is emitted by one call
-    abbrev Leaf : Call → World → List ℕ → List ℕ → List ℕ → Type 0
-    Leaf k w code book pool = Filled (call s k) w (world e code book pool) → Emits w (world r.emitter code book pool) r.cursor
+  module _ {next : Cursor} (on : Skipped text (next_line text (cursor_of c)) next) where
+    -- a line with nothing behind it, which one call emits
+    abbrev Leaf : Call → World → World → Type 0
+    Leaf k w u = Filled (call s k) w u → Emits w u next
 
-    leaf : (l : ExprLine) (x : Expr) (k : Call) {w : World} {code book pool : List ℕ} → ((r : Reader Expr) (d : def.Cursor) → expr_of r d l ≡ (x, d)) → emit_expr x h ≡ say k → Reads l → Leaf k w code book pool
-    leaf l x k reads says line d = rw (on.same, expr-is left v text (cursor_of c) l line, reads _ _, says) (went on.on (said-filled s k d))
+    leaf : (l : ExprLine) (x : Expr) (k : Call) {w u : World} → ((r : Reader Expr) (d : def.Cursor) → expr_of r d l ≡ (x, d)) → emit_expr x h ≡ say k → Reads l → Leaf k w u
+    leaf l x k reads says line d = rw (expr-is left v text (cursor_of c) l line, reads _ _, says) (went on (said-filled s k d))
 
-    module _ {w : World} {code book pool : List ℕ} where
-      pub went-const : (k : ℕ) → Reads (K k) → Leaf (load_constant k) w code book pool
+    module _ {w u : World} where
+      pub went-const : (k : ℕ) → Reads (K k) → Leaf (load_constant k) w u
       unfolding expr_of emit_expr
       went-const k line = leaf (K k) (const k) (load_constant k) (λ r d. refl) refl line
 
-      pub went-read : (i : ℕ) → Reads (D i) → Leaf (load_variable i) w code book pool
+      pub went-read : (i : ℕ) → Reads (D i) → Leaf (load_variable i) w u
       unfolding expr_of emit_expr
       went-read i line = leaf (D i) (read i) (load_variable i) (λ r d. refl) refl line
 
-      pub went-bool : (b : Bool) {o : Role} → Reads (B b) → o ≡ bool_role b → Leaf (emit_opcode o) w code book pool
+      pub went-bool : (b : Bool) {o : Role} → Reads (B b) → o ≡ bool_role b → Leaf (emit_opcode o) w u
       unfolding expr_of
       went-bool b line e = leaf (B b) (bool b) _ (λ r d. refl) (rw e (emit-bool b)) line
 
-  -- two operands stand behind it
-  abbrev Two : (Expr → Expr → Calls) → World → World → Cursor → Type 0
-  Two m w u d = WentTwo s m (left - 1) v text (next_line text (cursor_of c)) w u d
+    -- operands stand behind it
+    abbrev Two : (Expr → Expr → Calls) → World → World → Cursor → Type 0
+    Two m w u d = WentTwo s m (left - 1) v text (cursor_of next) w u d
 
-  module _ {a r : Walked} {w : World} {code book pool code' book' : List ℕ} where
-    pub went-binary : (o : BinaryOp) {x : Role} → Reads (O o) → x ≡ binary_role o → Two (emit_two h) w (world a.emitter code book pool) a.cursor → Operated s x a code book r code' book'
-        → Emits w (world r.emitter code' book' pool) r.cursor
-    unfolding emit_expr expr_of
-    went-binary o line e x k = rw (expr-is left v text (cursor_of c) (O o) line, ← e) (two-operated s h _ _ _ _ _ (operated s _ _ _ x k))
+    module _ {a r : Walked} {w : World} {code book pool code' book' : List ℕ} where
+      pub went-unary : (o : UnaryOp) {x : Role} → Reads (U o) → x ≡ unary_role o → WentExpr s h (expr_at (left - 1) v text (cursor_of next)) text w (world a.emitter code book pool) a.cursor → Operated s x a code book r code' book'
+          → Emits w (world r.emitter code' book' pool) r.cursor
+      unfolding emit_expr expr_of
+      went-unary o line e x k = rw (expr-is left v text (cursor_of c) (U o) line, ← on.is, ← e) (operated s _ _ _ x k)
 
-    pub went-compare : (o : CompareOp) → Reads (C o) → Two (emit_two h) w (world a.emitter code book pool) a.cursor → Operated s (role.compare o) a code book r code' book'
-        → Emits w (world r.emitter code' book' pool) r.cursor
-    unfolding emit_expr expr_of
-    went-compare o line x k = rw (expr-is left v text (cursor_of c) (C o) line) (two-operated s h _ _ _ _ _ (operated s _ _ _ x k))
+      pub went-binary : (o : BinaryOp) {x : Role} → Reads (O o) → x ≡ binary_role o → Two (emit_two h) w (world a.emitter code book pool) a.cursor → Operated s x a code book r code' book'
+          → Emits w (world r.emitter code' book' pool) r.cursor
+      unfolding emit_expr expr_of
+      went-binary o line e x k = rw (expr-is left v text (cursor_of c) (O o) line, ← on.is, ← e) (two-operated s h _ _ _ _ _ (operated s _ _ _ x k))
 
-  pub went-short : (o : ShortCircuitOp) {w u : World} {d : Cursor} → Reads (H o) → Two (λ a b. emit_expr (short_circuit o a b) h) w u d → Emits w u d
-  unfolding expr_of
-  went-short o line d = rw (expr-is left v text (cursor_of c) (H o) line) d
+      pub went-compare : (o : CompareOp) → Reads (C o) → Two (emit_two h) w (world a.emitter code book pool) a.cursor → Operated s (role.compare o) a code book r code' book'
+          → Emits w (world r.emitter code' book' pool) r.cursor
+      unfolding emit_expr expr_of
+      went-compare o line x k = rw (expr-is left v text (cursor_of c) (C o) line, ← on.is) (two-operated s h _ _ _ _ _ (operated s _ _ _ x k))
+
+    pub went-short : (o : ShortCircuitOp) {w u : World} {d : Cursor} → Reads (H o) → Two (λ a b. emit_expr (short_circuit o a b) h) w u d → Emits w u d
+    unfolding expr_of
+    went-short o line d = rw (expr-is left v text (cursor_of c) (H o) line, ← on.is) d
 
 -- ---- operands
 
-module _ (s : Sheet) (h left v : ℕ) (text : List ℕ) (c : Cursor) {next : Cursor} (on : Skipped text (next_line text (cursor_of c)) next) where
+module _ (s : Sheet) (h left v : ℕ) (text : List ℕ) (c : Cursor) where
   abbrev First : World → World → Cursor → Type 0
-  First w u d = WentExpr s h (expr_at (left - 1) v text (cursor_of next)) text w u d
+  First w u d = WentExpr s h (expr_at left v text (cursor_of c)) text w u d
 
-  pub went-unary : (o : UnaryOp) {x : Role} {a r : Walked} {w : World} {code book pool code' book' : List ℕ} → Reads s h left v text c (U o) → x ≡ unary_role o
-      → First w (world a.emitter code book pool) a.cursor → Operated s x a code book r code' book'
-      → Emits s h left v text c w (world r.emitter code' book' pool) r.cursor
-  unfolding emit_expr expr_of
-  went-unary o line e x k = rw (expr-is left v text (cursor_of c) (U o) line, ← on.is, ← e) (operated s _ _ _ x k)
-
-  pub two-done : {w u x : World} {c₁ c₂ : Cursor} → First w u c₁ → WentExpr s (h + 1) (expr_at (left - 1) v text (cursor_of c₁)) text u x c₂
-      → Two s h left v text c (emit_two h) w x c₂
+  pub two-done : {w u x : World} {c₁ c₂ : Cursor} → First w u c₁ → WentExpr s (h + 1) (expr_at left v text (cursor_of c₁)) text u x c₂
+      → WentTwo s (emit_two h) left v text (cursor_of c) w x c₂
   unfolding emit_two
-  two-done a b' = let b = rw (a.is, add-one) at b' in rw (← on.is) (went (place b) (seq-filled s _ _ (filled a) (filled b)))
+  two-done a b' = let b = rw (a.is, add-one) at b' in went (place b) (seq-filled s _ _ (filled a) (filled b))
 
   module _ {e e₁ e₂ e₃ e₄ e₅ e₆ e₇ e₈ e₉ e₁₀ : Emitter} {code book pool k₃ k₄ k₅ k₆ k₉ b₁ b₂ b₃ b₄ b₅ b₆ b₇ b₉ b₁₀ p₃ p₅ : List ℕ} {l₁ l₂ : ℕ} {c₁ c₂ : Cursor}
       (y : Ready (world e code book pool)) (m₁ : Created e book e₁ b₁ l₁) (m₂ : Created e₁ b₁ e₂ b₂ l₂)
       (a : First (world e₂ code b₂ pool) (world e₃ k₃ b₃ p₃) c₁) (j : Coded (call s (emit_jmp_if_not l₁)) e₃ k₃ b₃ e₄ k₄ b₄) where
-    pub and-done : WentExpr s h (expr_at (left - 1) v text (cursor_of c₁)) text (world e₄ k₄ b₄ p₃) (world e₅ k₅ b₅ p₅) c₂
+    pub and-done : WentExpr s h (expr_at left v text (cursor_of c₁)) text (world e₄ k₄ b₄ p₃) (world e₅ k₅ b₅ p₅) c₂
         → Coded (call s (emit_jmp l₂)) e₅ k₅ b₅ e₆ k₆ b₆
         → Booked (bind_label l₁) e₆ b₆ e₇ b₇
         → Bare (reset_stack_depth h) e₇ e₈
         → Coded (call s (emit_opcode load_false)) e₈ k₆ b₇ e₉ k₉ b₉
         → Booked (bind_label l₂) e₉ b₉ e₁₀ b₁₀
-        → Two s h left v text c (λ a b. emit_expr (short_circuit AndThen a b) h) (world e code book pool) (world e₁₀ k₉ b₁₀ p₅) c₂
+        → WentTwo s (λ a b. emit_expr (short_circuit AndThen a b) h) left v text (cursor_of c) (world e code book pool) (world e₁₀ k₉ b₁₀ p₅) c₂
     unfolding emit_expr
     and-done b' k n d f o =
         let b = rw a.is at b' in
@@ -162,7 +159,7 @@ module _ (s : Sheet) (h left v : ℕ) (text : List ℕ) (c : Cursor) {next : Cur
         let x₈ = bare-filled x₇.ready s d in
         let x₉ = coded-filled x₈.ready f in
         let x₁₀ = booked-filled x₉.ready s o in
-        rw (← on.is) (went (place b)
+        went (place b)
         (fresh-filled s h l₁ _ m₁.label x₁
         (fresh-filled s (suc h) l₂ _ m₂.label x₂
         (seq-filled s _ _ (filled a)
@@ -172,15 +169,15 @@ module _ (s : Sheet) (h left v : ℕ) (text : List ℕ) (c : Cursor) {next : Cur
         (seq-filled s _ _ (said-filled s _ x₇)
         (seq-filled s _ _ (said-filled s _ x₈)
         (seq-filled s _ _ (said-filled s _ x₉)
-        (said-filled s _ x₁₀)))))))))))
+        (said-filled s _ x₁₀))))))))))
 
     pub or-done : Coded (call s (emit_opcode load_true)) e₄ k₄ b₄ e₅ k₅ b₅
         → Coded (call s (emit_jmp l₂)) e₅ k₅ b₅ e₆ k₆ b₆
         → Booked (bind_label l₁) e₆ b₆ e₇ b₇
         → Bare (reset_stack_depth h) e₇ e₈
-        → WentExpr s h (expr_at (left - 1) v text (cursor_of c₁)) text (world e₈ k₆ b₇ p₃) (world e₉ k₉ b₉ p₅) c₂
+        → WentExpr s h (expr_at left v text (cursor_of c₁)) text (world e₈ k₆ b₇ p₃) (world e₉ k₉ b₉ p₅) c₂
         → Booked (bind_label l₂) e₉ b₉ e₁₀ b₁₀
-        → Two s h left v text c (λ a b. emit_expr (short_circuit OrElse a b) h) (world e code book pool) (world e₁₀ k₉ b₁₀ p₅) c₂
+        → WentTwo s (λ a b. emit_expr (short_circuit OrElse a b) h) left v text (cursor_of c) (world e code book pool) (world e₁₀ k₉ b₁₀ p₅) c₂
     unfolding emit_expr
     or-done t k n d b' o =
         let b = rw a.is at b' in
@@ -192,7 +189,7 @@ module _ (s : Sheet) (h left v : ℕ) (text : List ℕ) (c : Cursor) {next : Cur
         let x₇ = booked-filled x₆.ready s n in
         let x₈ = bare-filled x₇.ready s d in
         let x₁₀ = booked-filled b.ready s o in
-        rw (← on.is) (went (place b)
+        went (place b)
         (fresh-filled s h l₁ _ m₁.label x₁
         (fresh-filled s (suc h) l₂ _ m₂.label x₂
         (seq-filled s _ _ (filled a)
@@ -202,22 +199,11 @@ module _ (s : Sheet) (h left v : ℕ) (text : List ℕ) (c : Cursor) {next : Cur
         (seq-filled s _ _ (said-filled s _ x₇)
         (seq-filled s _ _ (said-filled s _ x₈)
         (seq-filled s _ _ (filled b)
-        (said-filled s _ x₁₀)))))))))))
+        (said-filled s _ x₁₀))))))))))
 
--- what was read, once its form is known
-pub line-is : (left v : ℕ) (text : List ℕ) (at : ℕ) {line x : code.ExprLine} → expr_line line ≡ line_at (expr_forms v) left text at → line ≡ x → line_at (expr_forms v) left text at ≡ expr_line x
-line-is left v text at e told = sym e ∙ ap expr_line told
+-- what a line was read as
+pub reads : {line x : code.ExprLine} {l : Line ExprLine} → is (expr_line line) ≡ l → line ≡ x → l ≡ is (expr_line x)
+reads e told = rw told at (sym e)
 
--- the line is there, and ends where its reading says
-pub line-passed : (left v : ℕ) (text : List ℕ) (at : ℕ) {line x : code.ExprLine} {end stop : ℕ} {l : ExprLine} → Found (expr_line line) end (line_at (expr_forms v) left text at) stop → line ≡ x → expr_line x ≡ is l
-    → (at < length text) × ((0 < left) × (end ≡ stop))
-line-passed left v text at {l = l} f told e =
-    let there = line-there (expr_forms v) left text at l (line-is left v text at f.is told ∙ e) in
-    (there.0, (there.1, good-end l f (ap expr_line told ∙ e)))
-
-pub bad-some : (left v : ℕ) (text : List ℕ) (at n : ℕ) → line_at (expr_forms v) left text at ≡ not n → 0 < n
-bad-some left v text at n e = go n (line-some (expr_forms v) left text at n e)
-  where
-    go : (n : ℕ) → (n ≡ 0 → ⊥) → 0 < n
-    go zero h = absurd (h refl)
-    go (suc n) h = omega arith
+pub reads-short : {line : code.ExprLine} {o x : circuit.ShortCircuitOp} {l : Line ExprLine} → is (expr_line line) ≡ l → line ≡ expr-line.ShortCircuit o → o ≡ x → l ≡ is (H (short_circuit_view x))
+reads-short e told op = rw (told, op) at (sym e)

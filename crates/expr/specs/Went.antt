@@ -3,13 +3,12 @@ use Rattle.std.specs.Prelude.{◌≡◌, List, Bool, true, false, ℕ, suc}
 use Rattle.definition.specs.Opcode.{Sheet, Role, load_true, load_false}
 use Rattle.definition.specs.Tree.{Expr}
 use Rattle.definition.specs.Program as def
-use Rattle.definition.specs.Program.{expr_at, next_line}
+use Rattle.definition.specs.Program.{expr_at}
 use Rattle.definition.specs.Emit.{emit_opcode}
 use Rattle.definition.specs.Walk.{Calls, ◌>>◌}
 use Rattle.definition.specs.Expr.{emit_expr}
 use Rattle.program.specs.declared.Cursor.{Cursor}
-use Rattle.program.specs.Walk.{cursor_of, Near, Skipped}
-use Rattle.emit.specs.declared.Emitter.{Emitter}
+use Rattle.program.specs.Walk.{cursor_of, Near}
 use Rattle.emit.specs.View.{World}
 use Rattle.emit.specs.Steps.{run, call, Did, Ready, Kept, Coded}
 use Rattle.expr.specs.declared.Walked.{Walked}
@@ -44,8 +43,3 @@ bool_role false = load_false
 pub record Operated (s : Sheet) (role : Role) (w : Walked) (code book : List ℕ) (r : Walked) (code' book' : List ℕ) : Type 0 where
   pub there : r.cursor ≡ w.cursor
   pub coded : Coded (call s (emit_opcode role)) w.emitter code book r.emitter code' book'
-
--- the walk stands behind the line at c, which e has emitted
-pub record Behind (text : List ℕ) (c : Cursor) (e : Emitter) (r : Walked) : Type 0 where
-  pub on : Skipped text (next_line text (cursor_of c)) r.cursor
-  pub same : r.emitter ≡ e

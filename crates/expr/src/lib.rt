@@ -2,22 +2,20 @@
 // place behind an expression is exact either way.
 #![tactic(auto)]
 
-ghost use Rattle.std.specs.Prelude.{◌≡◌, ◌≤◌, ◌<◌, ◌+◌, ◌-◌, length};
+ghost use Rattle.std.specs.Prelude.{◌≡◌, ◌≤◌, ◌<◌, ◌+◌, length};
 ghost use Rattle.definition.specs.Limits.{max_code};
 ghost use Rattle.definition.specs.Opcode.{AndThen, OrElse};
 ghost use Rattle.definition.specs.Tree.{short_circuit};
-ghost use Rattle.definition.specs.Program.{expr_at, next_line};
+ghost use Rattle.definition.specs.Program.{expr_at};
 ghost use Rattle.definition.specs.Expr.{emit_expr};
-ghost use Rattle.field.specs.View.{line_end};
 ghost use Rattle.opcode.specs.View.{role_view};
 ghost use Rattle.opcode.specs.Table.{sheet_in};
 ghost use Rattle.program.specs.Walk.{cursor_of, Near};
-ghost use Rattle.emit.specs.Book.{book_size};
 ghost use Rattle.emit.specs.View.{world};
 ghost use Rattle.emit.specs.Steps.{max_height, Fine, Ready};
-ghost use Rattle.expr.specs.Went.{WentExpr, WentTwo, Operated, Behind, emit_two, bool_role};
+ghost use Rattle.expr.specs.Went.{WentExpr, WentTwo, Operated, emit_two, bool_role};
 
-use emit::{Constant, Emitter};
+use emit::{Book, Emitter, Pool};
 use opcode::{Role, ShortCircuitOp};
 use program::Cursor;
 use program_line::ExprLine;
@@ -36,26 +34,13 @@ fn bool_role(b: bool) -> Role
 }
 
 // An operation behind its operands.
-fn operate(w: Walked, sheet: &[u8], code: &mut [u8], book: &mut [u16], role: Role) -> Walked
+fn operate(w: Walked, sheet: &[u8], code: &mut [u8], book: &mut Book, role: Role) -> Walked
     requires fine { Fine w.emitter }
     requires code_len { length code.old ≡ max_code }
-    requires book_len { length book.old ≡ book_size }
     ensures { Operated (sheet_in sheet.now) (role_view role) w code.old book.old result code.new book.new }
 {
-    let cursor = w.cursor;
     let emitter = compile_expr::emit_typed(w.emitter, sheet, code, book, role);
-    Walked { cursor, emitter }
-}
-
-// An emitter that has emitted the line at a place, and the walk behind that line, which ends at `end`.
-fn behind(text: &[u8], c: Cursor, end: usize, emitter: Emitter) -> Walked
-    requires near { Near text.now c.at c.row }
-    requires at_in_bounds { c.at < length text.now }
-    requires end_value { end ≡ line_end text.now c.at }
-    ensures { Behind text.now c emitter result }
-{
-    let cursor = program::next_line(text, c, end);
-    Walked { cursor, emitter }
+    Walked { emitter, ..w }
 }
 
 // The expression at a place, which starts at height h, with so many nesting levels left.
@@ -64,8 +49,8 @@ pub fn emit_expr(
     text: &[u8],
     sheet: &[u8],
     code: &mut [u8],
-    book: &mut [u16],
-    pool: &mut [Constant],
+    book: &mut Book,
+    pool: &mut Pool,
     variables: u16,
     left: usize,
     h: u16,
@@ -77,121 +62,141 @@ pub fn emit_expr(
     requires left_bound { h + left ≤ max_height }
     ensures { WentExpr (sheet_in sheet.now) h (expr_at left variables text.now (cursor_of c)) text.now (world e code.old book.old pool.old) (world result.emitter code.new book.new pool.new) result.cursor }
 {
-    let r = program_line::next_expr(text, variables, left, c.at);
-    let end = r.end;
-    let line = r.line;
-    match line {
-        ExprLine::Bad(n) => {
-            let emitter = e.refuse(n, c.row);
-            Walked { cursor: c, emitter }
+    let next = match program_line::next_expr(text, variables, left, c.at) {
+        Ok(next) => next,
+        Err(refusal) => {
+            let emitter = e.refuse(refusal, c.row);
+            return Walked { cursor: c, emitter };
         }
+    };
+    let cursor = program::next_line(text, c, next.end);
+    let below = left - 1;
+    match next.line {
         ExprLine::Const(k) => {
             let emitter = e.load_constant(sheet, code, book, pool, k);
-            behind(text, c, end, emitter)
+            Walked { cursor, emitter }
         }
-        ExprLine::Bool(b) => behind(text, c, end, e.emit_opcode(sheet, code, book, bool_role(b))),
+        ExprLine::Bool(b) => {
+            let emitter = e.emit_opcode(sheet, code, book, bool_role(b));
+            Walked { cursor, emitter }
+        }
         ExprLine::Read(v) => {
             let emitter = compile_expr::emit_load_var(e, sheet, code, book, v);
-            behind(text, c, end, emitter)
+            Walked { cursor, emitter }
         }
         ExprLine::Binary(o) => {
-            let two = emit_two(text, sheet, code, book, pool, variables, left, h, e, c, end);
+            let two = emit_two(
+                text, sheet, code, book, pool, variables, below, h, e, cursor,
+            );
             operate(two, sheet, code, book, o.role())
         }
         ExprLine::Unary(o) => {
-            let on = program::next_line(text, c, end);
-            let one = emit_expr(text, sheet, code, book, pool, variables, left - 1, h, e, on);
+            let one = emit_expr(
+                text, sheet, code, book, pool, variables, below, h, e, cursor,
+            );
             operate(one, sheet, code, book, o.role())
         }
         ExprLine::Compare(o) => {
-            let two = emit_two(text, sheet, code, book, pool, variables, left, h, e, c, end);
+            let two = emit_two(
+                text, sheet, code, book, pool, variables, below, h, e, cursor,
+            );
             operate(two, sheet, code, book, Role::Compare(o))
         }
-        ExprLine::ShortCircuit(o) => match o {
-            ShortCircuitOp::AndThen => {
-                emit_and_then(text, sheet, code, book, pool, variables, left, h, e, c, end)
-            }
-            ShortCircuitOp::OrElse => {
-                emit_or_else(text, sheet, code, book, pool, variables, left, h, e, c, end)
-            }
-        },
+        ExprLine::ShortCircuit(ShortCircuitOp::AndThen) => {
+            emit_and_then(
+                text, sheet, code, book, pool, variables, below, h, e, cursor,
+            )
+        }
+        ExprLine::ShortCircuit(ShortCircuitOp::OrElse) => {
+            emit_or_else(
+                text, sheet, code, book, pool, variables, below, h, e, cursor,
+            )
+        }
     }
 }
 
-// The two operands of the line at a place, which ends at `end`: the first below the second on the stack.
+// Two operands, the first at a place: the first below the second on the stack.
 #[cycle(exprs)]
 fn emit_two(
     text: &[u8],
     sheet: &[u8],
     code: &mut [u8],
-    book: &mut [u16],
-    pool: &mut [Constant],
+    book: &mut Book,
+    pool: &mut Pool,
     variables: u16,
     left: usize,
     h: u16,
     e: Emitter,
     c: Cursor,
-    end: usize,
 ) -> Walked
     requires near { Near text.now c.at c.row }
     requires ready { Ready (world e code.old book.old pool.old) }
-    requires left_bound { h + left ≤ max_height }
-    requires at_in_bounds { c.at < length text.now }
-    requires left_nonzero { 0 < left }
-    requires end_value { end ≡ line_end text.now c.at }
-    ensures { WentTwo (sheet_in sheet.now) (emit_two h) (left - 1) variables text.now (next_line text.now (cursor_of c)) (world e code.old book.old pool.old) (world result.emitter code.new book.new pool.new) result.cursor }
+    requires left_bound { h + left < max_height }
+    ensures { WentTwo (sheet_in sheet.now) (emit_two h) left variables text.now (cursor_of c) (world e code.old book.old pool.old) (world result.emitter code.new book.new pool.new) result.cursor }
 {
-    let first = program::next_line(text, c, end);
-    let rest = left - 1;
-    let above = h + 1;
-    let one = emit_expr(text, sheet, code, book, pool, variables, rest, h, e, first);
-    let on = one.cursor;
-    let e = one.emitter;
-    emit_expr(text, sheet, code, book, pool, variables, rest, above, e, on)
+    let Walked { cursor, emitter } = emit_expr(
+        text, sheet, code, book, pool, variables, left, h, e, c,
+    );
+    emit_expr(
+        text,
+        sheet,
+        code,
+        book,
+        pool,
+        variables,
+        left,
+        h + 1,
+        emitter,
+        cursor,
+    )
 }
 
-// The right side is the value where the left is true; else it is false.
+// The right side is the value where the left is true; else it is false. The sides stand in another order than in OR ELSE, so one function for both would branch
+// twice.
 #[cycle(exprs)]
 fn emit_and_then(
     text: &[u8],
     sheet: &[u8],
     code: &mut [u8],
-    book: &mut [u16],
-    pool: &mut [Constant],
+    book: &mut Book,
+    pool: &mut Pool,
     variables: u16,
     left: usize,
     h: u16,
     e: Emitter,
     c: Cursor,
-    end: usize,
 ) -> Walked
     requires near { Near text.now c.at c.row }
     requires ready { Ready (world e code.old book.old pool.old) }
     requires left_bound { h + left ≤ max_height }
-    requires at_in_bounds { c.at < length text.now }
-    requires left_nonzero { 0 < left }
-    requires end_value { end ≡ line_end text.now c.at }
-    ensures { WentTwo (sheet_in sheet.now) (λ a b. emit_expr (short_circuit AndThen a b) h) (left - 1) variables text.now (next_line text.now (cursor_of c)) (world e code.old book.old pool.old) (world result.emitter code.new book.new pool.new) result.cursor }
+    ensures { WentTwo (sheet_in sheet.now) (λ a b. emit_expr (short_circuit AndThen a b) h) left variables text.now (cursor_of c) (world e code.old book.old pool.old) (world result.emitter code.new book.new pool.new) result.cursor }
 {
-    let first = program::next_line(text, c, end);
-    let rest = left - 1;
     let alternative = e.create_label(book);
-    let e = alternative.emitter;
-    let end = e.create_label(book);
-    let e = end.emitter;
-    let lhs = emit_expr(text, sheet, code, book, pool, variables, rest, h, e, first);
-    let on = lhs.cursor;
-    let e = lhs.emitter;
-    let e = e.emit_jmp_if_not(sheet, code, book, alternative.label);
-    let rhs = emit_expr(text, sheet, code, book, pool, variables, rest, h, e, on);
-    let cursor = rhs.cursor;
-    let f = rhs.emitter;
-    let f = f.emit_jmp(sheet, code, book, end.label);
+    let end = alternative.emitter.create_label(book);
+    let lhs = emit_expr(
+        text,
+        sheet,
+        code,
+        book,
+        pool,
+        variables,
+        left,
+        h,
+        end.emitter,
+        c,
+    );
+    let e = lhs
+        .emitter
+        .emit_jmp_if_not(sheet, code, book, alternative.label);
+    let rhs = emit_expr(
+        text, sheet, code, book, pool, variables, left, h, e, lhs.cursor,
+    );
+    let f = rhs.emitter.emit_jmp(sheet, code, book, end.label);
     let f = f.bind_label(book, alternative.label);
     let f = f.reset_stack_depth(h);
     let f = f.emit_opcode(sheet, code, book, Role::LoadFalse);
     let emitter = f.bind_label(book, end.label);
-    Walked { cursor, emitter }
+    Walked { emitter, ..rhs }
 }
 
 // The right side is the value where the left is false; else it is true.
@@ -200,40 +205,43 @@ fn emit_or_else(
     text: &[u8],
     sheet: &[u8],
     code: &mut [u8],
-    book: &mut [u16],
-    pool: &mut [Constant],
+    book: &mut Book,
+    pool: &mut Pool,
     variables: u16,
     left: usize,
     h: u16,
     e: Emitter,
     c: Cursor,
-    end: usize,
 ) -> Walked
     requires near { Near text.now c.at c.row }
     requires ready { Ready (world e code.old book.old pool.old) }
     requires left_bound { h + left ≤ max_height }
-    requires at_in_bounds { c.at < length text.now }
-    requires left_nonzero { 0 < left }
-    requires end_value { end ≡ line_end text.now c.at }
-    ensures { WentTwo (sheet_in sheet.now) (λ a b. emit_expr (short_circuit OrElse a b) h) (left - 1) variables text.now (next_line text.now (cursor_of c)) (world e code.old book.old pool.old) (world result.emitter code.new book.new pool.new) result.cursor }
+    ensures { WentTwo (sheet_in sheet.now) (λ a b. emit_expr (short_circuit OrElse a b) h) left variables text.now (cursor_of c) (world e code.old book.old pool.old) (world result.emitter code.new book.new pool.new) result.cursor }
 {
-    let first = program::next_line(text, c, end);
-    let rest = left - 1;
     let alternative = e.create_label(book);
-    let e = alternative.emitter;
-    let end = e.create_label(book);
-    let e = end.emitter;
-    let lhs = emit_expr(text, sheet, code, book, pool, variables, rest, h, e, first);
-    let on = lhs.cursor;
-    let e = lhs.emitter;
-    let e = e.emit_jmp_if_not(sheet, code, book, alternative.label);
+    let end = alternative.emitter.create_label(book);
+    let lhs = emit_expr(
+        text,
+        sheet,
+        code,
+        book,
+        pool,
+        variables,
+        left,
+        h,
+        end.emitter,
+        c,
+    );
+    let e = lhs
+        .emitter
+        .emit_jmp_if_not(sheet, code, book, alternative.label);
     let e = e.emit_opcode(sheet, code, book, Role::LoadTrue);
     let e = e.emit_jmp(sheet, code, book, end.label);
     let e = e.bind_label(book, alternative.label);
     let e = e.reset_stack_depth(h);
-    let rhs = emit_expr(text, sheet, code, book, pool, variables, rest, h, e, on);
-    let cursor = rhs.cursor;
-    let e = rhs.emitter;
-    let emitter = e.bind_label(book, end.label);
-    Walked { cursor, emitter }
+    let rhs = emit_expr(
+        text, sheet, code, book, pool, variables, left, h, e, lhs.cursor,
+    );
+    let emitter = rhs.emitter.bind_label(book, end.label);
+    Walked { emitter, ..rhs }
 }

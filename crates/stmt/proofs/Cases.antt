@@ -5,7 +5,6 @@ use mathlib.Core.List.{List, [], ◌∷◌}
 use Prim.Native.Nat.{ℕ, zero, suc, ◌-◌, ◌≤◌, ◌<◌}
 use native.Mathlib.Numerals.{sub-one}
 use native.Mathlib.Omega.{arith}
-use Rattle.definition.specs.Limits.{max_nesting}
 use Rattle.definition.specs.Opcode.{Sheet, pop}
 use Rattle.definition.specs.Tree.{CaseLabel, Block, Arms, arm, bad_arm, Pos}
 use Rattle.definition.specs.Program as def
@@ -16,7 +15,8 @@ use Rattle.definition.specs.Walk as walk
 use Rattle.definition.specs.Stmt.{continues, continues_stmt, continues_arms, arm_body, emit_arm, emit_stmt, emit_arms}
 use Rattle.program.specs.declared.Cursor.{Cursor}
 use Rattle.program.specs.Walk.{cursor_of, Near, Skipped}
-use Rattle.program.proofs.Laws.{stmt-is, line-some}
+use Rattle.program.proofs.Laws.{stmt-is}
+use Rattle.program.specs.Ends.{Sound}
 use Rattle.emit.specs.declared.Emitter.{Emitter}
 use Rattle.emit.specs.View.{World, world}
 use Rattle.emit.specs.Steps.{run, call, Ready, Bare, Booked, Created, Coded, Filled}
@@ -24,12 +24,12 @@ use Rattle.emit.proofs.Calls.{seq-filled, said-filled, fresh-filled, none_filled
 use Rattle.expr.specs.Went.{WentExpr}
 use Rattle.expr.proofs.Laws.{filled}
 use Rattle.stmt_parts.specs.declared.Context.{Context}
-use Rattle.stmt_parts.specs.declared.labels.ArmParts.{ArmParts}
+use Rattle.stmt_parts.specs.declared.loops.OpenLoop.{OpenLoop}
 use Rattle.stmt_parts.specs.Context.{expr_in, block_in, inner_of}
 use Rattle.stmt_parts.specs.Loops.{opens_in, loops_of, marked}
-use Rattle.stmt_parts.specs.Parts.{Leads, arm_parts, arm_tests, arm_end}
+use Rattle.stmt_parts.specs.Parts.{Leads, arm_tests, arm_end}
 use Rattle.stmt.specs.Blocks.{arm_continues, arms_here, emit_case}
-use Rattle.stmt.specs.Lent.{Lent, Looked}
+use Rattle.stmt.specs.declared.Lent.{Lent}
 use Rattle.stmt.specs.Ran.{RanStmt, RanBlock, RanArm, RanArms, RanCase}
 use Rattle.stmt_parts.proofs.Marks.{marked-same, marked-off, marked-then, loops-marked}
 use Rattle.stmt_parts.proofs.Walks.{bare-on, booked-on, created-on, coded-on}
@@ -49,11 +49,11 @@ module _ (ctx : Context) (text : List ℕ) (c : def.Cursor) (end : ℕ) where
   arm-continues (suc n) i b z = refl
 
 module _ (s : Sheet) (ctx : Context) (text : List ℕ) (n m end : ℕ) (c : Cursor) where
-  pub arm-none : {w : World} {ls ls' : List ℕ} {there : Cursor} → ctx.inside ≤ max_nesting → n ≡ 0 → Ready w → Skipped text (block_in ctx text m (cursor_of c)).1 there → Looked text ctx.variables ls ls' → RanArm s ctx text n m end (cursor_of c) w w ls ls' there
+  pub arm-none : {w : World} {ls' : Lent} {there : Cursor} → n ≡ 0 → Ready w → Skipped text (block_in ctx text m (cursor_of c)).1 there → Sound text ctx.variables ls'.ends → RanArm s ctx text n m end (cursor_of c) w w ls'.loops ls' there
   unfolding labels_at emit_arm arm_continues
-  arm-none {w} low e ready on looked = rw e (record { place = on; filled = none_filled s w ready; slots = looked.lent; marks = looked.opens ctx.inside low ∙ sym (marked-off (λ i. false) _ (λ i. refl)) })
+  arm-none {w} e ready on noted = rw e (record { place = on; filled = none_filled s w ready; noted = noted; marks = sym (marked-off (λ i. false) _ (λ i. refl)) })
 
-  pub arm-some : {e e₁ e₃ r : Emitter} {code book pool b₁ k₃ b₃ k₅ b₅ ls ls' : List ℕ} {w₂ w₄ : World} {c₂ c₄ : Cursor} {next : ℕ} → Ready (world e code book pool) → (n ≡ 0 → ⊥) → Created e book e₁ b₁ next
+  pub arm-some : {e e₁ e₃ r : Emitter} {code book pool b₁ k₃ b₃ k₅ b₅ : List ℕ} {ls : List OpenLoop} {ls' : Lent} {w₂ w₄ : World} {c₂ c₄ : Cursor} {next : ℕ} → Ready (world e code book pool) → (n ≡ 0 → ⊥) → Created e book e₁ b₁ next
       → Leads s (arm_tests (labels_at ctx.left text n (cursor_of c)).0 next) text (labels_at ctx.left text n (cursor_of c)).1 (world e₁ code b₁ pool) w₂ c₂
       → Coded (call s (emit_opcode pop)) w₂.e w₂.code w₂.book e₃ k₃ b₃
       → RanBlock s ctx text m (cursor_of c₂) (world e₃ k₃ b₃ w₂.pool) w₄ ls ls' c₄
@@ -64,7 +64,7 @@ module _ (s : Sheet) (ctx : Context) (text : List ℕ) (n m end : ℕ) (c : Curs
       let x₃ = coded-on t.ready p in
       record {
         place = b.place;
-        slots = b.slots;
+        noted = b.noted;
         marks = b.marks ∙ marked-same _ _ _ (λ i. sym (arm-continues ctx text (cursor_of c) end n i _ z));
         filled = rw (arm_is ctx text (cursor_of c) end n z _)
             (fresh-filled s 1 next _ x.label (created-on ready s 1 x)
@@ -75,17 +75,6 @@ module _ (s : Sheet) (ctx : Context) (text : List ℕ) (n m end : ℕ) (c : Curs
       }
 
 -- ---- arms
-
-module _ (left : ℕ) (text : List ℕ) (at : ℕ) where
-  pub parts_is : (p : ArmParts) (x : Line def.ArmLine) → p ≡ arm_parts x → x ≡ line_at arm_forms left text at → p.bad ≡ 0 → line_at arm_forms left text at ≡ is (M p.labels p.statements)
-  unfolding arm_parts
-  parts_is p (is (M n m)) e line z = rw e (sym line)
-  parts_is p (not n) e line z = absurd (line-some arm_forms left text at n (sym line) (let q : p.bad ≡ n = ap (λ (a : ArmParts). a.bad) e in sym q ∙ z))
-
-  pub parts-not : (p : ArmParts) (x : Line def.ArmLine) → p ≡ arm_parts x → x ≡ line_at arm_forms left text at → (p.bad ≡ 0 → ⊥) → line_at arm_forms left text at ≡ not p.bad
-  unfolding arm_parts
-  parts-not p (is (M n m)) e line z = absurd (z (ap (λ (a : ArmParts). a.bad) e))
-  parts-not p (not n) e line z = rw e (sym line)
 
 module _ (ctx : Context) (text : List ℕ) (c : def.Cursor) where
   abbrev body_of : ℕ → ℕ → Block × def.Cursor
@@ -108,37 +97,37 @@ continues-arms i [] b xs = refl
 continues-arms i (l ∷ ls) b xs = refl
 
 module _ (s : Sheet) (ctx : Context) (text : List ℕ) (end : ℕ) where
-  pub record Arming (n : ℕ) (c : def.Cursor) (w₀ : World) (ls₀ : List ℕ) (w : World) (ls : List ℕ) (more : ℕ) (here : Cursor) : Type 0 where
+  pub record Arming (n : ℕ) (c : def.Cursor) (w₀ : World) (ls₀ : List OpenLoop) (w : World) (ls : Lent) (more : ℕ) (here : Cursor) : Type 0 where
     pub did : (u : World) → Filled (run s (emit_arms (arms_here ctx text more (cursor_of here)).0 end (loops_of (opens_in ls₀ ctx.inside)))) w u → Filled (run s (emit_arms (arms_here ctx text n c).0 end (loops_of (opens_in ls₀ ctx.inside)))) w₀ u
-    pub marks : marked (λ i. continues_arms i (arms_here ctx text more (cursor_of here)).0) (opens_in ls ctx.inside) ≡ marked (λ i. continues_arms i (arms_here ctx text n c).0) (opens_in ls₀ ctx.inside)
-    pub loops : loops_of (opens_in ls ctx.inside) ≡ loops_of (opens_in ls₀ ctx.inside)
-    pub slots : Lent text ctx.variables ls
+    pub marks : marked (λ i. continues_arms i (arms_here ctx text more (cursor_of here)).0) (opens_in ls.loops ctx.inside) ≡ marked (λ i. continues_arms i (arms_here ctx text n c).0) (opens_in ls₀ ctx.inside)
+    pub loops : loops_of (opens_in ls.loops ctx.inside) ≡ loops_of (opens_in ls₀ ctx.inside)
+    pub noted : Sound text ctx.variables ls.ends
     pub end_is : (arms_here ctx text more (cursor_of here)).1 ≡ (arms_here ctx text n c).1
     pub near : Near text here.at here.row
     pub ready : Ready w
 
-  pub arms-begin : (n : ℕ) (c : Cursor) (w : World) (ls : List ℕ) → Lent text ctx.variables ls → Near text c.at c.row → Ready w → Arming n (cursor_of c) w ls w ls n c
-  arms-begin n c w ls slots near ready = record { did = λ u d. d; marks = refl; loops = refl; slots = slots; end_is = refl; near = near; ready = ready }
+  pub arms-begin : (n : ℕ) (c : Cursor) (w : World) (ls : Lent) → Sound text ctx.variables ls.ends → Near text c.at c.row → Ready w → {more : ℕ} → more ≡ n → Arming n (cursor_of c) w ls.loops w ls more c
+  arms-begin n c w ls noted near ready all = rw all (record { did = λ u d. d; marks = refl; loops = refl; noted = noted; end_is = refl; near = near; ready = ready })
 
-module _ {s : Sheet} {ctx : Context} {text : List ℕ} {end n : ℕ} {c : def.Cursor} {w₀ w : World} {ls₀ ls : List ℕ} {more : ℕ} {here : Cursor} (a : Arming s ctx text end n c w₀ ls₀ w ls more here) where
-  pub arms-on : (x y : ℕ) {next here' : Cursor} {u : World} {ls' : List ℕ} → line_at arm_forms ctx.left text here.at ≡ is (M x y) → Skipped text (next_line text (cursor_of here)) next
-      → RanArm s ctx text x y end (cursor_of next) w u ls ls' here' → 0 < more → Arming s ctx text end n c w₀ ls₀ u ls' (more - 1) here'
+module _ {s : Sheet} {ctx : Context} {text : List ℕ} {end n : ℕ} {c : def.Cursor} {w₀ w : World} {ls₀ : List OpenLoop} {ls : Lent} {more : ℕ} {here : Cursor} (a : Arming s ctx text end n c w₀ ls₀ w ls more here) where
+  pub arms-on : (x y : ℕ) {next here' : Cursor} {u : World} {ls' : Lent} → line_at arm_forms ctx.left text here.at ≡ is (M x y) → Skipped text (next_line text (cursor_of here)) next
+      → RanArm s ctx text x y end (cursor_of next) w u ls.loops ls' here' → 0 < more → {left : ℕ} → left ≡ more - 1 → Arming s ctx text end n c w₀ ls₀ u ls' left here'
   unfolding emit_arms
-  arms-on x y line on r' h =
+  arms-on x y line on r' h is-left =
       let r = rw on.is at r' in
       let b = arms_more ctx text (cursor_of here) more x y line h in
       let lbs = (labels_at ctx.left text x (next_line text (cursor_of here))).0 in
       let blk = body_of ctx text (cursor_of here) x y in
       let rest = (arms_here ctx text (more - 1) blk.1).0 in
-      record {
+      rw is-left (record {
         did = λ u d. a.did u (rw b (seq-filled s _ _ (at-loops r a.loops) (rw r.place.is at d)));
-        marks = rw (r.place.is, r.marks) (marked-then (λ k. arm_continues k lbs blk.0) (λ k. continues_arms k rest) (opens_in ls ctx.inside) ∙ marked-same _ _ _ (λ k. sym (continues-arms k lbs blk.0 rest)) ∙ (rw b at a.marks));
+        marks = rw (r.place.is, r.marks) (marked-then (λ k. arm_continues k lbs blk.0) (λ k. continues_arms k rest) (opens_in ls.loops ctx.inside) ∙ marked-same _ _ _ (λ k. sym (continues-arms k lbs blk.0 rest)) ∙ (rw b at a.marks));
         loops = rw r.marks (loops-marked _ _ ∙ a.loops);
-        slots = r.slots;
+        noted = r.noted;
         end_is = rw r.place.is (rw b at a.end_is);
         near = r.place.near;
         ready = r.filled.ready;
-      }
+      })
 
   pub arms-bad : (k : ℕ) {r : Emitter} → line_at arm_forms ctx.left text here.at ≡ not k → 0 < more → Bare (refused (record { number = k; place = here.row })) w.e r
       → RanArms s ctx text n end c w₀ (world r w.code w.book w.pool) ls₀ ls here
@@ -148,8 +137,8 @@ module _ {s : Sheet} {ctx : Context} {text : List ℕ} {end n : ℕ} {c : def.Cu
       let a' = rw b at a.marks in
       record {
         place = record { is = rw b at a.end_is; near = a.near };
-        slots = a.slots;
-        marks = sym (marked-off (λ i. false) (opens_in ls ctx.inside) (λ i. refl)) ∙ a';
+        noted = a.noted;
+        marks = sym (marked-off (λ i. false) (opens_in ls.loops ctx.inside) (λ i. refl)) ∙ a';
         filled = a.did _ (rw b (said-filled s _ (bare-on a.ready s d)));
       }
 
@@ -160,19 +149,19 @@ module _ {s : Sheet} {ctx : Context} {text : List ℕ} {end n : ℕ} {c : def.Cu
       let d = rw e at a in
       record {
         place = record { is = d.end_is; near = d.near };
-        slots = d.slots;
-        marks = sym (marked-off (λ i. false) (opens_in ls ctx.inside) (λ i. refl)) ∙ d.marks;
+        noted = d.noted;
+        marks = sym (marked-off (λ i. false) (opens_in ls.loops ctx.inside) (λ i. refl)) ∙ d.marks;
         filled = d.did w (none_filled s w d.ready);
       }
 
 -- ---- the statement
 
 module _ (s : Sheet) (ctx : Context) (text : List ℕ) (n m : ℕ) {d : def.Cursor} {c : Cursor} (on : Skipped text d c) where
-  pub case-done : {e e₂ e₄ r : Emitter} {code book pool b₂ k₄ b₄ b₆ ls ls₃ ls₅ : List ℕ} {w₁ w₃ w₅ : World} {c₁ c₃ c₅ : Cursor} {end : ℕ} → WentExpr s 0 (expr_in ctx text (cursor_of c)) text (world e code book pool) w₁ c₁
+  pub case-done : {e e₂ e₄ r : Emitter} {code book pool b₂ k₄ b₄ b₆ : List ℕ} {ls : List OpenLoop} {ls₃ ls₅ : Lent} {w₁ w₃ w₅ : World} {c₁ c₃ c₅ : Cursor} {end : ℕ} → WentExpr s 0 (expr_in ctx text (cursor_of c)) text (world e code book pool) w₁ c₁
       → Created w₁.e w₁.book e₂ b₂ end
       → RanArms s ctx text n end (cursor_of c₁) (world e₂ w₁.code b₂ w₁.pool) w₃ ls ls₃ c₃
       → Coded (call s (emit_opcode pop)) w₃.e w₃.code w₃.book e₄ k₄ b₄
-      → RanBlock s ctx text m (cursor_of c₃) (world e₄ k₄ b₄ w₃.pool) w₅ ls₃ ls₅ c₅
+      → RanBlock s ctx text m (cursor_of c₃) (world e₄ k₄ b₄ w₃.pool) w₅ ls₃.loops ls₅ c₅
       → Booked (bind_label end) w₅.e w₅.book r b₆
       → RanCase s ctx text n m d (world e code book pool) (world r w₅.code b₆ w₅.pool) ls ls₅ c₅
   unfolding emit_case
@@ -182,7 +171,7 @@ module _ (s : Sheet) (ctx : Context) (text : List ℕ) (n m : ℕ) {d : def.Curs
       let f = rw b.place.is at f' in
       record {
         place = f.place;
-        slots = f.slots;
+        noted = f.noted;
         marks = f.marks ∙ re _ b.marks ∙ marked-then _ _ (opens_in ls ctx.inside);
         filled = seq-filled s _ _ (filled a)
             (fresh-filled s 0 end _ x.label (created-on a.ready s 0 x)
@@ -192,7 +181,7 @@ module _ (s : Sheet) (ctx : Context) (text : List ℕ) (n m : ℕ) {d : def.Curs
             (said-filled s _ (booked-on f.filled.ready s o))))));
       }
 
-pub ran-case : (s : Sheet) (ctx : Context) (text : List ℕ) (c : Cursor) {k : Context} → k ≡ inner_of ctx → (p : Pos) (n m : ℕ) {w u : World} {ls ls' : List ℕ} {d : Cursor} → Reads s ctx text c (S p n m)
+pub ran-case : (s : Sheet) (ctx : Context) (text : List ℕ) (c : Cursor) {k : Context} → k ≡ inner_of ctx → (p : Pos) (n m : ℕ) {w u : World} {ls : List OpenLoop} {ls' : Lent} {d : Cursor} → Reads s ctx text c (S p n m)
     → RanCase s k text n m (next_line text (cursor_of c)) w u ls ls' d → RanStmt s ctx text (cursor_of c) w u ls ls' d
 unfolding stmt_of emit_stmt continues_stmt emit_case
-ran-case s ctx text c deep p n m line r' = let r = rw deep at r' in rw (stmt-is ctx.left ctx.variables text (cursor_of c) (S p n m) line) (record { place = r.place; filled = r.filled; slots = r.slots; marks = r.marks })
+ran-case s ctx text c deep p n m line r' = let r = rw deep at r' in rw (stmt-is ctx.left ctx.variables text (cursor_of c) (S p n m) line) (record { place = r.place; filled = r.filled; noted = r.noted; marks = r.marks })

@@ -4,4 +4,3 @@ pub mod Looping
 pub mod Shapes
 pub mod Simple
 pub mod Walks
-pub mod Behind

@@ -30,11 +30,12 @@ use Rattle.emit.proofs.Calls.{seq-filled, said-filled, fresh-filled}
 use Rattle.expr.specs.Went.{Went}
 use Rattle.expr.proofs.Laws.{filled}
 use Rattle.stmt_parts.specs.declared.Context.{Context}
+use Rattle.stmt_parts.specs.declared.loops.OpenLoop.{OpenLoop}
 use Rattle.stmt_parts.specs.Context.{expr_in, stmt_in, block_in, inner_of, in_loop}
-use Rattle.stmt_parts.specs.Loops.{Open, open_at, opens_in, loops_of, marked}
+use Rattle.stmt_parts.specs.Loops.{Open, open_at, opens_in, loops_of, marked, Opened}
 use Rattle.stmt.specs.Blocks.{loop_calls}
 use Rattle.stmt_parts.specs.Parts.{Enters, PoolsFirst, BindsNext, while_from, while_end, pool_first}
-use Rattle.stmt.specs.Lent.{Opens}
+use Rattle.stmt.specs.declared.Lent.{Lent}
 use Rattle.stmt.specs.Ran.{Ran, RanBlock, RanBody, RanPlain, RanWhile, RanRepeat, RanLoop}
 use Rattle.stmt_parts.proofs.Marks.{marked-same, marked-then, loops-marked}
 use Rattle.stmt.proofs.Shapes.{while-shape, while-exits, unless-quiet, repeat-quiet}
@@ -50,7 +51,7 @@ tail_of : {a b : Open} {xs ys : List Open} → ◌≡◌ {A = List Open} (a ∷ 
 tail_of e = cc
 
 -- the flag that a body leaves is what the definition says of it, and the loops around it are marked as it says
-module _ (i end next : ℕ) (used : ℕ → Bool) (ls ls₁ ls₂ : List ℕ) (inside : ℕ)
+module _ (i end next : ℕ) (used : ℕ → Bool) (ls ls₁ ls₂ : List OpenLoop) (inside : ℕ)
     (made : opens_in ls₁ (suc inside) ≡ record { labels = record { loop = i; exit = end; next = next }; used = false } ∷ opens_in ls inside)
     (ran : opens_in ls₂ (suc inside) ≡ marked used (opens_in ls₁ (suc inside))) where
   after-body : open_at ls₂ inside ∷ opens_in ls₂ inside ≡ record { labels = record { loop = i; exit = end; next = next }; used = false || used i } ∷ marked (λ j. bool.not (eqb j i) && used j) (opens_in ls inside)
@@ -64,32 +65,32 @@ module _ (i end next : ℕ) (used : ℕ → Bool) (ls ls₁ ls₂ : List ℕ) (i
   outer-marks = tail_of after-body
 
 module _ (s : Sheet) (ctx : Context) (text : List ℕ) (i end n : ℕ) (c : Cursor) {k : Context} (deep : k ≡ in_loop ctx) where
-  pub body-done : {e e₁ r : Emitter} {code book pool b₁ ls ls₁ ls₂ book' : List ℕ} {next : ℕ} {used : Bool} {w₂ : World} {c₁ : Cursor} → Ready (world e code book pool) → Created e book e₁ b₁ next → Opens ctx.inside i end next ls ls₁
+  pub body-done : {e e₁ r : Emitter} {code book pool b₁ book' : List ℕ} {ls ls₁ : List OpenLoop} {ls₂ : Lent} {next : ℕ} {used : Bool} {w₂ : World} {c₁ : Cursor} → Ready (world e code book pool) → Created e book e₁ b₁ next → Opened ctx.inside i end next ls ls₁
       → RanBlock s k text n (cursor_of c) (world e₁ code b₁ pool) w₂ ls₁ ls₂ c₁
-      → used ≡ (open_at ls₂ ctx.inside).used
+      → used ≡ (open_at ls₂.loops ctx.inside).used
       → BindsNext used next w₂.e w₂.book r book'
       → RanBody s ctx text i end n (cursor_of c) (world e code book pool) (world r w₂.code book' w₂.pool) ls ls₂ c₁
   unfolding loop_body
   body-done {ls = ls} {ls₁ = ls₁} {ls₂ = ls₂} {next = next} {w₂ = w₂} ready x o b' is-used f =
       let b = rw deep at b' in
       let blk = (block_in ctx text n (cursor_of c)).0 in
-      let ran-marks : opens_in ls₂ (suc ctx.inside) ≡ marked (λ j. continues j blk) (opens_in ls₁ (suc ctx.inside)) = rw (add-one) at b.marks in
-      let flag : (open_at ls₂ ctx.inside).used ≡ continues i blk = flag_is i end next _ ls ls₁ ls₂ ctx.inside o.opens ran-marks in
+      let ran-marks : opens_in ls₂.loops (suc ctx.inside) ≡ marked (λ j. continues j blk) (opens_in ls₁ (suc ctx.inside)) = rw (add-one) at b.marks in
+      let flag : (open_at ls₂.loops ctx.inside).used ≡ continues i blk = flag_is i end next _ ls ls₁ ls₂.loops ctx.inside o.opens ran-marks in
       let inner : loops_of (opens_in ls₁ (ctx.inside + 1)) ≡ record { loop = i; exit = end; next = next } ∷ loops_of (opens_in ls ctx.inside) = unfold loops_of in rw (add-one, o.opens) in
       record {
         place = b.place;
-        slots = b.slots;
-        marks = outer-marks i end next _ ls ls₁ ls₂ ctx.inside o.opens ran-marks;
+        noted = b.noted;
+        marks = outer-marks i end next _ ls ls₁ ls₂.loops ctx.inside o.opens ran-marks;
         filled = fresh-filled s 0 next _ x.label (created-on ready s 0 x) (seq-filled s _ _ (at-loops b inner) (rw (is-used, flag) at (f.did s w₂.code w₂.pool b.filled.ready)));
       }
 
 -- ---- a loop of no shape
 
 module _ (s : Sheet) (ctx : Context) (text : List ℕ) (i n m : ℕ) (c : Cursor) where
-  pub plain_done : {e e₁ e₂ e₃ e₆ r : Emitter} {code book pool b₁ b₂ b₃ k₆ b₆ book' ls ls₄ ls₅ : List ℕ} {head end : ℕ} {w₄ w₅ : World} {c₁ c₂ : Cursor} → Ready (world e code book pool)
+  pub plain_done : {e e₁ e₂ e₃ e₆ r : Emitter} {code book pool b₁ b₂ b₃ k₆ b₆ book' : List ℕ} {ls : List OpenLoop} {ls₄ ls₅ : Lent} {head end : ℕ} {w₄ w₅ : World} {c₁ c₂ : Cursor} → Ready (world e code book pool)
       → Created e book e₁ b₁ head → Created e₁ b₁ e₂ b₂ end → Booked (bind_label head) e₂ b₂ e₃ b₃
       → RanBody s ctx text i end n (cursor_of c) (world e₃ code b₃ pool) w₄ ls ls₄ c₁
-      → RanBlock s ctx text m (cursor_of c₁) w₄ w₅ ls₄ ls₅ c₂
+      → RanBlock s ctx text m (cursor_of c₁) w₄ w₅ ls₄.loops ls₅ c₂
       → Coded (call s (emit_jmp head)) w₅.e w₅.code w₅.book e₆ k₆ b₆
       → Booked (bind_label end) e₆ b₆ r book'
       → RanPlain s ctx text i n m (cursor_of c) (world e code book pool) (world r k₆ book' w₅.pool) ls ls₅ c₂
@@ -102,7 +103,7 @@ module _ (s : Sheet) (ctx : Context) (text : List ℕ) (i n m : ℕ) (c : Cursor
       let x₆ = coded-on d.filled.ready j in
       record {
         place = d.place;
-        slots = d.slots;
+        noted = d.noted;
         marks = d.marks ∙ re _ b.marks ∙ marked-then _ _ (opens_in ls ctx.inside);
         filled = fresh-filled s 0 head _ x.label x₁
             (fresh-filled s 0 end _ y.label x₂
@@ -128,7 +129,7 @@ repeat-parts (some f) i c head end used body loops = refl
 repeat-parts none i c head end used body loops = refl
 
 module _ (s : Sheet) (ctx : Context) (text : List ℕ) (i n : ℕ) (q : Cursor) {k : Context} (deep : k ≡ inner_of ctx) where
-  pub while-done : (rest : Cursor) {e e₁ r : Emitter} {code book pool b₁ b₅ ls ls₃ : List ℕ} {end back : ℕ} {w₂ w₃ w₄ : World} {c₃ : Cursor} → Ready (world e code book pool) → Created e book e₁ b₁ end
+  pub while-done : (rest : Cursor) {e e₁ r : Emitter} {code book pool b₁ b₅ : List ℕ} {ls : List OpenLoop} {ls₃ : Lent} {end back : ℕ} {w₂ w₃ w₄ : World} {c₃ : Cursor} → Ready (world e code book pool) → Created e book e₁ b₁ end
       → Enters s (while_from (classify (expr_in k text (cursor_of q)).0) (expr_in k text (cursor_of q)).0 end) (world e₁ code b₁ pool) w₂ back
       → RanBody s ctx text i end n (cursor_of rest) w₂ w₃ ls ls₃ c₃
       → Filled (run s (while_end (classify (expr_in k text (cursor_of q)).0) back)) w₃ w₄
@@ -145,12 +146,12 @@ module _ (s : Sheet) (ctx : Context) (text : List ℕ) (i n : ℕ) (q : Cursor) 
       rw (while-parts (classify x) i x end (continues i blk) (λ o. emit_block blk o) os) (h.did (λ start. walk.◌>>◌ (loop_body i end (continues i blk) (λ o. emit_block blk o) os) (while_end (classify x) start)) _ (seq-filled s _ _ b.filled t)) in
       record {
         place = b.place;
-        slots = b.slots;
+        noted = b.noted;
         marks = b.marks;
         filled = fresh-filled s 0 end _ m.label (created-on ready s 0 m) (seq-filled s _ _ whole (said-filled s _ (booked-on t.ready s o)));
       }
 
-  pub repeat-done : (c last : Cursor) {e e₁ e₂ e₃ e₄ r : Emitter} {code book pool b₁ b₂ p₃ b₄ b₇ ls ls₅ : List ℕ} {head end : ℕ} {w₅ w₆ : World} {c₅ c₆ : Cursor} → Ready (world e code book pool) → Near text last.at last.row
+  pub repeat-done : (c last : Cursor) {e e₁ e₂ e₃ e₄ r : Emitter} {code book pool b₁ b₂ p₃ b₄ b₇ : List ℕ} {ls : List OpenLoop} {ls₅ : Lent} {head end : ℕ} {w₅ w₆ : World} {c₅ c₆ : Cursor} → Ready (world e code book pool) → Near text last.at last.row
       → Created e book e₁ b₁ head → Created e₁ b₁ e₂ b₂ end → PoolsFirst (classify (expr_in k text (cursor_of q)).0) e₂ pool e₃ p₃ → Booked (bind_label head) e₃ b₂ e₄ b₄
       → RanBody s ctx text i end n (cursor_of c) (world e₄ code b₄ p₃) w₅ ls ls₅ c₅
       → Went s (branch_unless (expr_in k text (cursor_of q)).0 head) text (expr_in k text (cursor_of q)).1 w₅ w₆ c₆
@@ -170,26 +171,26 @@ module _ (s : Sheet) (ctx : Context) (text : List ℕ) (i n : ℕ) (q : Cursor) 
       rw (repeat-parts (classify x) i x head end (continues i blk) (λ o. emit_block blk o) os) (p.did s code b₂ (walk.◌>>◌ (say (bind_label head)) (walk.◌>>◌ (loop_body i end (continues i blk) (λ o. emit_block blk o) os) (branch_unless_by (classify x) x head))) _ x₂.ready (seq-filled s _ _ (said-filled s _ (booked-on y₃ s f)) (seq-filled s _ _ b.filled (filled t)))) in
       record {
         place = record { is = refl; near = near };
-        slots = b.slots;
+        noted = b.noted;
         marks = b.marks;
         filled = fresh-filled s 0 head _ m₁.label x₁ (fresh-filled s 0 end _ m₂.label x₂ (seq-filled s _ _ whole (said-filled s _ (booked-on t.ready s o))));
       }
 
 -- ---- a loop by its shape
 
-while-calls : {s : Sheet} (i : ℕ) (first : Stmt) (rest : Block) (x : Expr) {inside vars : ℕ} {text : List ℕ} {d : def.Cursor} {w u : World} {ls ls' : List ℕ} {p : Cursor} → while x ≡ shape i (first then rest) done
+while-calls : {s : Sheet} (i : ℕ) (first : Stmt) (rest : Block) (x : Expr) {inside vars : ℕ} {text : List ℕ} {d : def.Cursor} {w u : World} {ls : List OpenLoop} {ls' : Lent} {p : Cursor} → while x ≡ shape i (first then rest) done
     → Ran s (emit_while i x (continues i rest) (λ o. emit_block rest o)) (λ j. bool.not (eqb j i) && continues j rest) inside vars text d w u ls ls' p
     → Ran s (loop_calls i (first then rest) done) (λ j. (bool.not (eqb j i) && continues j (first then rest)) || continues j done) inside vars text d w u ls ls' p
 unfolding loop_calls emit_loop emit_rest continues
 while-calls i first rest x e r = record {
   place = r.place;
-  slots = r.slots;
+  noted = r.noted;
   marks = r.marks ∙ marked-same _ _ _ (λ j. rw (unless-quiet i j first x (while-exits i first rest x e)) (sym (or-none _)));
   filled = rw (← e, unless-quiet i i first x (while-exits i first rest x e)) r.filled;
 }
 
 module _ (s : Sheet) (ctx : Context) (text : List ℕ) (i : ℕ) (c q : Cursor) where
-  loop-while : (n m : ℕ) {k : ℕ} {rest p : Cursor} {w u : World} {ls ls' : List ℕ} → k ≡ n - 1
+  loop-while : (n m : ℕ) {k : ℕ} {rest p : Cursor} {w u : World} {ls : List OpenLoop} {ls' : Lent} → k ≡ n - 1
       → while (expr_in (inner_of ctx) text (cursor_of q)).0 ≡ shape i (block_in ctx text n (cursor_of c)).0 (block_in ctx text m (block_in ctx text n (cursor_of c)).1).0
       → Skipped text (stmt_in ctx text (cursor_of c)).1 rest
       → RanWhile s ctx text i k (cursor_of q) (cursor_of rest) w u ls ls' p
@@ -199,13 +200,13 @@ module _ (s : Sheet) (ctx : Context) (text : List ℕ) (i : ℕ) (c q : Cursor) 
   loop-while n (suc m) is-k e on r = absurd (let h = (while-shape i _ _ _ e).none in let q : ◌≡◌ {A = ℕ} 0 1 = cc in omega arith)
   loop-while (suc n) zero {k} is-k e on r = while-calls i _ _ _ e (let z : k ≡ n = omega arith in rw (z, on.is) at r)
 
-loop-repeat : (s : Sheet) (inside vars : ℕ) (text : List ℕ) (i : ℕ) (b d : Block) {x : Expr} {end : def.Cursor} {last p : Cursor} {w u : World} {ls ls' : List ℕ} → repeat x ≡ shape i b d → Skipped text end last
+loop-repeat : (s : Sheet) (inside vars : ℕ) (text : List ℕ) (i : ℕ) (b d : Block) {x : Expr} {end : def.Cursor} {last p : Cursor} {w u : World} {ls : List OpenLoop} {ls' : Lent} → repeat x ≡ shape i b d → Skipped text end last
     → Ran s (emit_repeat i x (continues i b) (λ o. emit_block b o)) (λ j. bool.not (eqb j i) && continues j b) inside vars text (cursor_of last) w u ls ls' p
     → Ran s (loop_calls i b d) (λ j. (bool.not (eqb j i) && continues j b) || continues j d) inside vars text end w u ls ls' p
 unfolding loop_calls emit_loop
 loop-repeat s inside vars text i b d {x} e on r = record {
   place = record { is = r.place.is ∙ on.is; near = r.place.near };
-  slots = r.slots;
+  noted = r.noted;
   marks = r.marks ∙ marked-same _ _ _ (λ j. rw (repeat-quiet i j b d x e) (sym (or-none _)));
   filled = rw (← e) r.filled;
 }
@@ -219,7 +220,7 @@ module _ {i n m left v : ℕ} {text : List ℕ} {c : def.Cursor} {r : Shape} (se
   repeat-places e = rw e at seen.places
 
 -- behind its line
-module _ (s : Sheet) (ctx : Context) (text : List ℕ) (i n m : ℕ) {d : def.Cursor} {c : Cursor} (on : Skipped text d c) {r : Shape} (seen : Shaped i n m ctx.left ctx.variables text (cursor_of c) r) {w u : World} {ls ls' : List ℕ} {p : Cursor} where
+module _ (s : Sheet) (ctx : Context) (text : List ℕ) (i n m : ℕ) {d : def.Cursor} {c : Cursor} (on : Skipped text d c) {r : Shape} (seen : Shaped i n m ctx.left ctx.variables text (cursor_of c) r) {w u : World} {ls : List OpenLoop} {ls' : Lent} {p : Cursor} where
   pub is-while : {q rest : Cursor} {k : ℕ} → r ≡ loop-shape.While q rest → k ≡ n - 1 → RanWhile s ctx text i k (cursor_of q) (cursor_of rest) w u ls ls' p → RanLoop s ctx text i n m d w u ls ls' p
   is-while {q} e is-k f = rw (← on.is) (loop-while s ctx text i c q n m is-k (rw e at seen.condition) (while-places seen e).1 f)
 
@@ -230,4 +231,4 @@ module _ (s : Sheet) (ctx : Context) (text : List ℕ) (i n m : ℕ) {d : def.Cu
   unfolding loop_calls emit_loop
   is_plain e f =
       let none : plain ≡ shape i (block_in ctx text n (cursor_of c)).0 (block_in ctx text m (block_in ctx text n (cursor_of c)).1).0 = rw e at seen.condition in
-      rw (← on.is) (record { place = f.place; slots = f.slots; marks = f.marks; filled = rw (← none) f.filled })
+      rw (← on.is) (record { place = f.place; noted = f.noted; marks = f.marks; filled = rw (← none) f.filled })

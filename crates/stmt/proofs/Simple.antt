@@ -15,6 +15,7 @@ use Rattle.definition.specs.Stmt.{labels, jump_to, exit_of, continues_stmt, sour
 use Rattle.program.specs.declared.Cursor.{Cursor}
 use Rattle.program.specs.Walk.{cursor_of, Near, Skipped}
 use Rattle.program.proofs.Laws.{stmt-bad, stmt-is}
+use Rattle.program.specs.Ends.{Sound}
 use Rattle.emit.specs.declared.Emitter.{Emitter}
 use Rattle.emit.specs.View.{World, world}
 use Rattle.emit.specs.Steps.{run, call, Ready, Fine, Bare, Coded, Filled}
@@ -23,16 +24,16 @@ use Rattle.expr.specs.declared.Walked.{Walked}
 use Rattle.expr.specs.Went.{Went}
 use Rattle.expr.proofs.Laws.{went, place, filled}
 use Rattle.stmt_parts.specs.declared.Context.{Context}
+use Rattle.stmt_parts.specs.declared.loops.OpenLoop.{OpenLoop}
 use Rattle.stmt_parts.specs.Context.{expr_in, stmt_in, inner_of}
 use Rattle.stmt_parts.specs.Loops.{opens_in, loops_of}
-use Rattle.stmt_parts.specs.Parts.{jump_row, Stepped}
+use Rattle.stmt_parts.specs.Parts.{jump_row, Stepped, Continued}
 use Rattle.stmt_parts.proofs.Marks.{marked-off}
 use Rattle.stmt_parts.proofs.Walks.{bare-on, coded-on}
 use Rattle.stmt_parts.proofs.Jumps.{coded-run}
-use Rattle.stmt.specs.Blocks.{recorded_by, line_source, Placed, emit_assign}
-use Rattle.stmt.specs.Lent.{Lent, Continues}
+use Rattle.stmt.specs.Blocks.{recorded_by, position, line_source, Placed, emit_assign}
+use Rattle.stmt.specs.declared.Lent.{Lent}
 use Rattle.stmt.specs.Ran.{Ran, RanStmt}
-use Rattle.stmt.proofs.Behind.{lent-behind}
 
 -- ---- positions
 
@@ -40,17 +41,19 @@ pub unrecorded : (x : Line StmtLine) {e : Emitter} {b : Bool} → b ≡ false �
 unfolding recorded_by
 unrecorded x off h = rw off (record { fine = h; did = λ s row code book pool k u y d. d })
 
-pub unplaced : {b : Bool} (n : ℕ) {e : Emitter} → b ≡ true → Fine e → Placed b (not n) e e
+-- a line at fault has none
+pub unplaced : (b : Bool) (n : ℕ) {e : Emitter} → Fine e → Placed b (not n) e e
 unfolding recorded_by line_source record_position
-unplaced n on h = rw on (record { fine = h; did = λ s row code book pool k u y d. seq-filled s _ _ (none_filled s _ y) d })
+unplaced true n h = record { fine = h; did = λ s row code book pool k u y d. seq-filled s _ _ (none_filled s _ y) d }
+unplaced false n h = record { fine = h; did = λ s row code book pool k u y d. d }
 
-pub placed : {b : Bool} (x : Line StmtLine) (p : Pos) {e r : Emitter} → b ≡ true → ((row : ℕ) → line_source row x ≡ some (record { pos = p; row = row })) → Bare (set_position p) e r → Placed b x e r
-unfolding recorded_by record_position
-placed x p on src d = rw on (record { fine = d.fine; did = λ s row code book pool k u y q. rw (src row) (seq-filled s _ _ (said-filled s _ (bare-on y s d)) q) })
+pub placed : (l : StmtLine) {b : Bool} {p : Pos} {e r : Emitter} → b ≡ true → p ≡ position l → Bare (set_position p) e r → Placed b (is l) e r
+unfolding recorded_by record_position line_source
+placed l on src d' = let d = rw src at d' in rw on (record { fine = d.fine; did = λ s row code book pool k u y q. seq-filled s _ _ (said-filled s _ (bare-on y s d)) q })
 
 -- the source of the statement here is its line's
 pub source-here : (x : Line StmtLine) (ctx : Context) (text : List ℕ) (c : def.Cursor) → line_at (stmt_forms ctx.variables) ctx.left text c.at ≡ x → source_of (stmt_in ctx text c).0 ≡ line_source c.row x
-unfolding source_of line_source stmt_of
+unfolding source_of line_source position stmt_of
 source-here (is (A p i)) ctx text c e = rw (stmt-is ctx.left ctx.variables text c (A p i) e)
 source-here (is (I p n m)) ctx text c e = rw (stmt-is ctx.left ctx.variables text c (I p n m) e)
 source-here (is (S p n m)) ctx text c e = rw (stmt-is ctx.left ctx.variables text c (S p n m) e)
@@ -64,8 +67,8 @@ source-here (not n) ctx text c e = rw (stmt-bad ctx.left ctx.variables text c n 
 -- ---- statements without blocks
 
 -- what leaves the open loops alone
-pub quiet : {s : Sheet} {m : Calls} {text : List ℕ} {d : def.Cursor} {w v : World} {c : Cursor} (used : ℕ → Bool) (inside : ℕ) {vars : ℕ} (ls : List ℕ) → Lent text vars ls → ((i : ℕ) → used i ≡ false) → Skipped text d c → Filled (run s m) w v → Ran s (λ loops. m) used inside vars text d w v ls ls c
-quiet used inside ls slots off a f = record { place = a; filled = f; slots = slots; marks = sym (marked-off used _ off) }
+pub quiet : {s : Sheet} {m : Calls} {text : List ℕ} {d : def.Cursor} {w v : World} {c : Cursor} (used : ℕ → Bool) (inside : ℕ) {vars : ℕ} (ls : Lent) → Sound text vars ls.ends → ((i : ℕ) → used i ≡ false) → Skipped text d c → Filled (run s m) w v → Ran s (λ loops. m) used inside vars text d w v ls.loops ls c
+quiet used inside ls noted off a f = record { place = a; filled = f; noted = noted; marks = sym (marked-off used _ off) }
 
 pub assigned : (s : Sheet) (v : ℕ) (x : Expr) (text : List ℕ) {d : def.Cursor} {c : Cursor} {w u : World} {r : Emitter} {code' book' : List ℕ} → Went s (emit_expr x 0) text d w u c → Coded (call s (store_variable v)) u.e u.code u.book r code' book'
     → Went s (emit_assign v x) text d w (world r code' book' u.pool) c
@@ -85,28 +88,28 @@ module _ (s : Sheet) (ctx : Context) (text : List ℕ) (c : Cursor) where
   abbrev pub Reads : StmtLine → Type 0
   Reads l = line_at (stmt_forms ctx.variables) ctx.left text c.at ≡ is l
 
-  pub ran-bad : (n : ℕ) {e r : Emitter} {code book pool ls : List ℕ} → Lent text ctx.variables ls → Near text c.at c.row → Ready (world e code book pool) → line_at (stmt_forms ctx.variables) ctx.left text c.at ≡ not n
-      → Bare (refused (record { number = n; place = c.row })) e r → RanStmt s ctx text (cursor_of c) (world e code book pool) (world r code book pool) ls ls c
+  pub ran-bad : (n : ℕ) {e r : Emitter} {code book pool : List ℕ} {ls : Lent} → Sound text ctx.variables ls.ends → Near text c.at c.row → Ready (world e code book pool) → line_at (stmt_forms ctx.variables) ctx.left text c.at ≡ not n
+      → Bare (refused (record { number = n; place = c.row })) e r → RanStmt s ctx text (cursor_of c) (world e code book pool) (world r code book pool) ls.loops ls c
   unfolding emit_stmt continues_stmt fault_at
-  ran-bad n {ls = ls} slots near ready line d = rw (stmt-bad ctx.left ctx.variables text (cursor_of c) n line) (quiet (λ i. false) ctx.inside ls slots (λ i. refl) (record { is = refl; near = near }) (said-filled s _ (bare-on ready s d)))
+  ran-bad n {ls = ls} noted near ready line d = rw (stmt-bad ctx.left ctx.variables text (cursor_of c) n line) (quiet (λ i. false) ctx.inside ls noted (λ i. refl) (record { is = refl; near = near }) (said-filled s _ (bare-on ready s d)))
 
-  pub ran-assign : {k : Context} → k ≡ inner_of ctx → (p : Pos) (i : ℕ) {w u : World} {ls : List ℕ} {d : Cursor} → Lent text ctx.variables ls → Reads (A p i)
-      → Went s (emit_assign i (expr_in k text (next_line text (cursor_of c))).0) text (expr_in k text (next_line text (cursor_of c))).1 w u d → RanStmt s ctx text (cursor_of c) w u ls ls d
+  pub ran-assign : {k : Context} → k ≡ inner_of ctx → (p : Pos) (i : ℕ) {w u : World} {ls : Lent} {d : Cursor} → Sound text ctx.variables ls.ends → Reads (A p i)
+      → Went s (emit_assign i (expr_in k text (next_line text (cursor_of c))).0) text (expr_in k text (next_line text (cursor_of c))).1 w u d → RanStmt s ctx text (cursor_of c) w u ls.loops ls d
   unfolding stmt_of emit_stmt continues_stmt emit_assign
-  ran-assign {k} deep p i {ls = ls} slots line a' = let a = rw deep at a' in rw (stmt-is ctx.left ctx.variables text (cursor_of c) (A p i) line) (quiet (λ i. false) ctx.inside ls slots (λ i. refl) (place a) (filled a))
+  ran-assign {k} deep p i {ls = ls} noted line a' = let a = rw deep at a' in rw (stmt-is ctx.left ctx.variables text (cursor_of c) (A p i) line) (quiet (λ i. false) ctx.inside ls noted (λ i. refl) (place a) (filled a))
 
-  module _ {e : Emitter} {code book pool : List ℕ} (ready : Ready (world e code book pool)) {r : Walked} {code' book' ls : List ℕ} where
-    pub ran-return : (p : Pos) → Lent text ctx.variables ls → Reads (R p) → Stepped s (say (emit_opcode ret)) text (next_line text (cursor_of c)) e code book r code' book'
-        → RanStmt s ctx text (cursor_of c) (world e code book pool) (world r.emitter code' book' pool) ls ls r.cursor
+  module _ {e : Emitter} {code book pool : List ℕ} (ready : Ready (world e code book pool)) {r : Walked} {code' book' : List ℕ} {ls : Lent} where
+    pub ran-return : (p : Pos) → Sound text ctx.variables ls.ends → Reads (R p) → Stepped s (say (emit_opcode ret)) text (next_line text (cursor_of c)) e code book r code' book'
+        → RanStmt s ctx text (cursor_of c) (world e code book pool) (world r.emitter code' book' pool) ls.loops ls r.cursor
     unfolding stmt_of emit_stmt continues_stmt
-    ran-return p slots line k = rw (stmt-is ctx.left ctx.variables text (cursor_of c) (R p) line) (quiet (λ i. false) ctx.inside ls slots (λ i. refl) k.place (coded-on ready k.coded))
+    ran-return p noted line k = rw (stmt-is ctx.left ctx.variables text (cursor_of c) (R p) line) (quiet (λ i. false) ctx.inside ls noted (λ i. refl) k.place (coded-on ready k.coded))
 
-    pub ran-exit : {k : Context} → k ≡ inner_of ctx → (p : Pos) (i : ℕ) → Lent text ctx.variables ls → Reads (X p i) → Stepped s (jump_row c.row (exit_of (labels i (loops_of (opens_in ls k.inside))))) text (next_line text (cursor_of c)) e code book r code' book'
-        → RanStmt s ctx text (cursor_of c) (world e code book pool) (world r.emitter code' book' pool) ls ls r.cursor
+    pub ran-exit : {k : Context} → k ≡ inner_of ctx → (p : Pos) (i : ℕ) → Sound text ctx.variables ls.ends → Reads (X p i) → Stepped s (jump_row c.row (exit_of (labels i (loops_of (opens_in ls.loops k.inside))))) text (next_line text (cursor_of c)) e code book r code' book'
+        → RanStmt s ctx text (cursor_of c) (world e code book pool) (world r.emitter code' book' pool) ls.loops ls r.cursor
     unfolding stmt_of emit_stmt continues_stmt
-    ran-exit deep p i slots line k' = let k = rw deep at k' in rw (stmt-is ctx.left ctx.variables text (cursor_of c) (X p i) line) (record { place = k.place; filled = rw jump-row (coded-on ready k.coded); slots = slots; marks = sym (marked-off (λ i. false) _ (λ i. refl)) })
+    ran-exit deep p i noted line k' = let k = rw deep at k' in rw (stmt-is ctx.left ctx.variables text (cursor_of c) (X p i) line) (record { place = k.place; filled = rw jump-row (coded-on ready k.coded); noted = noted; marks = sym (marked-off (λ i. false) _ (λ i. refl)) })
 
-    pub ran-continue : {ls' : List ℕ} {k : Context} → k ≡ inner_of ctx → (p : Pos) (i : ℕ) → Lent text ctx.variables ls → Reads (N p i) → Continues s k.inside i text (cursor_of c) e code book ls r code' book' ls'
-        → RanStmt s ctx text (cursor_of c) (world e code book pool) (world r.emitter code' book' pool) ls ls' r.cursor
+    pub ran-continue : {before' : List OpenLoop} {k : Context} → k ≡ inner_of ctx → (p : Pos) (i : ℕ) → Sound text ctx.variables ls.ends → Reads (N p i) → Continued s k.inside i text (cursor_of c) e code book ls.loops r code' book' before'
+        → RanStmt s ctx text (cursor_of c) (world e code book pool) (world r.emitter code' book' pool) ls.loops (record { loops = before'; ends = ls.ends }) r.cursor
     unfolding stmt_of emit_stmt continues_stmt
-    ran-continue deep p i slots line k' = let k = rw deep at k' in rw (stmt-is ctx.left ctx.variables text (cursor_of c) (N p i) line) (record { place = k.stepped.place; filled = rw jump-row (coded-on ready k.stepped.coded); slots = lent-behind slots k.behind; marks = k.marks })
+    ran-continue deep p i noted line k' = let k = rw deep at k' in rw (stmt-is ctx.left ctx.variables text (cursor_of c) (N p i) line) (record { place = k.stepped.place; filled = rw jump-row (coded-on ready k.stepped.coded); noted = noted; marks = k.marks })

@@ -3,7 +3,7 @@ use Rattle.std.specs.Prelude.{Bool, true, false, List, [], ◌∷◌, ℕ}
 use Rattle.std.proofs.Math.Option.{Option, some, none}
 use Rattle.definition.specs.Opcode.{Sheet}
 use Rattle.definition.specs.Opcode as role
-use Rattle.definition.specs.Tree.{Source, Expr, Block, done, ◌then◌, Arms, CaseLabel, is_done, shape}
+use Rattle.definition.specs.Tree.{Pos, Source, Expr, Block, done, ◌then◌, Arms, CaseLabel, is_done, shape}
 use Rattle.definition.specs.Program as def
 use Rattle.definition.specs.Program.{Line, is, not, A, I, S, F, L, X, N, R, arms_at, stmt_at}
 use Rattle.definition.specs.Expr.{emit_expr}
@@ -25,16 +25,20 @@ unfoldable pub emit_sequence : Bool → Block → Loops → Calls
 emit_sequence b done loops = nothing
 emit_sequence b (s then rest) loops = recorded_by b (source_of s) (emit_stmt s loops >> emit_sequence b rest loops)
 
+-- where a statement stands in its source
+unfoldable pub position : def.StmtLine → Pos
+position (A p v) = p
+position (I p n m) = p
+position (S p n m) = p
+position (F p i v k n) = p
+position (L p i n m) = p
+position (X p i) = p
+position (N p i) = p
+position (R p) = p
+
 -- the source of a statement's line
 unfoldable pub line_source : ℕ → Line def.StmtLine → Option Source
-line_source row (is (A p v)) = some (record { pos = p; row = row })
-line_source row (is (I p n m)) = some (record { pos = p; row = row })
-line_source row (is (S p n m)) = some (record { pos = p; row = row })
-line_source row (is (F p i v k n)) = some (record { pos = p; row = row })
-line_source row (is (L p i n m)) = some (record { pos = p; row = row })
-line_source row (is (X p i)) = some (record { pos = p; row = row })
-line_source row (is (N p i)) = some (record { pos = p; row = row })
-line_source row (is (R p)) = some (record { pos = p; row = row })
+line_source row (is l) = some (record { pos = position l; row = row })
 line_source row (not n) = none
 
 -- the position of a line was recorded, if it is to be

@@ -9,28 +9,30 @@ use Rattle.definition.specs.Walk.{Calls}
 use Rattle.definition.specs.Stmt.{Loops, continues, continues_stmt, continues_arms, else_part, loop_body, emit_for, emit_while, emit_repeat, emit_plain, emit_stmt, emit_block, emit_arm, emit_arms}
 use Rattle.program.specs.declared.Cursor.{Cursor}
 use Rattle.program.specs.Walk.{Skipped}
+use Rattle.program.specs.Ends.{Sound}
 use Rattle.emit.specs.View.{World}
 use Rattle.emit.specs.Steps.{run, Filled}
 use Rattle.stmt_parts.specs.declared.Context.{Context}
+use Rattle.stmt_parts.specs.declared.loops.OpenLoop.{OpenLoop}
 use Rattle.stmt_parts.specs.Context.{expr_in, stmt_in, block_in, inner_of}
 use Rattle.stmt_parts.specs.Loops.{opens_in, loops_of, marked}
-use Rattle.stmt.specs.Lent.{Lent}
+use Rattle.stmt.specs.declared.Lent.{Lent}
 use Rattle.stmt.specs.Blocks.{emit_sequence, emit_if, loop_calls, emit_case, arms_here, arm_continues}
 
--- m was emitted inside so many open loops of a program of `vars` variables, and the walk stands at d; the CONTINUEs that `used` says have led to their loops
-pub record Ran (s : Sheet) (m : Loops → Calls) (used : ℕ → Bool) (inside vars : ℕ) (text : List ℕ) (d : def.Cursor) (w v : World) (ls ls' : List ℕ) (c : Cursor) : Type 0 where
+-- m was emitted inside so many open loops, those in a list, of a program of `vars` variables, and the walk stands at d; the CONTINUEs that `used` says have led to their loops
+pub record Ran (s : Sheet) (m : Loops → Calls) (used : ℕ → Bool) (inside vars : ℕ) (text : List ℕ) (d : def.Cursor) (w v : World) (before : List OpenLoop) (after : Lent) (c : Cursor) : Type 0 where
   pub place : Skipped text d c
-  pub filled : Filled (run s (m (loops_of (opens_in ls inside)))) w v
-  pub slots : Lent text vars ls'
-  pub marks : opens_in ls' inside ≡ marked used (opens_in ls inside)
+  pub filled : Filled (run s (m (loops_of (opens_in before inside)))) w v
+  pub noted : Sound text vars after.ends
+  pub marks : opens_in after.loops inside ≡ marked used (opens_in before inside)
 
--- what a part is said to have done: from and to an emitter with what is lent to it, the open loops before and after, and the place behind it
+-- what a part is said to have done: from and to an emitter with what is lent to it, the open loops before, what is lent on after, and the place behind it
 abbrev pub Done : Type 1
-Done = World → World → List ℕ → List ℕ → Cursor → Type 0
+Done = World → World → List OpenLoop → Lent → Cursor → Type 0
 
 -- a part that CONTINUE goes out of by `used`
 abbrev pub Part : Sheet → Context → List ℕ → def.Cursor → (Loops → Calls) → (ℕ → Bool) → Done
-Part s ctx text d m used w v ls ls' c = Ran s m used ctx.inside ctx.variables text d w v ls ls' c
+Part s ctx text d m used w v before after c = Ran s m used ctx.inside ctx.variables text d w v before after c
 
 module _ (s : Sheet) (ctx : Context) (text : List ℕ) where
   -- n statements from c on

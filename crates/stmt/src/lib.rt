@@ -4,54 +4,68 @@
 ghost use Rattle.std.specs.Prelude.{◌≡◌, ◌≤◌, ◌<◌, ◌+◌, ◌-◌, length};
 ghost use Rattle.definition.specs.Limits.{max_code, max_nesting};
 ghost use Rattle.definition.specs.Opcode.{ret};
-ghost use Rattle.definition.specs.Program.{stmt_forms, line_at};
+ghost use Rattle.definition.specs.Program.{is, stmt_forms, line_at, next_line};
 ghost use Rattle.definition.specs.Emit.{emit_opcode};
 ghost use Rattle.definition.specs.Walk.{say};
 ghost use Rattle.definition.specs.Stmt.{emit_stmts};
 ghost use Rattle.opcode.specs.Table.{sheet_in};
+ghost use Rattle.line_map.specs.View.{pos_view};
 ghost use Rattle.program_line.specs.View.{stmt_line};
-ghost use Rattle.program.specs.Walk.{cursor_of, Near, Behind};
+ghost use Rattle.program.specs.Walk.{cursor_of, Near, Skipped};
+ghost use Rattle.program.specs.Ends.{Sound};
 ghost use Rattle.program_shape.specs.Shape.{block_at};
-ghost use Rattle.emit.specs.Book.{book_size};
 ghost use Rattle.emit.specs.View.{world};
 ghost use Rattle.emit.specs.Steps.{Ready, Fine};
 ghost use Rattle.expr.specs.Went.{Went};
 ghost use Rattle.stmt_parts.specs.Context.{expr_in};
 ghost use Rattle.stmt_parts.specs.Parts.{Stepped};
-ghost use Rattle.stmt.specs.Blocks.{Placed, emit_assign};
-ghost use Rattle.stmt.specs.Lent.{Lent};
+ghost use Rattle.stmt.specs.Blocks.{position, Placed, emit_assign};
 ghost use Rattle.stmt.specs.Ran.{RanSequence, RanStmt, RanIf, RanElse, RanCase, RanArms, RanArm, RanFor, RanLoop, RanPlain, RanWhile, RanRepeat, RanBody};
 
 use definition::MAX_NESTING;
-use emit::{Constant, Emitter, Label};
+use emit::{Book, Constant, Emitter, Label, NewLabel, Pool};
 use expr::Walked;
+use line_map::Pos;
 use opcode::Role;
-use program::Cursor;
-use program_line::StmtLine;
+use program::{Cursor, Ends};
+use program_line::{ArmLine, StmtLine};
 use program_shape::Shape;
-use stmt_parts::labels::ArmParts;
+use stmt_parts::loops::{OpenLoop, OpenLoops};
 use stmt_parts::{Context, conditions, labels, loops};
 
-mod lent; // lent.rt: the open loops, and the ends of bodies that are noted
+// What statement emission lends on: the open loops, and where bodies of loops end, as far as that was noted when one was skipped.
+#[derive(Clone, Copy)]
+struct Lent {
+    loops: OpenLoops,
+    ends: Ends,
+}
 
-// The position of a statement's line, unless the line is at fault or positions are not recorded.
+// Where a statement stands in its source.
+#[tactic(auto, unfolding(crate::specs::Blocks::position))]
+fn position_of(line: StmtLine) -> Pos
+    ensures { pos_view result ≡ position (stmt_line line) }
+{
+    match line {
+        StmtLine::Assign { pos, .. }
+        | StmtLine::If { pos, .. }
+        | StmtLine::Case { pos, .. }
+        | StmtLine::For { pos, .. }
+        | StmtLine::Loop { pos, .. }
+        | StmtLine::Exit { pos, .. }
+        | StmtLine::Continue { pos, .. }
+        | StmtLine::Return { pos } => pos,
+    }
+}
+
+// The position of a statement's line, if positions are recorded.
 fn record_position(e: Emitter, line: StmtLine, recording: bool) -> Emitter
     requires { Fine e }
-    ensures { Placed recording (stmt_line line) e result }
+    ensures { Placed recording (is (stmt_line line)) e result }
 {
-    if !recording {
-        return e;
-    }
-    match line {
-        StmtLine::Assign { pos, .. } => e.set_position(pos),
-        StmtLine::If { pos, .. } => e.set_position(pos),
-        StmtLine::Case { pos, .. } => e.set_position(pos),
-        StmtLine::For { pos, .. } => e.set_position(pos),
-        StmtLine::Loop { pos, .. } => e.set_position(pos),
-        StmtLine::Exit { pos, .. } => e.set_position(pos),
-        StmtLine::Continue { pos, .. } => e.set_position(pos),
-        StmtLine::Return { pos } => e.set_position(pos),
-        StmtLine::Bad(_) => e,
+    if recording {
+        e.set_position(position_of(line))
+    } else {
+        e
     }
 }
 
@@ -61,36 +75,37 @@ fn sequence(
     text: &[u8],
     sheet: &[u8],
     code: &mut [u8],
-    book: &mut [u16],
-    pool: &mut [Constant],
-    loops: &mut [u16],
+    book: &mut Book,
+    pool: &mut Pool,
+    lent: &mut Lent,
     ctx: Context,
     recording: bool,
     n: usize,
     e: Emitter,
     c: Cursor,
 ) -> Walked
-    requires lent { Lent text.now ctx.variables loops.old }
+    requires noted { Sound text.now ctx.variables lent.old.ends }
     requires near { Near text.now c.at c.row }
     requires ready { Ready (world e code.old book.old pool.old) }
     requires left_bound { ctx.inside + ctx.left ≤ max_nesting }
-    ensures { RanSequence (sheet_in sheet.now) ctx text.now recording n (cursor_of c) (world e code.old book.old pool.old) (world result.emitter code.new book.new pool.new) loops.old loops.new result.cursor }
+    ensures { RanSequence (sheet_in sheet.now) ctx text.now recording n (cursor_of c) (world e code.old book.old pool.old) (world result.emitter code.new book.new pool.new) lent.old.loops lent.new result.cursor }
 {
-    let variables = ctx.variables;
-    let left = ctx.left;
-    let mut more = n;
     let mut on = e;
     let mut here = c;
-    while more > 0 {
-        let at = here.at;
-        let next = program_line::next_stmt(text, variables, left, at);
-        let to = program::behind(text, here, next.end);
-        let line = next.line;
-        let p = record_position(on, line, recording);
-        let r = stmt(text, sheet, code, book, pool, loops, ctx, line, p, here, to);
-        on = r.emitter;
-        here = r.cursor;
-        more = more - 1;
+    for _ in 0..n {
+        match program_line::next_stmt(text, ctx.variables, ctx.left, here.at) {
+            Ok(next) => {
+                let to = program::next_line(text, here, next.end);
+                on = record_position(on, next.line, recording);
+                let done = stmt(
+                    text, sheet, code, book, pool, lent, ctx, next.line, on, here, to,
+                );
+                on = done.emitter;
+                here = done.cursor;
+            }
+            // The walk stays here, where the others are refused alike, and a refused emitter stays as it is.
+            Err(refusal) => on = on.refuse(refusal, here.row),
+        }
     }
     Walked {
         cursor: here,
@@ -104,22 +119,22 @@ fn stmt(
     text: &[u8],
     sheet: &[u8],
     code: &mut [u8],
-    book: &mut [u16],
-    pool: &mut [Constant],
-    loops: &mut [u16],
+    book: &mut Book,
+    pool: &mut Pool,
+    lent: &mut Lent,
     ctx: Context,
     line: StmtLine,
     e: Emitter,
     c: Cursor,
     on: Cursor,
 ) -> Walked
-    requires lent { Lent text.now ctx.variables loops.old }
+    requires noted { Sound text.now ctx.variables lent.old.ends }
     requires near { Near text.now c.at c.row }
     requires ready { Ready (world e code.old book.old pool.old) }
     requires left_bound { ctx.inside + ctx.left ≤ max_nesting }
-    requires line_value { stmt_line line ≡ line_at (stmt_forms ctx.variables) ctx.left text.now c.at }
-    requires behind { Behind (stmt_line line) text.now c on }
-    ensures { RanStmt (sheet_in sheet.now) ctx text.now (cursor_of c) (world e code.old book.old pool.old) (world result.emitter code.new book.new pool.new) loops.old loops.new result.cursor }
+    requires line_value { is (stmt_line line) ≡ line_at (stmt_forms ctx.variables) ctx.left text.now c.at }
+    requires skipped { Skipped text.now (next_line text.now (cursor_of c)) on }
+    ensures { RanStmt (sheet_in sheet.now) ctx text.now (cursor_of c) (world e code.old book.old pool.old) (world result.emitter code.new book.new pool.new) lent.old.loops lent.new result.cursor }
 {
     let ctx = ctx.inner();
     match line {
@@ -130,36 +145,54 @@ fn stmt(
             then: n,
             otherwise: m,
             ..
-        } => if_(text, sheet, code, book, pool, loops, ctx, n, m, e, on),
+        } => if_(text, sheet, code, book, pool, lent, ctx, n, m, e, on),
         StmtLine::Case {
             arms: n,
             otherwise: m,
             ..
-        } => case(text, sheet, code, book, pool, loops, ctx, n, m, e, on),
+        } => case(text, sheet, code, book, pool, lent, ctx, n, m, e, on),
         StmtLine::For {
             loop_number: i,
             variable: v,
             step: k,
             body: n,
             ..
-        } => for_(text, sheet, code, book, pool, loops, ctx, i, v, k, n, e, on),
+        } => for_(text, sheet, code, book, pool, lent, ctx, i, v, k, n, e, on),
         StmtLine::Loop {
             loop_number: i,
             body: n,
             continuing: m,
             ..
-        } => loop_(text, sheet, code, book, pool, loops, ctx, i, n, m, e, on),
+        } => loop_(text, sheet, code, book, pool, lent, ctx, i, n, m, e, on),
         StmtLine::Exit { loop_number: i, .. } => {
-            lent::exit(text, sheet, code, book, loops, ctx.inside, i, e, c, on)
+            loops::exit(
+                text,
+                sheet,
+                code,
+                book,
+                &lent.loops,
+                ctx.inside,
+                i,
+                e,
+                c,
+                on,
+            )
         }
         StmtLine::Continue { loop_number: i, .. } => {
-            lent::continue_(text, sheet, code, book, loops, ctx.inside, i, e, c, on)
+            loops::continue_(
+                text,
+                sheet,
+                code,
+                book,
+                &mut lent.loops,
+                ctx.inside,
+                i,
+                e,
+                c,
+                on,
+            )
         }
         StmtLine::Return { .. } => return_(text, sheet, code, book, e, on),
-        StmtLine::Bad(n) => Walked {
-            cursor: c,
-            emitter: e.refuse(n, c.row),
-        },
     }
 }
 
@@ -168,8 +201,8 @@ fn assign(
     text: &[u8],
     sheet: &[u8],
     code: &mut [u8],
-    book: &mut [u16],
-    pool: &mut [Constant],
+    book: &mut Book,
+    pool: &mut Pool,
     ctx: Context,
     v: u16,
     e: Emitter,
@@ -180,12 +213,15 @@ fn assign(
     requires left_le_max_nesting { ctx.left ≤ max_nesting }
     ensures { Went (sheet_in sheet.now) (emit_assign v (expr_in ctx text.now (cursor_of c)).0) text.now (expr_in ctx text.now (cursor_of c)).1 (world e code.old book.old pool.old) (world result.emitter code.new book.new pool.new) result.cursor }
 {
-    let vs = ctx.variables;
-    let left = ctx.left;
-    let a = expr::emit_expr(text, sheet, code, book, pool, vs, left, 0, e, c);
-    let cursor = a.cursor;
-    let on = a.emitter;
-    let emitter = compile_expr::emit_store_var(on, sheet, code, book, v);
+    let Context {
+        variables,
+        left,
+        ..
+    } = ctx;
+    let Walked { cursor, emitter } = expr::emit_expr(
+        text, sheet, code, book, pool, variables, left, 0, e, c,
+    );
+    let emitter = compile_expr::emit_store_var(emitter, sheet, code, book, v);
     Walked { cursor, emitter }
 }
 
@@ -194,14 +230,13 @@ fn return_(
     text: &[u8],
     sheet: &[u8],
     code: &mut [u8],
-    book: &mut [u16],
+    book: &mut Book,
     e: Emitter,
     c: Cursor,
 ) -> Walked
     requires near { Near text.now c.at c.row }
     requires fine { Fine e }
     requires code_len { length code.old ≡ max_code }
-    requires book_len { length book.old ≡ book_size }
     ensures { Stepped (sheet_in sheet.now) (say (emit_opcode ret)) text.now (cursor_of c) e code.old book.old result code.new book.new }
 {
     let emitter = e.emit_opcode(sheet, code, book, Role::Ret);
@@ -214,33 +249,35 @@ fn if_(
     text: &[u8],
     sheet: &[u8],
     code: &mut [u8],
-    book: &mut [u16],
-    pool: &mut [Constant],
-    loops: &mut [u16],
+    book: &mut Book,
+    pool: &mut Pool,
+    lent: &mut Lent,
     ctx: Context,
     n: u16,
     m: u16,
     e: Emitter,
     c: Cursor,
 ) -> Walked
-    requires lent { Lent text.now ctx.variables loops.old }
+    requires noted { Sound text.now ctx.variables lent.old.ends }
     requires near { Near text.now c.at c.row }
     requires ready { Ready (world e code.old book.old pool.old) }
     requires left_bound { ctx.inside + 1 + ctx.left ≤ max_nesting }
-    ensures { RanIf (sheet_in sheet.now) ctx text.now n m (cursor_of c) (world e code.old book.old pool.old) (world result.emitter code.new book.new pool.new) loops.old loops.new result.cursor }
+    ensures { RanIf (sheet_in sheet.now) ctx text.now n m (cursor_of c) (world e code.old book.old pool.old) (world result.emitter code.new book.new pool.new) lent.old.loops lent.new result.cursor }
 {
-    let n = n as usize;
-    let m = m as usize;
-    let next = e.create_label(book);
-    let label = next.label;
-    let e1 = next.emitter;
-    let a = conditions::branch_unless(text, sheet, code, book, pool, ctx, e1, c, label);
-    let e2 = a.emitter;
-    let c2 = a.cursor;
-    let b = sequence(text, sheet, code, book, pool, loops, ctx, true, n, e2, c2);
-    let e3 = b.emitter;
-    let c3 = b.cursor;
-    else_(text, sheet, code, book, pool, loops, ctx, m, e3, c3, label)
+    let (n, m) = (usize::from(n), usize::from(m));
+    let NewLabel {
+        emitter,
+        label: next,
+    } = e.create_label(book);
+    let Walked { emitter, cursor } = conditions::branch_unless(
+        text, sheet, code, book, pool, ctx, emitter, c, next,
+    );
+    let Walked { emitter, cursor } = sequence(
+        text, sheet, code, book, pool, lent, ctx, true, n, emitter, cursor,
+    );
+    else_(
+        text, sheet, code, book, pool, lent, ctx, m, emitter, cursor, next,
+    )
 }
 
 // Its ELSE, which is jumped over only where there is one.
@@ -249,34 +286,35 @@ fn else_(
     text: &[u8],
     sheet: &[u8],
     code: &mut [u8],
-    book: &mut [u16],
-    pool: &mut [Constant],
-    loops: &mut [u16],
+    book: &mut Book,
+    pool: &mut Pool,
+    lent: &mut Lent,
     ctx: Context,
     m: usize,
     e: Emitter,
     c: Cursor,
     next: Label,
 ) -> Walked
-    requires lent { Lent text.now ctx.variables loops.old }
+    requires noted { Sound text.now ctx.variables lent.old.ends }
     requires near { Near text.now c.at c.row }
     requires ready { Ready (world e code.old book.old pool.old) }
     requires left_bound { ctx.inside + 1 + ctx.left ≤ max_nesting }
-    ensures { RanElse (sheet_in sheet.now) ctx text.now m next.0 (cursor_of c) (world e code.old book.old pool.old) (world result.emitter code.new book.new pool.new) loops.old loops.new result.cursor }
+    ensures { RanElse (sheet_in sheet.now) ctx text.now m next.0 (cursor_of c) (world e code.old book.old pool.old) (world result.emitter code.new book.new pool.new) lent.old.loops lent.new result.cursor }
 {
     if m == 0 {
         let emitter = e.bind_label(book, next);
         return Walked { cursor: c, emitter };
     }
-    let made = e.create_label(book);
-    let end = made.label;
-    let e1 = made.emitter;
-    let e2 = e1.emit_jmp(sheet, code, book, end);
-    let e3 = e2.bind_label(book, next);
-    let b = sequence(text, sheet, code, book, pool, loops, ctx, true, m, e3, c);
-    let cursor = b.cursor;
-    let e4 = b.emitter;
-    let emitter = e4.bind_label(book, end);
+    let NewLabel {
+        emitter,
+        label: end,
+    } = e.create_label(book);
+    let e = emitter.emit_jmp(sheet, code, book, end);
+    let e = e.bind_label(book, next);
+    let Walked { emitter, cursor } = sequence(
+        text, sheet, code, book, pool, lent, ctx, true, m, e, c,
+    );
+    let emitter = emitter.bind_label(book, end);
     Walked { cursor, emitter }
 }
 
@@ -286,39 +324,42 @@ fn case(
     text: &[u8],
     sheet: &[u8],
     code: &mut [u8],
-    book: &mut [u16],
-    pool: &mut [Constant],
-    loops: &mut [u16],
+    book: &mut Book,
+    pool: &mut Pool,
+    lent: &mut Lent,
     ctx: Context,
     n: u16,
     m: u16,
     e: Emitter,
     c: Cursor,
 ) -> Walked
-    requires lent { Lent text.now ctx.variables loops.old }
+    requires noted { Sound text.now ctx.variables lent.old.ends }
     requires near { Near text.now c.at c.row }
     requires ready { Ready (world e code.old book.old pool.old) }
     requires left_bound { ctx.inside + 1 + ctx.left ≤ max_nesting }
-    ensures { RanCase (sheet_in sheet.now) ctx text.now n m (cursor_of c) (world e code.old book.old pool.old) (world result.emitter code.new book.new pool.new) loops.old loops.new result.cursor }
+    ensures { RanCase (sheet_in sheet.now) ctx text.now n m (cursor_of c) (world e code.old book.old pool.old) (world result.emitter code.new book.new pool.new) lent.old.loops lent.new result.cursor }
 {
-    let n = n as usize;
-    let m = m as usize;
-    let vs = ctx.variables;
-    let left = ctx.left;
-    let a = expr::emit_expr(text, sheet, code, book, pool, vs, left, 0, e, c);
-    let e1 = a.emitter;
-    let c1 = a.cursor;
-    let made = e1.create_label(book);
-    let end = made.label;
-    let e2 = made.emitter;
-    let b = arms(text, sheet, code, book, pool, loops, ctx, n, e2, c1, end);
-    let e3 = b.emitter;
-    let c3 = b.cursor;
-    let p = e3.emit_opcode(sheet, code, book, Role::Pop);
-    let d = sequence(text, sheet, code, book, pool, loops, ctx, true, m, p, c3);
-    let e4 = d.emitter;
-    let cursor = d.cursor;
-    let emitter = e4.bind_label(book, end);
+    let (n, m) = (usize::from(n), usize::from(m));
+    let Context {
+        variables,
+        left,
+        ..
+    } = ctx;
+    let Walked { emitter, cursor } = expr::emit_expr(
+        text, sheet, code, book, pool, variables, left, 0, e, c,
+    );
+    let NewLabel {
+        emitter,
+        label: end,
+    } = emitter.create_label(book);
+    let Walked { emitter, cursor } = arms(
+        text, sheet, code, book, pool, lent, ctx, n, emitter, cursor, end,
+    );
+    let e = emitter.emit_opcode(sheet, code, book, Role::Pop);
+    let Walked { emitter, cursor } = sequence(
+        text, sheet, code, book, pool, lent, ctx, true, m, e, cursor,
+    );
+    let emitter = emitter.bind_label(book, end);
     Walked { cursor, emitter }
 }
 
@@ -328,43 +369,40 @@ fn arms(
     text: &[u8],
     sheet: &[u8],
     code: &mut [u8],
-    book: &mut [u16],
-    pool: &mut [Constant],
-    loops: &mut [u16],
+    book: &mut Book,
+    pool: &mut Pool,
+    lent: &mut Lent,
     ctx: Context,
     n: usize,
     e: Emitter,
     c: Cursor,
     end: Label,
 ) -> Walked
-    requires lent { Lent text.now ctx.variables loops.old }
+    requires noted { Sound text.now ctx.variables lent.old.ends }
     requires near { Near text.now c.at c.row }
     requires ready { Ready (world e code.old book.old pool.old) }
     requires left_bound { ctx.inside + 1 + ctx.left ≤ max_nesting }
-    ensures { RanArms (sheet_in sheet.now) ctx text.now n end.0 (cursor_of c) (world e code.old book.old pool.old) (world result.emitter code.new book.new pool.new) loops.old loops.new result.cursor }
+    ensures { RanArms (sheet_in sheet.now) ctx text.now n end.0 (cursor_of c) (world e code.old book.old pool.old) (world result.emitter code.new book.new pool.new) lent.old.loops lent.new result.cursor }
 {
-    let left = ctx.left;
-    let mut more = n;
     let mut on = e;
     let mut here = c;
-    while more > 0 {
-        let at = here.at;
-        let row = here.row;
-        let read = program_line::next_arm(text, left, at);
-        let line = read.line;
-        let p = labels::arm_parts(line);
-        if p.bad != 0 {
-            let emitter = on.refuse(p.bad, row);
-            return Walked {
-                cursor: here,
-                emitter,
-            };
-        }
-        let next = program::next_line(text, here, read.end);
-        let r = arm(text, sheet, code, book, pool, loops, ctx, p, on, next, end);
-        on = r.emitter;
-        here = r.cursor;
-        more = more - 1;
+    for _ in 0..n {
+        let next = match program_line::next_arm(text, ctx.left, here.at) {
+            Ok(next) => next,
+            Err(refusal) => {
+                let emitter = on.refuse(refusal, here.row);
+                return Walked {
+                    cursor: here,
+                    emitter,
+                };
+            }
+        };
+        let to = program::next_line(text, here, next.end);
+        let done = arm(
+            text, sheet, code, book, pool, lent, ctx, next.line, on, to, end,
+        );
+        on = done.emitter;
+        here = done.cursor;
     }
     Walked {
         cursor: here,
@@ -378,39 +416,43 @@ fn arm(
     text: &[u8],
     sheet: &[u8],
     code: &mut [u8],
-    book: &mut [u16],
-    pool: &mut [Constant],
-    loops: &mut [u16],
+    book: &mut Book,
+    pool: &mut Pool,
+    lent: &mut Lent,
     ctx: Context,
-    parts: ArmParts,
+    line: ArmLine,
     e: Emitter,
     c: Cursor,
     end: Label,
 ) -> Walked
-    requires lent { Lent text.now ctx.variables loops.old }
+    requires noted { Sound text.now ctx.variables lent.old.ends }
     requires near { Near text.now c.at c.row }
     requires ready { Ready (world e code.old book.old pool.old) }
     requires left_bound { ctx.inside + 1 + ctx.left ≤ max_nesting }
-    ensures { RanArm (sheet_in sheet.now) ctx text.now parts.labels parts.statements end.0 (cursor_of c) (world e code.old book.old pool.old) (world result.emitter code.new book.new pool.new) loops.old loops.new result.cursor }
+    ensures { RanArm (sheet_in sheet.now) ctx text.now line.labels line.statements end.0 (cursor_of c) (world e code.old book.old pool.old) (world result.emitter code.new book.new pool.new) lent.old.loops lent.new result.cursor }
 {
-    let left = ctx.left;
-    let n = parts.labels;
-    let m = parts.statements;
+    let Context {
+        variables,
+        left,
+        ..
+    } = ctx;
+    let (n, m) = (usize::from(line.labels), usize::from(line.statements));
     if n == 0 {
-        let cursor = lent::skip_block(text, loops, ctx, m, c);
+        let cursor = program_shape::skip_block(text, &mut lent.ends, variables, left, m, c);
         return Walked { cursor, emitter: e };
     }
-    let made = e.create_label(book);
-    let next = made.label;
-    let e1 = made.emitter;
-    let t = labels::open_arm(text, sheet, code, book, pool, left, n, e1, c, next);
-    let e2 = t.emitter;
-    let c2 = t.cursor;
-    let p = e2.emit_opcode(sheet, code, book, Role::Pop);
-    let b = sequence(text, sheet, code, book, pool, loops, ctx, true, m, p, c2);
-    let e3 = b.emitter;
-    let cursor = b.cursor;
-    let emitter = labels::close_arm(e3, sheet, code, book, next, end);
+    let NewLabel {
+        emitter,
+        label: next,
+    } = e.create_label(book);
+    let Walked { emitter, cursor } = labels::open_arm(
+        text, sheet, code, book, pool, left, n, emitter, c, next,
+    );
+    let e = emitter.emit_opcode(sheet, code, book, Role::Pop);
+    let Walked { emitter, cursor } = sequence(
+        text, sheet, code, book, pool, lent, ctx, true, m, e, cursor,
+    );
+    let emitter = labels::close_arm(emitter, sheet, code, book, next, end);
     Walked { cursor, emitter }
 }
 
@@ -420,9 +462,9 @@ fn for_(
     text: &[u8],
     sheet: &[u8],
     code: &mut [u8],
-    book: &mut [u16],
-    pool: &mut [Constant],
-    loops: &mut [u16],
+    book: &mut Book,
+    pool: &mut Pool,
+    lent: &mut Lent,
     ctx: Context,
     i: u16,
     v: u16,
@@ -431,36 +473,48 @@ fn for_(
     e: Emitter,
     c: Cursor,
 ) -> Walked
-    requires lent { Lent text.now ctx.variables loops.old }
+    requires noted { Sound text.now ctx.variables lent.old.ends }
     requires near { Near text.now c.at c.row }
     requires ready { Ready (world e code.old book.old pool.old) }
     requires left_bound { ctx.inside + 1 + ctx.left ≤ max_nesting }
-    ensures { RanFor (sheet_in sheet.now) ctx text.now i v step n (cursor_of c) (world e code.old book.old pool.old) (world result.emitter code.new book.new pool.new) loops.old loops.new result.cursor }
+    ensures { RanFor (sheet_in sheet.now) ctx text.now i v step n (cursor_of c) (world e code.old book.old pool.old) (world result.emitter code.new book.new pool.new) lent.old.loops lent.new result.cursor }
 {
-    let n = n as usize;
-    let vs = ctx.variables;
-    let left = ctx.left;
-    let to = program_shape::skip_expr(text, vs, left, c);
-    let seen = program_shape::operand_at(text, vs, left, to);
-    let a = expr::emit_expr(text, sheet, code, book, pool, vs, left, 0, e, c);
-    let e1 = a.emitter;
-    let e2 = compile_expr::emit_store_var(e1, sheet, code, book, v);
-    let made = e2.create_label(book);
-    let head = made.label;
-    let e3 = made.emitter;
-    let last = e3.create_label(book);
-    let end = last.label;
-    let e4 = last.emitter;
-    let e5 = e4.bind_label(book, head);
-    let t = conditions::end_test(
-        text, sheet, code, book, pool, ctx, v, step, seen, e5, to, end,
+    let Context {
+        variables,
+        left,
+        ..
+    } = ctx;
+    let to = program_shape::skip_expr(text, variables, left, c);
+    let seen = program_shape::operand_at(text, variables, left, to);
+    let e = expr::emit_expr(text, sheet, code, book, pool, variables, left, 0, e, c).emitter;
+    let e = compile_expr::emit_store_var(e, sheet, code, book, v);
+    let NewLabel {
+        emitter,
+        label: head,
+    } = e.create_label(book);
+    let NewLabel {
+        emitter,
+        label: end,
+    } = emitter.create_label(book);
+    let e = emitter.bind_label(book, head);
+    let Walked { emitter, cursor } = conditions::end_test(
+        text, sheet, code, book, pool, ctx, v, step, seen, e, to, end,
     );
-    let e6 = t.emitter;
-    let c6 = t.cursor;
-    let b = loop_body(text, sheet, code, book, pool, loops, ctx, i, end, n, e6, c6);
-    let cursor = b.cursor;
-    let e7 = b.emitter;
-    let emitter = conditions::for_end(e7, sheet, code, book, pool, v, step, head, end);
+    let Walked { emitter, cursor } = loop_body(
+        text,
+        sheet,
+        code,
+        book,
+        pool,
+        lent,
+        ctx,
+        i,
+        end,
+        usize::from(n),
+        emitter,
+        cursor,
+    );
+    let emitter = conditions::for_end(emitter, sheet, code, book, pool, v, step, head, end);
     Walked { cursor, emitter }
 }
 
@@ -470,9 +524,9 @@ fn loop_(
     text: &[u8],
     sheet: &[u8],
     code: &mut [u8],
-    book: &mut [u16],
-    pool: &mut [Constant],
-    loops: &mut [u16],
+    book: &mut Book,
+    pool: &mut Pool,
+    lent: &mut Lent,
     ctx: Context,
     i: u16,
     n: u16,
@@ -480,27 +534,32 @@ fn loop_(
     e: Emitter,
     c: Cursor,
 ) -> Walked
-    requires lent { Lent text.now ctx.variables loops.old }
+    requires noted { Sound text.now ctx.variables lent.old.ends }
     requires near { Near text.now c.at c.row }
     requires ready { Ready (world e code.old book.old pool.old) }
     requires left_bound { ctx.inside + 1 + ctx.left ≤ max_nesting }
-    ensures { RanLoop (sheet_in sheet.now) ctx text.now i n m (cursor_of c) (world e code.old book.old pool.old) (world result.emitter code.new book.new pool.new) loops.old loops.new result.cursor }
+    ensures { RanLoop (sheet_in sheet.now) ctx text.now i n m (cursor_of c) (world e code.old book.old pool.old) (world result.emitter code.new book.new pool.new) lent.old.loops lent.new result.cursor }
 {
-    let shape = lent::loop_shape(text, loops, ctx, c, i, n, m);
-    match shape {
+    let Context {
+        variables,
+        left,
+        ..
+    } = ctx;
+    let ends = &mut lent.ends;
+    match program_shape::loop_shape(text, ends, variables, left, c, i, n, m) {
         Shape::While { condition, rest } => {
-            let k = stmt_parts::below(n as usize);
+            let k = usize::from(n).saturating_sub(1);
             while_(
-                text, sheet, code, book, pool, loops, ctx, i, k, e, condition, rest,
+                text, sheet, code, book, pool, lent, ctx, i, k, e, condition, rest,
             )
         }
         Shape::Repeat { condition, end } => {
-            let k = n as usize;
+            let k = usize::from(n);
             repeat(
-                text, sheet, code, book, pool, loops, ctx, i, k, e, c, condition, end,
+                text, sheet, code, book, pool, lent, ctx, i, k, e, c, condition, end,
             )
         }
-        Shape::Plain => plain(text, sheet, code, book, pool, loops, ctx, i, n, m, e, c),
+        Shape::Plain => plain(text, sheet, code, book, pool, lent, ctx, i, n, m, e, c),
     }
 }
 
@@ -510,9 +569,9 @@ fn plain(
     text: &[u8],
     sheet: &[u8],
     code: &mut [u8],
-    book: &mut [u16],
-    pool: &mut [Constant],
-    loops: &mut [u16],
+    book: &mut Book,
+    pool: &mut Pool,
+    lent: &mut Lent,
     ctx: Context,
     i: u16,
     n: u16,
@@ -520,29 +579,30 @@ fn plain(
     e: Emitter,
     c: Cursor,
 ) -> Walked
-    requires lent { Lent text.now ctx.variables loops.old }
+    requires noted { Sound text.now ctx.variables lent.old.ends }
     requires near { Near text.now c.at c.row }
     requires ready { Ready (world e code.old book.old pool.old) }
     requires left_bound { ctx.inside + 1 + ctx.left ≤ max_nesting }
-    ensures { RanPlain (sheet_in sheet.now) ctx text.now i n m (cursor_of c) (world e code.old book.old pool.old) (world result.emitter code.new book.new pool.new) loops.old loops.new result.cursor }
+    ensures { RanPlain (sheet_in sheet.now) ctx text.now i n m (cursor_of c) (world e code.old book.old pool.old) (world result.emitter code.new book.new pool.new) lent.old.loops lent.new result.cursor }
 {
-    let n = n as usize;
-    let m = m as usize;
-    let made = e.create_label(book);
-    let head = made.label;
-    let e1 = made.emitter;
-    let last = e1.create_label(book);
-    let end = last.label;
-    let e2 = last.emitter;
-    let e3 = e2.bind_label(book, head);
-    let b = loop_body(text, sheet, code, book, pool, loops, ctx, i, end, n, e3, c);
-    let e4 = b.emitter;
-    let c4 = b.cursor;
-    let d = sequence(text, sheet, code, book, pool, loops, ctx, true, m, e4, c4);
-    let e5 = d.emitter;
-    let cursor = d.cursor;
-    let j = e5.emit_jmp(sheet, code, book, head);
-    let emitter = j.bind_label(book, end);
+    let (n, m) = (usize::from(n), usize::from(m));
+    let NewLabel {
+        emitter,
+        label: head,
+    } = e.create_label(book);
+    let NewLabel {
+        emitter,
+        label: end,
+    } = emitter.create_label(book);
+    let e = emitter.bind_label(book, head);
+    let Walked { emitter, cursor } = loop_body(
+        text, sheet, code, book, pool, lent, ctx, i, end, n, e, c,
+    );
+    let Walked { emitter, cursor } = sequence(
+        text, sheet, code, book, pool, lent, ctx, true, m, emitter, cursor,
+    );
+    let e = emitter.emit_jmp(sheet, code, book, head);
+    let emitter = e.bind_label(book, end);
     Walked { cursor, emitter }
 }
 
@@ -552,9 +612,9 @@ fn while_(
     text: &[u8],
     sheet: &[u8],
     code: &mut [u8],
-    book: &mut [u16],
-    pool: &mut [Constant],
-    loops: &mut [u16],
+    book: &mut Book,
+    pool: &mut Pool,
+    lent: &mut Lent,
     ctx: Context,
     i: u16,
     n: usize,
@@ -562,25 +622,31 @@ fn while_(
     condition: Cursor,
     c: Cursor,
 ) -> Walked
-    requires lent { Lent text.now ctx.variables loops.old }
+    requires noted { Sound text.now ctx.variables lent.old.ends }
     requires near { Near text.now condition.at condition.row }
     requires near_2 { Near text.now c.at c.row }
     requires ready { Ready (world e code.old book.old pool.old) }
     requires left_bound { ctx.inside + 1 + ctx.left ≤ max_nesting }
-    ensures { RanWhile (sheet_in sheet.now) ctx text.now i n (cursor_of condition) (cursor_of c) (world e code.old book.old pool.old) (world result.emitter code.new book.new pool.new) loops.old loops.new result.cursor }
+    ensures { RanWhile (sheet_in sheet.now) ctx text.now i n (cursor_of condition) (cursor_of c) (world e code.old book.old pool.old) (world result.emitter code.new book.new pool.new) lent.old.loops lent.new result.cursor }
 {
     let inner = ctx.inner();
-    let made = e.create_label(book);
-    let end = made.label;
-    let e1 = made.emitter;
-    let h = conditions::while_head(text, sheet, code, book, pool, inner, e1, condition, end);
-    let back = h.label;
-    let e2 = h.emitter;
-    let b = loop_body(text, sheet, code, book, pool, loops, ctx, i, end, n, e2, c);
-    let cursor = b.cursor;
-    let e3 = b.emitter;
-    let t = conditions::while_end(text, sheet, code, book, pool, inner, e3, condition, back);
-    let emitter = t.bind_label(book, end);
+    let NewLabel {
+        emitter,
+        label: end,
+    } = e.create_label(book);
+    let NewLabel {
+        emitter,
+        label: back,
+    } = conditions::while_head(
+        text, sheet, code, book, pool, inner, emitter, condition, end,
+    );
+    let Walked { emitter, cursor } = loop_body(
+        text, sheet, code, book, pool, lent, ctx, i, end, n, emitter, c,
+    );
+    let e = conditions::while_end(
+        text, sheet, code, book, pool, inner, emitter, condition, back,
+    );
+    let emitter = e.bind_label(book, end);
     Walked { cursor, emitter }
 }
 
@@ -590,9 +656,9 @@ fn repeat(
     text: &[u8],
     sheet: &[u8],
     code: &mut [u8],
-    book: &mut [u16],
-    pool: &mut [Constant],
-    loops: &mut [u16],
+    book: &mut Book,
+    pool: &mut Pool,
+    lent: &mut Lent,
     ctx: Context,
     i: u16,
     n: usize,
@@ -601,28 +667,30 @@ fn repeat(
     condition: Cursor,
     last: Cursor,
 ) -> Walked
-    requires lent { Lent text.now ctx.variables loops.old }
+    requires noted { Sound text.now ctx.variables lent.old.ends }
     requires near { Near text.now c.at c.row }
     requires near_2 { Near text.now condition.at condition.row }
     requires near_3 { Near text.now last.at last.row }
     requires ready { Ready (world e code.old book.old pool.old) }
     requires left_bound { ctx.inside + 1 + ctx.left ≤ max_nesting }
-    ensures { RanRepeat (sheet_in sheet.now) ctx text.now i n (cursor_of condition) (cursor_of c) (cursor_of last) (world e code.old book.old pool.old) (world result.emitter code.new book.new pool.new) loops.old loops.new result.cursor }
+    ensures { RanRepeat (sheet_in sheet.now) ctx text.now i n (cursor_of condition) (cursor_of c) (cursor_of last) (world e code.old book.old pool.old) (world result.emitter code.new book.new pool.new) lent.old.loops lent.new result.cursor }
 {
     let inner = ctx.inner();
-    let made = e.create_label(book);
-    let head = made.label;
-    let e1 = made.emitter;
-    let out = e1.create_label(book);
-    let end = out.label;
-    let e2 = out.emitter;
-    let p = conditions::pool_first(text, pool, inner, e2, condition);
-    let k = p.bind_label(book, head);
-    let b = loop_body(text, sheet, code, book, pool, loops, ctx, i, end, n, k, c);
-    let e3 = b.emitter;
-    let t = conditions::branch_unless(text, sheet, code, book, pool, inner, e3, condition, head);
-    let e4 = t.emitter;
-    let emitter = e4.bind_label(book, end);
+    let NewLabel {
+        emitter,
+        label: head,
+    } = e.create_label(book);
+    let NewLabel {
+        emitter,
+        label: end,
+    } = emitter.create_label(book);
+    let e = conditions::pool_first(text, pool, inner, emitter, condition);
+    let e = e.bind_label(book, head);
+    let e = loop_body(text, sheet, code, book, pool, lent, ctx, i, end, n, e, c).emitter;
+    let e = conditions::branch_unless(
+        text, sheet, code, book, pool, inner, e, condition, head,
+    ).emitter;
+    let emitter = e.bind_label(book, end);
     Walked {
         cursor: last,
         emitter,
@@ -635,9 +703,9 @@ fn loop_body(
     text: &[u8],
     sheet: &[u8],
     code: &mut [u8],
-    book: &mut [u16],
-    pool: &mut [Constant],
-    loops: &mut [u16],
+    book: &mut Book,
+    pool: &mut Pool,
+    lent: &mut Lent,
     ctx: Context,
     i: u16,
     end: Label,
@@ -645,23 +713,23 @@ fn loop_body(
     e: Emitter,
     c: Cursor,
 ) -> Walked
-    requires lent { Lent text.now ctx.variables loops.old }
+    requires noted { Sound text.now ctx.variables lent.old.ends }
     requires near { Near text.now c.at c.row }
     requires ready { Ready (world e code.old book.old pool.old) }
     requires left_bound { ctx.inside + 1 + ctx.left ≤ max_nesting }
-    ensures { RanBody (sheet_in sheet.now) ctx text.now i end.0 n (cursor_of c) (world e code.old book.old pool.old) (world result.emitter code.new book.new pool.new) loops.old loops.new result.cursor }
+    ensures { RanBody (sheet_in sheet.now) ctx text.now i end.0 n (cursor_of c) (world e code.old book.old pool.old) (world result.emitter code.new book.new pool.new) lent.old.loops lent.new result.cursor }
 {
-    let inside = ctx.inside;
+    let NewLabel {
+        emitter,
+        label: next,
+    } = e.create_label(book);
+    loops::open_loop(&mut lent.loops, ctx.inside, i, end, next);
     let within = ctx.in_loop();
-    let made = e.create_label(book);
-    let next = made.label;
-    let e1 = made.emitter;
-    lent::open_loop(loops, inside, i, end, next);
-    let b = sequence(text, sheet, code, book, pool, loops, within, true, n, e1, c);
-    let cursor = b.cursor;
-    let e2 = b.emitter;
-    let used = lent::next_used(loops, inside);
-    let emitter = loops::bind_next(e2, book, next, used);
+    let Walked { emitter, cursor } = sequence(
+        text, sheet, code, book, pool, lent, within, true, n, emitter, c,
+    );
+    let used = loops::next_used(&lent.loops, ctx.inside);
+    let emitter = loops::bind_next(emitter, book, next, used);
     Walked { cursor, emitter }
 }
 
@@ -670,8 +738,8 @@ pub fn emit_stmts(
     text: &[u8],
     sheet: &[u8],
     code: &mut [u8],
-    book: &mut [u16],
-    pool: &mut [Constant],
+    book: &mut Book,
+    pool: &mut Pool,
     variables: u16,
     n: usize,
     e: Emitter,
@@ -681,13 +749,16 @@ pub fn emit_stmts(
     requires ready { Ready (world e code.old book.old pool.old) }
     ensures { Went (sheet_in sheet.now) (emit_stmts (block_at max_nesting variables text.now n (cursor_of c)).0) text.now (block_at max_nesting variables text.now n (cursor_of c)).1 (world e code.old book.old pool.old) (world result.emitter code.new book.new pool.new) result.cursor }
 {
-    let mut loops = [0u16; lent::LENT_SIZE];
+    let mut lent = Lent {
+        loops: [OpenLoop::NONE; MAX_NESTING],
+        ends: Ends::new(),
+    };
     let ctx = Context {
-        variables: variables,
+        variables,
         left: MAX_NESTING,
         inside: 0,
     };
     sequence(
-        text, sheet, code, book, pool, &mut loops, ctx, false, n, e, c,
+        text, sheet, code, book, pool, &mut lent, ctx, false, n, e, c,
     )
 }

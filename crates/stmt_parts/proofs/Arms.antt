@@ -8,11 +8,13 @@ use Rattle.definition.specs.Opcode.{Sheet, CompareOp, Eq, Ge, Le, dup}
 use Rattle.definition.specs.Opcode as role
 use Rattle.definition.specs.Tree.{CaseLabel, value, range}
 use Rattle.definition.specs.Program as def
-use Rattle.definition.specs.Program.{is, not, line_at, next_line, fault_at, label_forms, label_by, labels_at}
+use Rattle.definition.specs.Program.{Line, is, not, line_at, next_line, fault_at, label_forms, label_by, labels_at}
 use Rattle.definition.specs.Emit.{bind_label, load_constant, emit_opcode, emit_jmp, emit_jmp_if_not, reset_stack_depth, refused}
 use Rattle.definition.specs.Walk.{Calls, say, new_label}
 use Rattle.definition.specs.Walk as walk
 use Rattle.definition.specs.Stmt.{test_against, test_label, test_labels}
+use Rattle.program_line.specs.declared.LabelLine as code
+use Rattle.program_line.specs.View.{label_line}
 use Rattle.program.specs.declared.Cursor.{Cursor}
 use Rattle.program.specs.Walk.{cursor_of, Near, Skipped}
 use Rattle.emit.specs.declared.Emitter.{Emitter}
@@ -26,6 +28,10 @@ use Rattle.stmt_parts.specs.Parts.{Leads, label_here, test_jump, test_all, arm_t
 use Rattle.stmt_parts.proofs.Walks.{bare-on, booked-on, created-on, coded-on}
 
 -- ---- labels
+
+-- what a line was read as
+pub reads : {line x : code.LabelLine} {l : Line CaseLabel} → is (label_line line) ≡ l → line ≡ x → l ≡ is (label_line x)
+reads e told = rw told at (sym e)
 
 module _ (s : Sheet) where
   pub against : (op : CompareOp) (k fail : ℕ) {e e₁ e₃ r : Emitter} {code book pool k₁ b₁ k₃ b₃ k₄ b₄ : List ℕ} {w₂ : World} → Ready (world e code book pool) → Coded (call s (emit_opcode dup)) e code book e₁ k₁ b₁ → Filled (call s (load_constant k)) (world e₁ k₁ b₁ pool) w₂
@@ -95,18 +101,18 @@ pub record Testing (s : Sheet) (left : ℕ) (text : List ℕ) (body fail n : ℕ
   pub near : Near text here.at here.row
   pub ready : Ready w
 
-pub tests : (s : Sheet) (left : ℕ) (text : List ℕ) (body fail n : ℕ) (c : Cursor) (w : World) → Near text c.at c.row → Ready w → 0 < n → Testing s left text body fail n (cursor_of c) w w n c
-tests s left text body fail n c w near ready h = record { did = λ u d. d; end = refl; left_over = h; near = near; ready = ready }
+pub tests : (s : Sheet) (left : ℕ) (text : List ℕ) (body fail n : ℕ) (c : Cursor) (w : World) → Near text c.at c.row → Ready w → 0 < n → {more : ℕ} → more ≡ n → Testing s left text body fail n (cursor_of c) w w more c
+tests s left text body fail n c w near ready h all = rw all (record { did = λ u d. d; end = refl; left_over = h; near = near; ready = ready })
 
 module _ {s : Sheet} {left : ℕ} {text : List ℕ} {body fail n : ℕ} {c : def.Cursor} {w₀ w : World} {more : ℕ} {here : Cursor} (t : Testing s left text body fail n c w₀ w more here) where
-  pub tests-on : {u : World} {here' : Cursor} → Leads s (test_jump (label_here left text (cursor_of here)).0 body) text (label_here left text (cursor_of here)).1 w u here' → 1 < more → Testing s left text body fail n c w₀ u (more - 1) here'
-  tests-on r h = record {
+  pub tests-on : {u : World} {here' : Cursor} → Leads s (test_jump (label_here left text (cursor_of here)).0 body) text (label_here left text (cursor_of here)).1 w u here' → 1 < more → {rest : ℕ} → rest ≡ more - 1 → Testing s left text body fail n c w₀ u rest here'
+  tests-on r h is-rest = rw is-rest (record {
     did = λ u d. t.did u (rw (tests-more left text (cursor_of here) more body fail h) (r.did _ u (rw r.place.is at d)));
     end = rw r.place.is (sym (labels-end left text (cursor_of here) more h) ∙ t.end);
     left_over = omega arith;
     near = r.place.near;
     ready = r.ready;
-  }
+  })
 
   pub tests-end : {u : World} {here' : Cursor} → more ≤ 1 → Went s (test_label (label_here left text (cursor_of here)).0 fail) text (label_here left text (cursor_of here)).1 w u here' → Went s (test_all (labels_at left text n c).0 body fail) text (labels_at left text n c).1 w₀ u here'
   tests-end z r =

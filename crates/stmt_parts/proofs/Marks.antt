@@ -1,15 +1,19 @@
 -- Which open loops a CONTINUE has led to: the flags after a part are those before, marked by what the definition's `continues` says of the part.
 use mathlib.Core.Path.{◌≡◌, refl, ap, sym, ◌∙◌}
 use mathlib.Core.Bool.{Bool, true, false, not, ◌&&◌, ◌||◌}
+use mathlib.Core.Option.{some, none}
 use mathlib.Core.List.{List, [], ◌∷◌}
-use Prim.Native.Nat.{ℕ, zero, suc, ◌*◌, ◌≤◌, ◌<◌}
+use Prim.Native.Nat.{ℕ, zero, suc, ◌<◌}
 use native.Mathlib.Omega.{arith}
 use borrow.Author.Tests.{eq-eqb, ne_eqb, eqb-true, eqb-false}
 use lib.ListN.{get_or}
 use lib.Dec.{eqb}
 use Rattle.definition.specs.Stmt.{labels}
 use Rattle.field.proofs.Tests.{or-none, or-any}
-use Rattle.stmt_parts.specs.Loops.{loop_size, Open, open_at, opens_in, loops_of, marked, found_at, Finds}
+use Rattle.std.specs.Prelude.{None}
+use Rattle.stmt_parts.specs.declared.loops.OpenLoop.{OpenLoop}
+use Rattle.stmt_parts.specs.Loops.{no_open, Open, open_at, opens_in, loops_of, marked, FoundAt, Finds}
+use Rattle.stmt_parts.proofs.Opens.{opens-but}
 
 or_assoc : (a b c : Bool) → (a || b) || c ≡ a || (b || c)
 or_assoc true b c = refl
@@ -68,42 +72,53 @@ module _ (i : ℕ) (o : Open) (os : List Open) where
       go j true e = rw (ne_eqb j o.labels.loop (λ q. h (sym q ∙ eqb-true j i e)))
       go j false e = and-false (not (eqb j o.labels.loop))
 
-number_at : (ls : List ℕ) (k : ℕ) → (open_at ls k).labels.loop ≡ get_or ls (loop_size * k) 0
+number_at : (ls : List OpenLoop) (k : ℕ) → (open_at ls k).labels.loop ≡ (get_or ls k no_open).number
 unfolding open_at
 number_at ls k = refl
 
-pub labels-found : (ls : List ℕ) (inside i r : ℕ) → Finds ls inside i r → labels i (loops_of (opens_in ls inside)) ≡ found_at ls r
-unfolding labels loops_of opens_in found_at
-labels-found ls zero i zero f = refl
-labels-found ls zero i (suc r) f = absurd (omega (arith, f.within))
-labels-found ls (suc n) i r f = go (eqb r (suc n)) refl (λ f'. labels-found ls n i r f')
+pub labels-none : (ls : List OpenLoop) (inside i : ℕ) → Finds ls inside i None → labels i (loops_of (opens_in ls inside)) ≡ none
+unfolding labels loops_of opens_in
+labels-none ls zero i off = refl
+labels-none ls (suc n) i off = rw (labels, number_at ls n, ne_eqb _ i (off n (omega arith))) (labels-none ls n i (λ j h. off j (omega arith)))
+
+-- the innermost is the last, or it is found below that
+below : {ls : List OpenLoop} {n i k : ℕ} → FoundAt ls (suc n) i k → (k ≡ n → ⊥) → FoundAt ls n i k
+below f z = record { within = omega (arith, f.within); is = f.is; inner = λ j a b. f.inner j a (omega arith) }
+
+off-last : {ls : List OpenLoop} {n i k : ℕ} → FoundAt ls (suc n) i k → (k ≡ n → ⊥) → (get_or ls n no_open).number ≡ i → ⊥
+off-last {n = n} f z = f.inner n (omega (arith, f.within)) (omega arith)
+
+pub labels-found : (ls : List OpenLoop) (inside i k : ℕ) → FoundAt ls inside i k → labels i (loops_of (opens_in ls inside)) ≡ some (open_at ls k).labels
+unfolding labels loops_of opens_in
+labels-found ls zero i k f = absurd (omega (arith, f.within))
+labels-found ls (suc n) i k f = go (eqb k n) refl (λ f'. labels-found ls n i k f')
   where
-    go : (b : Bool) → eqb r (suc n) ≡ b → (Finds ls n i r → labels i (loops_of (opens_in ls n)) ≡ found_at ls r) → labels i ((open_at ls n).labels ∷ loops_of (opens_in ls n)) ≡ found_at ls r
+    go : (b : Bool) → eqb k n ≡ b → (FoundAt ls n i k → labels i (loops_of (opens_in ls n)) ≡ some (open_at ls k).labels) → labels i ((open_at ls n).labels ∷ loops_of (opens_in ls n)) ≡ some (open_at ls k).labels
     go true e ih =
-        let q : r ≡ suc n = eqb-true r (suc n) e in
-        rw (q) (rw (labels, number_at ls n, eq-eqb _ i (f.is n (sym q))))
+        let q : k ≡ n = eqb-true k n e in
+        let on = rw q at f.is in
+        rw (labels, number_at ls n, eq-eqb _ i on, q)
     go false e ih =
-        let q = eqb-false r (suc n) e in
-        let small : r ≤ n = omega (arith, f.within) in
-        rw (labels, number_at ls n, ne_eqb _ i (f.inner n small (omega arith)))
-        (ih (record { within = small; inner = λ j a b. f.inner j a (omega arith); is = f.is }))
+        let z = eqb-false k n e in
+        rw (labels, number_at ls n, ne_eqb _ i (off-last f z)) (ih (below f z))
 
-opens-but : (ls ls' : List ℕ) (n : ℕ) → ((k : ℕ) → k < n → open_at ls' k ≡ open_at ls k) → opens_in ls' n ≡ opens_in ls n
+pub marks-none : (ls : List OpenLoop) (inside i : ℕ) → Finds ls inside i None → opens_in ls inside ≡ marked (λ j. eqb j i) (opens_in ls inside)
 unfolding opens_in
-opens-but ls ls' zero h = refl
-opens-but ls ls' (suc n) h = rw (h n (omega arith), opens-but ls ls' n (λ k l. h k (omega arith)))
+marks-none ls zero i off = unfold marked in refl
+marks-none ls (suc n) i off = rw (mark-later i (open_at ls n) (opens_in ls n) (λ z. off n (omega arith) (sym (number_at ls n) ∙ z)), ← marks-none ls n i (λ j h. off j (omega arith)))
 
-module _ (ls ls' : List ℕ) (i r : ℕ) (other : (k : ℕ) → (suc k ≡ r → ⊥) → open_at ls' k ≡ open_at ls k) (at : (k : ℕ) → suc k ≡ r → open_at ls' k ≡ record { labels = (open_at ls k).labels; used = true }) where
-  pub marks-found : (inside : ℕ) → Finds ls inside i r → opens_in ls' inside ≡ marked (λ j. eqb j i) (opens_in ls inside)
+module _ (ls ls' : List OpenLoop) (i k : ℕ) (other : (j : ℕ) → (j ≡ k → ⊥) → open_at ls' j ≡ open_at ls j) (at : open_at ls' k ≡ record { labels = (open_at ls k).labels; used = true }) where
+  pub marks-found : (inside : ℕ) → FoundAt ls inside i k → opens_in ls' inside ≡ marked (λ j. eqb j i) (opens_in ls inside)
   unfolding opens_in
-  marks-found zero f = unfold marked in refl
-  marks-found (suc n) f = go (eqb r (suc n)) refl (λ f'. marks-found n f')
+  marks-found zero f = absurd (omega (arith, f.within))
+  marks-found (suc n) f = go (eqb k n) refl (λ f'. marks-found n f')
     where
-      go : (b : Bool) → eqb r (suc n) ≡ b → (Finds ls n i r → opens_in ls' n ≡ marked (λ j. eqb j i) (opens_in ls n)) → open_at ls' n ∷ opens_in ls' n ≡ marked (λ j. eqb j i) (open_at ls n ∷ opens_in ls n)
+      go : (b : Bool) → eqb k n ≡ b → (FoundAt ls n i k → opens_in ls' n ≡ marked (λ j. eqb j i) (opens_in ls n)) → open_at ls' n ∷ opens_in ls' n ≡ marked (λ j. eqb j i) (open_at ls n ∷ opens_in ls n)
       go true e ih =
-          let q : r ≡ suc n = eqb-true r (suc n) e in
-          rw (mark-here i (open_at ls n) (opens_in ls n) (number_at ls n ∙ f.is n (sym q)), at n (sym q), opens-but ls ls' n (λ k l. other k (λ z. omega arith)))
+          let q : k ≡ n = eqb-true k n e in
+          let here = rw q at at in
+          let on = rw q at f.is in
+          rw (mark-here i (open_at ls n) (opens_in ls n) (number_at ls n ∙ on), here, opens-but ls ls' n (λ j l. other j (λ z. omega arith)))
       go false e ih =
-          let q = eqb-false r (suc n) e in
-          let small : r ≤ n = omega (arith, f.within) in
-          rw (mark-later i (open_at ls n) (opens_in ls n) (λ z. f.inner n small (omega arith) (sym (number_at ls n) ∙ z)), other n (λ z. q (sym z)), ih (record { within = small; inner = λ j a b. f.inner j a (omega arith); is = f.is }))
+          let z = eqb-false k n e in
+          rw (mark-later i (open_at ls n) (opens_in ls n) (λ x. off-last f z (sym (number_at ls n) ∙ x)), other n (λ x. z (sym x)), ih (below f z))

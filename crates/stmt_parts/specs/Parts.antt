@@ -7,7 +7,7 @@ use Rattle.definition.specs.Opcode.{Sheet, Add}
 use Rattle.definition.specs.Opcode as role
 use Rattle.definition.specs.Tree.{Expr, CaseLabel}
 use Rattle.definition.specs.Program as def
-use Rattle.definition.specs.Program.{Line, is, not, M, line_at, next_line, label_by, label_forms}
+use Rattle.definition.specs.Program.{line_at, next_line, label_by, label_forms}
 use Rattle.definition.specs.CompileExpr.{ClassifiedCmp, emit_classified_cmp_br}
 use Rattle.definition.specs.Expr.{emit_expr}
 use Rattle.definition.specs.Emit.{load_variable, load_constant, store_variable, emit_opcode, emit_jmp, emit_jmp_if_not, bind_label, add_constant, reset_stack_depth, refused}
@@ -21,8 +21,8 @@ use Rattle.emit.specs.Pool.{Held}
 use Rattle.emit.specs.View.{World, world}
 use Rattle.emit.specs.Steps.{run, Ready, Fine, Coded, Filled}
 use Rattle.expr.specs.declared.Walked.{Walked}
-use Rattle.stmt_parts.specs.declared.labels.ArmParts.{ArmParts}
-use Rattle.stmt_parts.specs.Loops.{loops_size, opens_in, loops_of, marked, led_to}
+use Rattle.stmt_parts.specs.declared.loops.OpenLoop.{OpenLoop}
+use Rattle.stmt_parts.specs.Loops.{opens_in, loops_of, marked, led_to}
 
 -- m was emitted, and whatever is emitted next stands where m has it
 pub record Leads (s : Sheet) (m : Calls → Calls) (text : List ℕ) (d : def.Cursor) (w v : World) (c : Cursor) : Type 0 where
@@ -48,10 +48,9 @@ pub record Stepped (s : Sheet) (m : Calls) (text : List ℕ) (d : def.Cursor) (e
   pub coded : Coded (run s m) e code book r.emitter code' book'
 
 -- a CONTINUE of loop i was emitted, its line at c
-pub record Continued (s : Sheet) (inside i : ℕ) (text : List ℕ) (c : def.Cursor) (e : Emitter) (code book ls : List ℕ) (r : Walked) (code' book' ls' : List ℕ) : Type 0 where
+pub record Continued (s : Sheet) (inside i : ℕ) (text : List ℕ) (c : def.Cursor) (e : Emitter) (code book : List ℕ) (ls : List OpenLoop) (r : Walked) (code' book' : List ℕ) (ls' : List OpenLoop) : Type 0 where
   pub stepped : Stepped s (jump_row c.row (next_of (labels i (loops_of (opens_in ls inside))))) text (next_line text c) e code book r code' book'
   pub is : ls' ≡ led_to i ls inside
-  pub slots : length ls' ≡ loops_size
   pub marks : opens_in ls' inside ≡ marked (λ j. eqb j i) (opens_in ls inside)
 
 -- ---- FOR
@@ -103,10 +102,6 @@ pub record BindsNext (used : Bool) (next : ℕ) (e : Emitter) (book : List ℕ) 
   pub did : (s : Sheet) (code pool : List ℕ) → Ready (world e code book pool) → Filled (run s (when used (say (bind_label next)))) (world e code book pool) (world r code book' pool)
 
 -- ---- CASE
-
-unfoldable pub arm_parts : Line def.ArmLine → ArmParts
-arm_parts (is (M n m)) = record { bad = 0; labels = n; statements = m }
-arm_parts (not n) = record { bad = n; labels = 0; statements = 0 }
 
 abbrev pub label_here : ℕ → List ℕ → def.Cursor → CaseLabel × def.Cursor
 label_here left text c = label_by text c (line_at label_forms left text c.at)

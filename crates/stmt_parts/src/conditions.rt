@@ -18,11 +18,11 @@ ghost use Rattle.stmt_parts.specs.Parts.{Enters, PoolsFirst, for_end, while_from
 
 use crate::Context;
 use definition::WIDTH;
-use emit::{Constant, Emitter, Label, NewLabel};
+use emit::{Book, Constant, Emitter, Label, NewLabel, Pool};
 use expr::Walked;
 use opcode::{ArithmeticOp, CompareOp, Role};
 use program::Cursor;
-use program_shape::{ClassifiedCmp, Condition, Operand};
+use program_shape::{ClassifiedCmp, Operand};
 
 // The values below 0, as bits: from this one on.
 const NEGATIVE: Constant = 1 << (WIDTH - 1);
@@ -32,8 +32,8 @@ pub fn branch_unless(
     text: &[u8],
     sheet: &[u8],
     code: &mut [u8],
-    book: &mut [u16],
-    pool: &mut [Constant],
+    book: &mut Book,
+    pool: &mut Pool,
     ctx: Context,
     e: Emitter,
     c: Cursor,
@@ -44,22 +44,24 @@ pub fn branch_unless(
     requires left_le_max_nesting { ctx.left ≤ max_nesting }
     ensures { Went (sheet_in sheet.now) (branch_unless (expr_in ctx text.now (cursor_of c)).0 target.0) text.now (expr_in ctx text.now (cursor_of c)).1 (world e code.old book.old pool.old) (world result.emitter code.new book.new pool.new) result.cursor }
 {
-    let v = ctx.variables;
-    let left = ctx.left;
-    let condition = program_shape::classify(text, v, left, c);
-    match condition {
-        Condition::Fused(f) => {
-            let cursor = program_shape::skip_expr(text, v, left, c);
+    let Context {
+        variables,
+        left,
+        ..
+    } = ctx;
+    match program_shape::classify(text, variables, left, c) {
+        Some(f) => {
+            let cursor = program_shape::skip_expr(text, variables, left, c);
             let emitter = compile_expr::emit_classified_cmp_br(
                 e, sheet, code, book, pool, f, false, target,
             );
             Walked { cursor, emitter }
         }
-        Condition::Other => {
-            let a = expr::emit_expr(text, sheet, code, book, pool, v, left, 0, e, c);
-            let cursor = a.cursor;
-            let on = a.emitter;
-            let emitter = on.emit_jmp_if_not(sheet, code, book, target);
+        None => {
+            let Walked { cursor, emitter } = expr::emit_expr(
+                text, sheet, code, book, pool, variables, left, 0, e, c,
+            );
+            let emitter = emitter.emit_jmp_if_not(sheet, code, book, target);
             Walked { cursor, emitter }
         }
     }
@@ -81,8 +83,8 @@ pub fn end_test(
     text: &[u8],
     sheet: &[u8],
     code: &mut [u8],
-    book: &mut [u16],
-    pool: &mut [Constant],
+    book: &mut Book,
+    pool: &mut Pool,
     ctx: Context,
     v: u16,
     step: Constant,
@@ -102,7 +104,7 @@ pub fn end_test(
         Operand::Constant(k) => {
             let cursor = program_shape::skip_expr(text, ctx.variables, ctx.left, c);
             let f = ClassifiedCmp {
-                op: op,
+                op,
                 variable: v,
                 constant: k,
             };
@@ -111,8 +113,9 @@ pub fn end_test(
             );
             Walked { cursor, emitter }
         }
-        Operand::Variable(_) => { end_loaded(text, sheet, code, book, pool, ctx, v, op, e, c, end) }
-        Operand::Other => end_loaded(text, sheet, code, book, pool, ctx, v, op, e, c, end),
+        Operand::Variable(_) | Operand::Other => {
+            end_loaded(text, sheet, code, book, pool, ctx, v, op, e, c, end)
+        }
     }
 }
 
@@ -121,8 +124,8 @@ fn end_loaded(
     text: &[u8],
     sheet: &[u8],
     code: &mut [u8],
-    book: &mut [u16],
-    pool: &mut [Constant],
+    book: &mut Book,
+    pool: &mut Pool,
     ctx: Context,
     v: u16,
     op: CompareOp,
@@ -135,14 +138,17 @@ fn end_loaded(
     requires left_le_max_nesting { ctx.left ≤ max_nesting }
     ensures { Went (sheet_in sheet.now) (end_test_by none (compare_view op) v (expr_in ctx text.now (cursor_of c)).0 end.0) text.now (expr_in ctx text.now (cursor_of c)).1 (world e code.old book.old pool.old) (world result.emitter code.new book.new pool.new) result.cursor }
 {
-    let vs = ctx.variables;
-    let left = ctx.left;
-    let a = compile_expr::emit_load_var(e, sheet, code, book, v);
-    let b = expr::emit_expr(text, sheet, code, book, pool, vs, left, 1, a, c);
-    let cursor = b.cursor;
-    let on = b.emitter;
-    let d = compile_expr::emit_typed(on, sheet, code, book, Role::Compare(op));
-    let emitter = d.emit_jmp_if_not(sheet, code, book, end);
+    let Context {
+        variables,
+        left,
+        ..
+    } = ctx;
+    let e = compile_expr::emit_load_var(e, sheet, code, book, v);
+    let Walked { cursor, emitter } = expr::emit_expr(
+        text, sheet, code, book, pool, variables, left, 1, e, c,
+    );
+    let e = compile_expr::emit_typed(emitter, sheet, code, book, Role::Compare(op));
+    let emitter = e.emit_jmp_if_not(sheet, code, book, end);
     Walked { cursor, emitter }
 }
 
@@ -151,8 +157,8 @@ pub fn for_end(
     e: Emitter,
     sheet: &[u8],
     code: &mut [u8],
-    book: &mut [u16],
-    pool: &mut [Constant],
+    book: &mut Book,
+    pool: &mut Pool,
     v: u16,
     step: Constant,
     head: Label,
@@ -162,12 +168,12 @@ pub fn for_end(
     ensures { Filled (run (sheet_in sheet.now) (for_end v step head.0 end.0)) (world e code.old book.old pool.old) (world result code.new book.new pool.new) }
 {
     let add = Role::Arithmetic(ArithmeticOp::Add);
-    let a = compile_expr::emit_load_var(e, sheet, code, book, v);
-    let b = a.load_constant(sheet, code, book, pool, step);
-    let d = compile_expr::emit_typed(b, sheet, code, book, add);
-    let f = compile_expr::emit_store_var(d, sheet, code, book, v);
-    let j = f.emit_jmp(sheet, code, book, head);
-    j.bind_label(book, end)
+    let e = compile_expr::emit_load_var(e, sheet, code, book, v);
+    let e = e.load_constant(sheet, code, book, pool, step);
+    let e = compile_expr::emit_typed(e, sheet, code, book, add);
+    let e = compile_expr::emit_store_var(e, sheet, code, book, v);
+    let e = e.emit_jmp(sheet, code, book, head);
+    e.bind_label(book, end)
 }
 
 // A WHILE's start: what stands before its body, and the label that it goes back to.
@@ -175,8 +181,8 @@ pub fn while_head(
     text: &[u8],
     sheet: &[u8],
     code: &mut [u8],
-    book: &mut [u16],
-    pool: &mut [Constant],
+    book: &mut Book,
+    pool: &mut Pool,
     ctx: Context,
     e: Emitter,
     c: Cursor,
@@ -187,30 +193,28 @@ pub fn while_head(
     requires left_le_max_nesting { ctx.left ≤ max_nesting }
     ensures { Enters (sheet_in sheet.now) (while_from (classify (expr_in ctx text.now (cursor_of c)).0) (expr_in ctx text.now (cursor_of c)).0 end.0) (world e code.old book.old pool.old) (world result.emitter code.new book.new pool.new) result.label.0 }
 {
-    let v = ctx.variables;
-    let left = ctx.left;
-    let condition = program_shape::classify(text, v, left, c);
-    match condition {
-        Condition::Fused(f) => {
-            let constant = f.constant;
-            let p = e.add_constant(pool, constant);
-            let m = p.create_label(book);
-            let label = m.label;
-            let on = m.emitter;
-            let b = compile_expr::emit_classified_cmp_br(
-                on, sheet, code, book, pool, f, false, end,
+    let Context {
+        variables,
+        left,
+        ..
+    } = ctx;
+    match program_shape::classify(text, variables, left, c) {
+        Some(f) => {
+            let e = e.add_constant(pool, f.constant);
+            let NewLabel { emitter, label } = e.create_label(book);
+            let e = compile_expr::emit_classified_cmp_br(
+                emitter, sheet, code, book, pool, f, false, end,
             );
-            let emitter = b.bind_label(book, label);
+            let emitter = e.bind_label(book, label);
             NewLabel { emitter, label }
         }
-        Condition::Other => {
-            let m = e.create_label(book);
-            let label = m.label;
-            let on = m.emitter;
-            let b = on.bind_label(book, label);
-            let a = expr::emit_expr(text, sheet, code, book, pool, v, left, 0, b, c);
-            let out = a.emitter;
-            let emitter = out.emit_jmp_if_not(sheet, code, book, end);
+        None => {
+            let NewLabel { emitter, label } = e.create_label(book);
+            let e = emitter.bind_label(book, label);
+            let e = expr::emit_expr(
+                text, sheet, code, book, pool, variables, left, 0, e, c,
+            ).emitter;
+            let emitter = e.emit_jmp_if_not(sheet, code, book, end);
             NewLabel { emitter, label }
         }
     }
@@ -221,8 +225,8 @@ pub fn while_end(
     text: &[u8],
     sheet: &[u8],
     code: &mut [u8],
-    book: &mut [u16],
-    pool: &mut [Constant],
+    book: &mut Book,
+    pool: &mut Pool,
     ctx: Context,
     e: Emitter,
     c: Cursor,
@@ -232,34 +236,23 @@ pub fn while_end(
     requires ready { Ready (world e code.old book.old pool.old) }
     ensures { Filled (run (sheet_in sheet.now) (while_end (classify (expr_in ctx text.now (cursor_of c)).0) start.0)) (world e code.old book.old pool.old) (world result code.new book.new pool.new) }
 {
-    let condition = program_shape::classify(text, ctx.variables, ctx.left, c);
-    match condition {
-        Condition::Fused(f) => {
+    match program_shape::classify(text, ctx.variables, ctx.left, c) {
+        Some(f) => {
             compile_expr::emit_classified_cmp_br(e, sheet, code, book, pool, f, true, start)
         }
-        Condition::Other => e.emit_jmp(sheet, code, book, start),
+        None => e.emit_jmp(sheet, code, book, start),
     }
 }
 
 // A fused REPEAT's constant enters the pool before those of its body.
-pub fn pool_first(
-    text: &[u8],
-    pool: &mut [Constant],
-    ctx: Context,
-    e: Emitter,
-    c: Cursor,
-) -> Emitter
+pub fn pool_first(text: &[u8], pool: &mut Pool, ctx: Context, e: Emitter, c: Cursor) -> Emitter
     requires near { Near text.now c.at c.row }
     requires fine { Fine e }
     requires held { Held pool.old }
     ensures { PoolsFirst (classify (expr_in ctx text.now (cursor_of c)).0) e pool.old result pool.new }
 {
-    let condition = program_shape::classify(text, ctx.variables, ctx.left, c);
-    match condition {
-        Condition::Fused(f) => {
-            let constant = f.constant;
-            e.add_constant(pool, constant)
-        }
-        Condition::Other => e,
+    match program_shape::classify(text, ctx.variables, ctx.left, c) {
+        Some(f) => e.add_constant(pool, f.constant),
+        None => e,
     }
 }

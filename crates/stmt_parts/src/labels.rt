@@ -7,52 +7,25 @@ ghost use Rattle.definition.specs.Program.{labels_at};
 ghost use Rattle.definition.specs.Stmt.{test_against, test_label};
 ghost use Rattle.opcode.specs.Table.{sheet_in};
 ghost use Rattle.opcode.specs.View.{compare_view};
-ghost use Rattle.program_line.specs.View.{arm_line};
 ghost use Rattle.program.specs.Walk.{cursor_of, Near};
-ghost use Rattle.emit.specs.Book.{book_size};
 ghost use Rattle.emit.specs.View.{world};
 ghost use Rattle.emit.specs.Steps.{run, Ready, Fine, Coded, Filled};
 ghost use Rattle.expr.specs.Went.{Went};
-ghost use Rattle.stmt_parts.specs.Parts.{Leads, arm_parts, label_here, test_jump, test_all, arm_tests, arm_end};
+ghost use Rattle.stmt_parts.specs.Parts.{Leads, label_here, test_jump, test_all, arm_tests, arm_end};
 
-use emit::{Constant, Emitter, Label};
+use emit::{Book, Constant, Emitter, Label, NewLabel, Pool};
 use expr::Walked;
 use opcode::{CompareOp, Role};
 use program::Cursor;
-use program_line::{ArmLine, LabelLine};
-
-// What an arm's line says: `bad` is its refusal, 0 if there is none.
-#[derive(Clone, Copy)]
-pub struct ArmParts {
-    pub bad: u8,
-    pub labels: usize,
-    pub statements: usize,
-}
-
-pub fn arm_parts(line: ArmLine) -> ArmParts
-    ensures { result ≡ arm_parts (arm_line line) }
-{
-    match line {
-        ArmLine::Bad(n) => ArmParts {
-            bad: n,
-            labels: 0,
-            statements: 0,
-        },
-        ArmLine::Arm { labels, statements } => ArmParts {
-            bad: 0,
-            labels: labels as usize,
-            statements: statements as usize,
-        },
-    }
-}
+use program_line::LabelLine;
 
 // One test of a copy of the selector.
 fn test_against(
     e: Emitter,
     sheet: &[u8],
     code: &mut [u8],
-    book: &mut [u16],
-    pool: &mut [Constant],
+    book: &mut Book,
+    pool: &mut Pool,
     op: CompareOp,
     k: Constant,
     fail: Label,
@@ -60,10 +33,10 @@ fn test_against(
     requires { Ready (world e code.old book.old pool.old) }
     ensures { Filled (run (sheet_in sheet.now) (test_against (compare_view op) k fail.0)) (world e code.old book.old pool.old) (world result code.new book.new pool.new) }
 {
-    let a = e.emit_opcode(sheet, code, book, Role::Dup);
-    let b = a.load_constant(sheet, code, book, pool, k);
-    let d = compile_expr::emit_typed(b, sheet, code, book, Role::Compare(op));
-    d.emit_jmp_if_not(sheet, code, book, fail)
+    let e = e.emit_opcode(sheet, code, book, Role::Dup);
+    let e = e.load_constant(sheet, code, book, pool, k);
+    let e = compile_expr::emit_typed(e, sheet, code, book, Role::Compare(op));
+    e.emit_jmp_if_not(sheet, code, book, fail)
 }
 
 // The test of a value.
@@ -71,8 +44,8 @@ pub fn test_value(
     e: Emitter,
     sheet: &[u8],
     code: &mut [u8],
-    book: &mut [u16],
-    pool: &mut [Constant],
+    book: &mut Book,
+    pool: &mut Pool,
     k: Constant,
     fail: Label,
 ) -> Emitter
@@ -87,8 +60,8 @@ pub fn test_range(
     e: Emitter,
     sheet: &[u8],
     code: &mut [u8],
-    book: &mut [u16],
-    pool: &mut [Constant],
+    book: &mut Book,
+    pool: &mut Pool,
     low: Constant,
     high: Constant,
     fail: Label,
@@ -96,8 +69,8 @@ pub fn test_range(
     requires { Ready (world e code.old book.old pool.old) }
     ensures { Filled (run (sheet_in sheet.now) (test_label (range low high) fail.0)) (world e code.old book.old pool.old) (world result code.new book.new pool.new) }
 {
-    let a = test_against(e, sheet, code, book, pool, CompareOp::Ge, low, fail);
-    test_against(a, sheet, code, book, pool, CompareOp::Le, high, fail)
+    let e = test_against(e, sheet, code, book, pool, CompareOp::Ge, low, fail);
+    test_against(e, sheet, code, book, pool, CompareOp::Le, high, fail)
 }
 
 // The test of the label at a place.
@@ -105,8 +78,8 @@ fn test_label(
     text: &[u8],
     sheet: &[u8],
     code: &mut [u8],
-    book: &mut [u16],
-    pool: &mut [Constant],
+    book: &mut Book,
+    pool: &mut Pool,
     left: usize,
     e: Emitter,
     c: Cursor,
@@ -116,27 +89,19 @@ fn test_label(
     requires ready { Ready (world e code.old book.old pool.old) }
     ensures { Went (sheet_in sheet.now) (test_label (label_here left text.now (cursor_of c)).0 fail.0) text.now (label_here left text.now (cursor_of c)).1 (world e code.old book.old pool.old) (world result.emitter code.new book.new pool.new) result.cursor }
 {
-    let at = c.at;
-    let row = c.row;
-    let r = program_line::next_label(text, left, at);
-    let end = r.end;
-    let line = r.line;
-    match line {
-        LabelLine::Value(k) => {
-            let cursor = program::next_line(text, c, end);
-            let emitter = test_value(e, sheet, code, book, pool, k, fail);
-            Walked { cursor, emitter }
+    let next = match program_line::next_label(text, left, c.at) {
+        Ok(next) => next,
+        Err(refusal) => {
+            let emitter = e.refuse(refusal, c.row);
+            return Walked { cursor: c, emitter };
         }
-        LabelLine::Range(low, high) => {
-            let cursor = program::next_line(text, c, end);
-            let emitter = test_range(e, sheet, code, book, pool, low, high, fail);
-            Walked { cursor, emitter }
-        }
-        LabelLine::Bad(n) => {
-            let emitter = e.refuse(n, row);
-            Walked { cursor: c, emitter }
-        }
-    }
+    };
+    let cursor = program::next_line(text, c, next.end);
+    let emitter = match next.line {
+        LabelLine::Value(k) => test_value(e, sheet, code, book, pool, k, fail),
+        LabelLine::Range(low, high) => test_range(e, sheet, code, book, pool, low, high, fail),
+    };
+    Walked { cursor, emitter }
 }
 
 // One that is not the last: it jumps to the body.
@@ -144,8 +109,8 @@ fn test_jump(
     text: &[u8],
     sheet: &[u8],
     code: &mut [u8],
-    book: &mut [u16],
-    pool: &mut [Constant],
+    book: &mut Book,
+    pool: &mut Pool,
     left: usize,
     e: Emitter,
     c: Cursor,
@@ -155,14 +120,12 @@ fn test_jump(
     requires ready { Ready (world e code.old book.old pool.old) }
     ensures { Leads (sheet_in sheet.now) (test_jump (label_here left text.now (cursor_of c)).0 body.0) text.now (label_here left text.now (cursor_of c)).1 (world e code.old book.old pool.old) (world result.emitter code.new book.new pool.new) result.cursor }
 {
-    let next = e.create_label(book);
-    let label = next.label;
-    let on = next.emitter;
-    let t = test_label(text, sheet, code, book, pool, left, on, c, label);
-    let cursor = t.cursor;
-    let e1 = t.emitter;
-    let j = e1.emit_jmp(sheet, code, book, body);
-    let emitter = j.bind_label(book, label);
+    let NewLabel { emitter, label } = e.create_label(book);
+    let Walked { cursor, emitter } = test_label(
+        text, sheet, code, book, pool, left, emitter, c, label,
+    );
+    let e = emitter.emit_jmp(sheet, code, book, body);
+    let emitter = e.bind_label(book, label);
     Walked { cursor, emitter }
 }
 
@@ -171,8 +134,8 @@ fn test_labels(
     text: &[u8],
     sheet: &[u8],
     code: &mut [u8],
-    book: &mut [u16],
-    pool: &mut [Constant],
+    book: &mut Book,
+    pool: &mut Pool,
     left: usize,
     n: usize,
     e: Emitter,
@@ -185,14 +148,12 @@ fn test_labels(
     requires n_nonzero { 0 < n }
     ensures { Went (sheet_in sheet.now) (test_all (labels_at left text.now n (cursor_of c)).0 body.0 fail.0) text.now (labels_at left text.now n (cursor_of c)).1 (world e code.old book.old pool.old) (world result.emitter code.new book.new pool.new) result.cursor }
 {
-    let mut more = n;
     let mut on = e;
     let mut here = c;
-    while more > 1 {
-        let t = test_jump(text, sheet, code, book, pool, left, on, here, body);
-        on = t.emitter;
-        here = t.cursor;
-        more = more - 1;
+    for _ in 1..n {
+        let next = test_jump(text, sheet, code, book, pool, left, on, here, body);
+        on = next.emitter;
+        here = next.cursor;
     }
     test_label(text, sheet, code, book, pool, left, on, here, fail)
 }
@@ -202,8 +163,8 @@ pub fn open_arm(
     text: &[u8],
     sheet: &[u8],
     code: &mut [u8],
-    book: &mut [u16],
-    pool: &mut [Constant],
+    book: &mut Book,
+    pool: &mut Pool,
     left: usize,
     n: usize,
     e: Emitter,
@@ -218,13 +179,11 @@ pub fn open_arm(
     if n == 1 {
         return test_label(text, sheet, code, book, pool, left, e, c, next);
     }
-    let start = e.create_label(book);
-    let label = start.label;
-    let on = start.emitter;
-    let t = test_labels(text, sheet, code, book, pool, left, n, on, c, label, next);
-    let cursor = t.cursor;
-    let e1 = t.emitter;
-    let emitter = e1.bind_label(book, label);
+    let NewLabel { emitter, label } = e.create_label(book);
+    let Walked { cursor, emitter } = test_labels(
+        text, sheet, code, book, pool, left, n, emitter, c, label, next,
+    );
+    let emitter = emitter.bind_label(book, label);
     Walked { cursor, emitter }
 }
 
@@ -233,16 +192,15 @@ pub fn close_arm(
     e: Emitter,
     sheet: &[u8],
     code: &mut [u8],
-    book: &mut [u16],
+    book: &mut Book,
     next: Label,
     end: Label,
 ) -> Emitter
     requires fine { Fine e }
     requires code_len { length code.old ≡ max_code }
-    requires book_len { length book.old ≡ book_size }
     ensures { Coded (run (sheet_in sheet.now) (arm_end next.0 end.0)) e code.old book.old result code.new book.new }
 {
-    let j = e.emit_jmp(sheet, code, book, end);
-    let b = j.bind_label(book, next);
-    b.reset_stack_depth(1)
+    let e = e.emit_jmp(sheet, code, book, end);
+    let e = e.bind_label(book, next);
+    e.reset_stack_depth(1)
 }

@@ -1,7 +1,7 @@
 // What statement emission (body/stmt.rs) is made of below blocks: where a statement stands, conditions, the labels of CASE arms, and open loops.
 #![tactic(auto)]
 
-ghost use Rattle.std.specs.Prelude.{◌≡◌, ◌<◌, ◌-◌};
+ghost use Rattle.std.specs.Prelude.{◌≡◌, ◌<◌};
 ghost use Rattle.definition.specs.Limits.{max_nesting};
 ghost use Rattle.stmt_parts.specs.Context.{inner_of, in_loop};
 
@@ -17,26 +17,14 @@ pub struct Context {
     pub inside: usize,
 }
 
-// One less, but not below 0.
-pub fn below(n: usize) -> usize
-    ensures { result ≡ n - 1 }
-{
-    if n == 0 {
-        return 0;
-    }
-    n - 1
-}
-
 impl Context {
     // Where a statement's parts stand.
     pub fn inner(self) -> Context
         ensures { result ≡ inner_of self }
     {
-        let left = below(self.left);
         Context {
-            variables: self.variables,
-            left: left,
-            inside: self.inside,
+            left: self.left.saturating_sub(1),
+            ..self
         }
     }
 
@@ -46,9 +34,8 @@ impl Context {
         ensures { result ≡ in_loop self }
     {
         Context {
-            variables: self.variables,
-            left: self.left,
             inside: self.inside + 1,
+            ..self
         }
     }
 }

@@ -1,4 +1,4 @@
-use Prim.Native.Nat.{◌+◌, ◌*◌}
+use Prim.Native.Nat.{◌+◌, ◌-◌, ◌*◌}
 use Rattle.opcode.specs.Table.{sheet_in}
 use Rattle.program.specs.Walk.{cursor_of}
 use Rattle.emit.specs.View.{world}
@@ -47,14 +47,9 @@ decreases-stmt l = 5 * l.ctx.left
 abbrev pub decreases-while_ : goal.decreases-while_
 decreases-while_ l = 5 * l.ctx.left + 3
 
-abbrev pub invariant-arms-loop-more : goal.invariant-arms-loop-more
-invariant-arms-loop-more l = Arming (sheet_in l.sheet) l.ctx l.text l.end.0 l.n (cursor_of l.initial.here) (world l.initial.on l.initial.code l.initial.book l.initial.pool) l.initial.loops (world l.on l.code l.book l.pool) l.loops l.more l.here
+-- so many are left
+abbrev pub invariant-arms-loop : goal.invariant-arms-loop
+invariant-arms-loop l = Arming (sheet_in l.sheet) l.ctx l.text l.end.0 l.n (cursor_of l.initial.here) (world l.initial.on l.initial.code l.initial.book l.initial.pool) l.initial.lent.loops (world l.on l.code l.book l.pool) l.lent (l.n - l.counter) l.here
 
-abbrev pub decreases-arms-loop-more : goal.decreases-arms-loop-more
-decreases-arms-loop-more l = l.more
-
-abbrev pub invariant-sequence-loop-more : goal.invariant-sequence-loop-more
-invariant-sequence-loop-more l = Doing (sheet_in l.sheet) l.ctx l.text l.recording l.n (cursor_of l.initial.here) (world l.initial.on l.initial.code l.initial.book l.initial.pool) l.initial.loops (world l.on l.code l.book l.pool) l.loops l.more l.here
-
-abbrev pub decreases-sequence-loop-more : goal.decreases-sequence-loop-more
-decreases-sequence-loop-more l = l.more
+abbrev pub invariant-sequence-loop : goal.invariant-sequence-loop
+invariant-sequence-loop l = Doing (sheet_in l.sheet) l.ctx l.text l.recording l.n (cursor_of l.initial.here) (world l.initial.on l.initial.code l.initial.book l.initial.pool) l.initial.lent.loops (world l.on l.code l.book l.pool) l.lent (l.n - l.counter) l.here

@@ -1,10 +1,9 @@
-use native.Mathlib.Omega.{arith}
+use Rattle.program.proofs.Noted.{sound_none}
 use Rattle.stmt.proofs.Walks.{top-done}
-use Rattle.stmt.proofs.Behind.{lent_none}
 use Rattle.stmt.proofs.emit_stmts.Goals as goal
 
-pub sequence-requires : goal.sequence-requires
-sequence-requires c = record { lent = lent_none _ _ c.requires.near.short; near = c.requires.near; ready = c.requires.ready; left_bound = omega arith }
+pub sequence-requires-clause-noted : goal.sequence-requires-clause-noted
+sequence-requires-clause-noted c = rw c.new.ensures (sound_none _ _ c.requires.near.short)
 
 pub returns : goal.returns
 returns c = top-done _ c.sequence.ensures

@@ -1,8 +1,5 @@
 use Rattle.stmt_parts.proofs.Arms.{value-tested}
 use Rattle.stmt_parts.proofs.labels.test_value.Goals as goal
 
-pub test_against-requires : goal.test_against-requires
-test_against-requires c = c.requires
-
 pub returns : goal.returns
 returns c = value-tested _ _ _ c.test_against.ensures
