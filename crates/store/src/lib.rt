@@ -15,6 +15,7 @@ pub fn have_room(first: usize, second: usize, third: usize, a: usize, b: usize, 
 }
 
 // One element more.
+#[tactic(auto, using(std::proofs::lemmas::Bool::Decides::nat_tests), unfolding(crate::specs::Store::push))]
 pub fn push<T: Copy>(cells: &mut [T], used: usize, x: T) -> usize
     ensures { at cells.new result ≡ push (at cells.old used) x }
 {
