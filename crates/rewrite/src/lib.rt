@@ -137,7 +137,7 @@ fn decide(
         });
     }
     let first = seen(sheet, a);
-    if matcher.head(first.role) == rules::NO_RULE {
+    if rules::head(&matcher.index, first.role) == rules::NO_RULE {
         return Some(keep(size));
     }
     let then = at + size;
