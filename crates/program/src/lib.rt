@@ -72,6 +72,7 @@ pub struct Body {
     pub last: u16,
 }
 
+// A body of no statement stands where none is noted: with Options each of 128 would be larger, and what is noted only saves time.
 const NO_BODY: Body = Body {
     at: 0,
     row: 0,

@@ -24,6 +24,7 @@ pub enum Action {
 // An instruction as a rule sees it. A number over the last role's stands for no role.
 #[derive(Clone, Copy)]
 pub struct Instruction {
+    // A number, as the rows of a table and the table of a sheet hold it.
     pub role: u8,
     pub operand: u16,
 }
@@ -54,6 +55,7 @@ struct Line {
 }
 
 // The numbers of a rule, in its line and in its row of a table.
+// Rows are numbers of a lent table, and so they stay: what a table holds is said of any list.
 const PASS: usize = 0;
 
 const FIRST: usize = 1;

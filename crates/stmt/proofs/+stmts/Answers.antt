@@ -109,8 +109,8 @@ arms-loop-preserved t c = arms-on c.loop.invariant _ _ (sym c.in-Ok.ensures.is) 
 pub sequence-loop-preserved : goal.sequence-loop-preserved
 sequence-loop-preserved t c =
     elim c.match-next_stmt.branch [
-      sequence-in-Ok w ↦ rw (w.on-is, w.code-is, w.book-is, w.pool-is, w.lent-is, w.here-is) (goes_on c.loop.invariant _ w.in-Ok.ensures.is w.record_position-on.ensures w.stmt-done.ensures (omega (arith, c.loop-test.true)) (omega arith))
-    | sequence-in-Err w ↦ rw (w.on-is, w.code-is, w.book-is, w.pool-is, w.lent-is, w.here-is) (stays c.loop.invariant _ (sym w.in-Err.ensures.is) w.refuse-on.ensures (omega (arith, c.loop-test.true)) (omega arith))
+      | sequence-in-Ok w ↦ rw (w.on-is, w.code-is, w.book-is, w.pool-is, w.lent-is, w.here-is) (goes_on c.loop.invariant _ w.in-Ok.ensures.is w.record_position-on.ensures w.stmt-done.ensures (omega (arith, c.loop-test.true)) (omega arith))
+      | sequence-in-Err w ↦ rw (w.on-is, w.code-is, w.book-is, w.pool-is, w.lent-is, w.here-is) (stays c.loop.invariant _ (sym w.in-Err.ensures.is) w.refuse-on.ensures (omega (arith, c.loop-test.true)) (omega arith))
     ]
 
 pub arms-next_line-to-requires-clause-at_in_bounds : goal.arms-next_line-to-requires-clause-at_in_bounds
