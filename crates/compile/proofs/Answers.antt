@@ -12,7 +12,7 @@ use Rattle.definition.specs.Lent.{filled}
 use Rattle.definition.specs.Compile as compile
 use Rattle.definition.specs.Compile.{FinalizedFunction, jump_targets, finalize_function, emit_program, Room, roomy, answer}
 use Rattle.store.specs.Fill.{zeroed_from}
-use Rattle.store.proofs.Fills.{zero-all}
+use Rattle.store.proofs.Fills.{zero-all, zeroed-is}
 use Rattle.store.proofs.Rooms.{have-room}
 use Rattle.emit.specs.declared.Emitter.{Emitter}
 use Rattle.opcode.specs.Table.{Good}
@@ -23,19 +23,14 @@ use Rattle.opcode.proofs.Sheets.{role-of-opcode}
 use Rattle.runs.proofs.Passes.{Reads, rules-fine}
 use Rattle.runs.proofs.Finished.{each-so, program-bound, program-inside}
 use Rattle.compile.specs.declared.FinalizedFunction as ours
-use Rattle.compile.specs.declared.Finalized.{Finalized}
-use Rattle.compile.specs.declared.Finalized.TheVariants.{Done, Far}
-use Rattle.compile.specs.declared.call.Outcome.{Outcome}
-use Rattle.compile.specs.declared.call.Outcome.TheVariants.{Refused, Finished}
+use Rattle.std.specs.Prelude as std
+use Rattle.std.specs.Prelude.{Result, Ok, Err, Some, None, is_err, OnOk, false}
+use Rattle.definition.specs.View.{refusal_number, res_of}
+use Rattle.definition.specs.declared.Refusal.TheVariants.{FarBranch}
+use Rattle.definition.specs.declared.Refused.{Refused}
+use Rattle.compile.specs.declared.call.Compiled.{Compiled}
 use Rattle.compile.specs.View.{Patchable, Finalizes}
 use Rattle.compile.specs.Call.{room, Roomy, answer_view, finishing, Ends, settled}
-
--- ---- a refusal
-
-pub refused : (number place : ℕ) (code constants lines : List ℕ) {b k l : List ℕ} → b ≡ zeroed_from 0 code → k ≡ zeroed_from 0 constants → l ≡ zeroed_from 0 lines
-    → answer_view (record { number = number; place = place; bytes = 0; depth = 0; constants = 0; entries = 0 }) b k l ≡ answer (room code constants lines) (refuse number place)
-unfolding answer
-refused number place code constants lines eb ek el = rw (zero-all code eb, zero-all constants ek, zero-all lines el)
 
 -- ---- 14
 
@@ -47,44 +42,37 @@ roomy-is {r} e =
 
 -- ---- behind emission
 
-stopped : {A : Type 0} (n p : ℕ) (a : A) → (n ≡ 0 → ⊥) → standing n p a ≡ refuse n p
-unfolding standing
-stopped zero p a off = absurd (off refl)
-stopped (suc n) p a off = refl
+pub none-left : (o : std.Option Refused) → ((x : Refused) → o ≡ Some x → ⊥) → o ≡ None
+none-left None f = refl
+none-left (Some x) f = absurd (f x refl)
 
-going : {A : Type 0} (n p : ℕ) (a : A) → n ≡ 0 → standing n p a ≡ ok a
-unfolding standing
-going n p a on = rw on
+-- a refusal, whatever the outputs hold
+pub ends-here : (x : Res FinalizedFunction) (r : Refused) {a b c d e f : List ℕ} → x ≡ refuse (refusal_number r.refusal) r.place → Ends x a b c d e f (Err r)
+ends-here x r is = record { is = rw is; held = λ f q. absurd (let bad : refuse (refusal_number r.refusal) r.place ≡ ok f = sym is ∙ q in cc) }
 
 module _ (s : Sheet) (rs : List Rule) (e : Emitter) (code book constants lines : List ℕ) where
   abbrev ended : Res FinalizedFunction
   ended = finishing s rs (view (world e code book constants))
 
-  pub ends-refused : {b k l : List ℕ} → (e.refused ≡ 0 → ⊥) → Ends ended code constants lines b k l (Refused e.refused e.place)
-  unfolding ◌>>=◌
-  ends-refused off =
-      let is : ended ≡ refuse e.refused e.place = rw (stopped e.refused e.place (state (world e code book constants)) off) in
-      record { is = rw is; held = λ f q. absurd (let bad : refuse e.refused e.place ≡ ok f = sym is ∙ q in let z : ◌≡◌ {A = ℕ} 0 1 = cc in omega arith) }
+  pub ends-refused : {b k l : List ℕ} {r : Refused} → e.refused ≡ Some r → Ends ended code constants lines b k l (Err r)
+  unfolding ◌>>=◌ standing
+  ends-refused {r = r} off = ends-here ended r (rw off)
 
   -- 15
-  pub ends-far : {b k l : List ℕ} {g : Finalized} {x p : ℕ} → e.refused ≡ 0 → Finalizes s rs e code book lines b l g → g ≡ Far x → p ≡ x → Ends ended code constants lines b k l (Refused far_branch p)
-  unfolding ◌>>=◌
-  ends-far {b} {k} {l} {g} {x} {p} on fin q same =
-      let h : Finalizes s rs e code book lines b l (Far x) = rw q at fin in
-      let is : ended ≡ refuse far_branch p = rw (going e.refused e.place (state (world e code book constants)) on, same) (h.is constants).0 in
-      record { is = rw is; held = λ f q. absurd (let bad : refuse far_branch p ≡ ok f = sym is ∙ q in let z : ◌≡◌ {A = ℕ} 0 1 = cc in omega arith) }
+  pub ends-far : {b k l : List ℕ} {x p : ℕ} → e.refused ≡ None → Finalizes s rs e code book lines b l (Err x) → p ≡ x → Ends ended code constants lines b k l (Err (record { refusal = FarBranch; place = p }))
+  unfolding ◌>>=◌ standing
+  ends-far {b} {k} {l} {x} {p} on h same = ends-here ended (record { refusal = FarBranch; place = p }) (rw (on, same) (h.is constants).0)
 
-  pub ends-finished : {b k l : List ℕ} {g : Finalized} {r : ours.FinalizedFunction} → e.refused ≡ 0 → Fine e → Roomy (room code constants lines) → Finalizes s rs e code book lines b l g → g ≡ Done r → k ≡ zeroed_from e.constants constants
-      → Ends ended code constants lines b k l (Finished r.size r.max_stack_depth e.constants r.entries)
-  unfolding ◌>>=◌ finalize_function filled zeroed_from
-  ends-finished {b} {k} {l} {g} {r} on fine roomy fin q zeroed =
-      let done : Finalizes s rs e code book lines b l (Done r) = rw q at fin in
+  pub ends-finished : {b k l : List ℕ} {r : ours.FinalizedFunction} → e.refused ≡ None → Fine e → Roomy (room code constants lines) → Finalizes s rs e code book lines b l (Ok r) → k ≡ zeroed_from e.constants constants
+      → Ends ended code constants lines b k l (Ok (record { bytes = r.size; depth = r.max_stack_depth; constants = e.constants; entries = r.entries }))
+  unfolding ◌>>=◌ standing finalize_function filled
+  ends-finished {b} {k} {l} {r} on fine roomy done zeroed =
       let c = done.is constants in
       let F : FinalizedFunction = finalize_function s rs (state (world e code book constants)) in
       let h = c.1 in
       let many : length (take e.constants constants) ≡ e.constants = length-take-le e.constants constants (omega (arith, fine.constants, roomy.constants)) in
-      let is : ended ≡ ok F = rw (going e.refused e.place (state (world e code book constants)) on) c.0 in
-      let pool : k ≡ filled (length constants) (take e.constants constants) = zeroed ∙ rw many in
+      let is : ended ≡ ok F = rw on c.0 in
+      let pool : k ≡ filled (length constants) (take e.constants constants) = zeroed ∙ zeroed-is e.constants constants ∙ rw many in
       record {
         is = rw (is, h.size, h.depth, h.entries, many);
         held = λ f q. (let same : F ≡ f = (let two : ok F ≡ ok f = sym is ∙ q in cc) in rw (← same) (record { code = h.code; constants = pool; lines = h.lines }));
@@ -112,16 +100,33 @@ emitted s p code book pool b d = begun-acts s (emit_stmts p.body) b d
 
 -- ---- the answer
 
-pub settled-finished : {o : Outcome} {a d n e : ℕ} (code constants lines : List ℕ) → o ≡ Finished a d n e
-    → answer_view (record { number = 0; place = 0; bytes = a; depth = d; constants = n; entries = e }) code constants lines ≡ settled o code constants lines
-settled-finished code constants lines q = rw q
+-- what a refusal leaves
+pub cleared : (o : Result Compiled Refused) (code constants lines : List ℕ) {b k l : List ℕ} → is_err o ≡ true → b ≡ zeroed_from 0 code → k ≡ zeroed_from 0 constants → l ≡ zeroed_from 0 lines
+    → answer_view o b k l ≡ settled o code constants lines
+unfolding answer
+cleared (Err e) code constants lines off eb ek el = rw (zero-all code eb, zero-all constants ek, zero-all lines el)
+cleared (Ok r) code constants lines off eb ek el = absurd (cc)
 
-pub settled-refused : {o : Outcome} {n p : ℕ} {x : compile.Answer} (code constants lines : List ℕ) → o ≡ Refused n p → x ≡ answer (room code constants lines) (refuse n p) → x ≡ settled o code constants lines
-settled-refused code constants lines q is = is ∙ rw q
+pub kept : (o : Result Compiled Refused) (code constants lines : List ℕ) → is_err o ≡ false → answer_view o code constants lines ≡ settled o code constants lines
+kept (Err e) code constants lines on = absurd (cc)
+kept (Ok r) code constants lines on = refl
 
 -- what an outcome settles to is the definition's answer
-pub settled_is : (x : Res FinalizedFunction) {bytes words numbers b k l : List ℕ} {o : Outcome} → Ends x bytes words numbers b k l o → length b ≡ length bytes → length k ≡ length words → length l ≡ length numbers
+pub settled_is : (x : Res FinalizedFunction) {bytes words numbers b k l : List ℕ} {o : Result Compiled Refused} → Ends x bytes words numbers b k l o → length b ≡ length bytes → length k ≡ length words → length l ≡ length numbers
     → settled o b k l ≡ answer (room bytes words numbers) x
 unfolding answer
-settled_is (refuse n p) ends eb ek el = rw (ends.is, eb, ek, el)
-settled_is (ok f) ends eb ek el = let h = ends.held f refl in rw (ends.is, h.code, h.constants, h.lines)
+settled_is (refuse n p) {o = Err e} ends eb ek el =
+    let a : refusal_number e.refusal ≡ n = (let i = ends.is in cc) in
+    let b : e.place ≡ p = (let i = ends.is in cc) in
+    rw (a, b, eb, ek, el)
+settled_is (refuse n p) {o = Ok r} ends eb ek el = absurd (let i = ends.is in cc)
+settled_is (ok f) {o = Err e} ends eb ek el = absurd (let i = ends.is in cc)
+settled_is (ok f) {o = Ok r} ends eb ek el =
+    let h = ends.held f refl in
+    let a : r ≡ record { bytes = length f.bytecode; depth = f.depth; constants = length f.constants; entries = length f.line_map } = (let i = ends.is in cc) in
+    rw (a, h.code, h.constants, h.lines)
+
+-- what is said of an answer with no refusal
+pub on_ok : (P : compile.Answer → Type 0) (o : Result Compiled Refused) (b k l : List ℕ) → ((answer_view o b k l).number ≡ 0 → P (answer_view o b k l)) → OnOk o (P (answer_view o b k l))
+on_ok P (Ok r) b k l f = f refl
+on_ok P (Err e) b k l f = tt

@@ -11,17 +11,11 @@ use Rattle.definition.specs.Stmt.{emit_stmts}
 use Rattle.definition.specs.Compile as compile
 use Rattle.definition.specs.Compile.{FinalizedFunction, finalize_function, emit_program, compile_program, compile_files, compile_into, Room, roomy, answer, Free, Compiles}
 use Rattle.definition.specs.Claims.{Safe, Faithful}
-use Rattle.opcode.specs.declared.sheet.SheetRead.{SheetRead}
-use Rattle.opcode.specs.declared.sheet.SheetRead.TheVariants as sheets
 use Rattle.opcode.specs.Table.{Good, sheet_in}
-use Rattle.opcode.specs.Reading.{answer_of, Reads, Accepts, Refuses}
+use Rattle.opcode.specs.Reading.{Accepts, Refuses}
 use Rattle.opcode.proofs.Faults.{good}
-use Rattle.rules.specs.declared.RuleAnswer.{RuleAnswer}
-use Rattle.rules.specs.declared.RuleAnswer.TheVariants as answers
 use Rattle.rules.specs.View as rules
 use Rattle.rules.specs.View.{rules_in, Answered}
-use Rattle.program.specs.declared.Checked.{Checked}
-use Rattle.program.specs.declared.Checked.TheVariants as checks
 use Rattle.program.specs.Check as program
 use Rattle.program.specs.Check.{checked_view, checked, program_of}
 use Rattle.program.proofs.Check as read
@@ -35,45 +29,44 @@ use Rattle.store.proofs.Fills.{fitted-is, front, length-filled}
 use Rattle.optimize.proofs.Entry.{place-by, rules-read, rules-bad}
 use Rattle.runs.proofs.Safe.{compiled-safe}
 use Rattle.meaning.proofs.Faithful.{compiled-faithful}
-use Rattle.compile.specs.declared.call.Outcome.{Outcome}
-use Rattle.compile.specs.declared.call.Outcome.TheVariants.{Refused}
+use Rattle.std.specs.Prelude.{Result, Ok, Err, None, OnOk}
+use Rattle.definition.specs.View.{refusal_number, res_of}
+use Rattle.definition.specs.declared.Refusal.TheVariants.{OutputShort}
+use Rattle.definition.specs.declared.Refused.{Refused}
+use Rattle.compile.specs.declared.call.Compiled.{Compiled}
 use Rattle.compile.specs.View.{Patchable}
-use Rattle.compile.specs.Call.{room, Roomy, finishing, Ends}
-use Rattle.compile.specs.Entry.{FromFile, behind_rules, behind_sheet}
-use Rattle.compile.proofs.Answers.{patchable, emitted}
+use Rattle.compile.specs.Call.{room, Roomy, answer_view, settled, finishing, Ends}
+use Rattle.compile.specs.Entry.{FromFile, behind_rules, behind_sheet, Finds}
+use Rattle.compile.proofs.Answers.{ends-here, patchable, emitted, settled_is, on_ok}
 
--- ---- an outcome that is a refusal, whatever the outputs hold
-
-pub ends-here : (x : Res FinalizedFunction) (n p : ℕ) {a b c d e f : List ℕ} → x ≡ refuse n p → Ends x a b c d e f (Refused n p)
-ends-here x n p is = record { is = rw is; held = λ f q. absurd (let bad : refuse n p ≡ ok f = sym is ∙ q in let z : ◌≡◌ {A = ℕ} 0 1 = cc in omega arith) }
-
-ends_as : {x y : Res FinalizedFunction} {a b c d e f : List ℕ} {o : Outcome} → x ≡ y → Ends x a b c d e f o → Ends y a b c d e f o
+ends_as : {x y : Res FinalizedFunction} {a b c d e f : List ℕ} {o : Result Compiled Refused} → x ≡ y → Ends x a b c d e f o → Ends y a b c d e f o
 ends_as is k = rw is at k
 
 -- ---- 9
 
-module _ (s : Sheet) (text program : List ℕ) {table : List ℕ} {f : RuleAnswer} (h : Answered rules.table_size (read_rules text) f table) where
-  pub ends-9 : {m p q : ℕ} {a b c d e g : List ℕ} → f ≡ answers.Refused m p → q ≡ p → Ends (behind_sheet s text program) a b c d e g (Refused m q)
+module _ (s : Sheet) (text program : List ℕ) {table : List ℕ} where
+  pub ends-9 : (r : Refused) {a b c d e g : List ℕ} → Answered rules.table_size (read_rules text) (refuse (refusal_number r.refusal) r.place) table → Ends (behind_sheet s text program) a b c d e g (Err r)
   unfolding behind_sheet ◌>>=◌
-  ends-9 {m} {p} {q} e same = rw same (ends-here _ m p (rw (rules-bad (read_rules text) m p (sym e ∙ h.is))))
+  ends-9 r h = ends-here _ r (rw (rules-bad (read_rules text) (refusal_number r.refusal) r.place h.is))
 
-  pub from-file : {count : ℕ} → f ≡ answers.Rules count → FromFile (rules_in table count)
-  from-file e = let d = rules-read h e in record { file = text; is = rw d.same d.is }
+  module _ {count : ℕ} (h : Answered rules.table_size (read_rules text) (ok count) table) where
+    pub from-file : FromFile (rules_in table count)
+    from-file = let d = rules-read h in record { file = text; is = rw d.same d.is }
 
-  pub ends-rules : {count : ℕ} {a b c d e g : List ℕ} {o : Outcome} → f ≡ answers.Rules count → Ends (behind_rules s (rules_in table count) program) a b c d e g o → Ends (behind_sheet s text program) a b c d e g o
-  unfolding behind_sheet ◌>>=◌
-  ends-rules q k = let d = rules-read h q in ends_as (rw (d.is, d.same)) k
+    pub ends-rules : {a b c d e g : List ℕ} {o : Result Compiled Refused} → Ends (behind_rules s (rules_in table count) program) a b c d e g o → Ends (behind_sheet s text program) a b c d e g o
+    unfolding behind_sheet ◌>>=◌
+    ends-rules k = let d = rules-read h in ends_as (rw (d.is, d.same)) k
 
 -- ---- 1, and the lines
 
-module _ (s : Sheet) (rs : List Rule) (text : List ℕ) (r : Checked) (is : checked_view r ≡ checked text) where
-  pub ends-1 : {n p : ℕ} {a b c d e f : List ℕ} → r ≡ checks.Refused n p → Ends (behind_rules s rs text) a b c d e f (Refused n p)
+module _ (s : Sheet) (rs : List Rule) (text : List ℕ) where
+  pub ends-1 : (r : Refused) {a b c d e f : List ℕ} → refuse (refusal_number r.refusal) r.place ≡ checked text → Ends (behind_rules s rs text) a b c d e f (Err r)
   unfolding behind_rules ◌>>=◌
-  ends-1 {n} {p} q = ends-here _ n p (rw (read.refused text (sym is ∙ ap checked_view q)))
+  ends-1 r is = ends-here _ r (rw (read.refused text (sym is)))
 
-  pub ends-text : (h : Header) (next : ℕ) {a b c d e f : List ℕ} {o : Outcome} → checked_view r ≡ ok (h, next) → Ends (compile_program s rs (program_of text h)) a b c d e f o → Ends (behind_rules s rs text) a b c d e f o
+  pub ends-text : (h : Header) (next : ℕ) {a b c d e f : List ℕ} {o : Result Compiled Refused} → ok (h, next) ≡ checked text → Ends (compile_program s rs (program_of text h)) a b c d e f o → Ends (behind_rules s rs text) a b c d e f o
   unfolding behind_rules ◌>>=◌
-  ends-text h next q k = let t = (read.accepted text (sym is ∙ q)).read in ends_as (rw t) k
+  ends-text h next is k = let t = (read.accepted text (sym is)).read in ends_as (rw t) k
 
 -- ---- emission
 
@@ -93,10 +86,6 @@ copied {k} {constants'} e constants fine held room is =
     let f = fitted-is (length constants) (take e.constants k) fits is in
     record { same = rw f (front (length constants) (take e.constants k) e.constants many); long = ap length f ∙ length-filled (length constants) (take e.constants k) fits }
 
-pub lent-roomy : {e : Emitter} {k constants' : List ℕ} (c code constants lines : List ℕ) → length c ≡ max_code → Copied e k constants constants' → Roomy (room code constants lines) → Roomy (room (c ++ drop max_code code) constants' lines)
-lent-roomy c code constants lines ec copy r =
-    record { code = rw (front_long c code max_code ec r.code) r.code; constants = rw copy.long r.constants; lines = r.lines }
-
 pub whole-view : {e : Emitter} {c b k constants constants' : List ℕ} (code : List ℕ) → Ready (world e c b k) → Copied e k constants constants' → view (world e (c ++ code) b constants') ≡ view (world e c b k)
 whole-view {e} {c} code r copy = rw (take-append-le e.size c code (omega (arith, r.fine.size, r.room)), copy.same)
 
@@ -111,11 +100,11 @@ module _ (s : Sheet) (text : List ℕ) (h : Header) (next : ℕ) (there : progra
     whole = whole-view rest (rw is at ready) copy ∙ (rw is at emission)
 
     -- what `finish` is lent can be patched
-    pub lent-patchable : (rs : List Rule) → Good s → FromFile rs → e.refused ≡ 0 → Patchable s rs (state (world e (c ++ rest) b' more))
+    pub lent-patchable : (rs : List Rule) → Good s → FromFile rs → e.refused ≡ None → Patchable s rs (state (world e (c ++ rest) b' more))
     unfolding standing
     lent-patchable rs g f on = patchable f.file s rs g f.is (program_of text h) (state (world e (c ++ rest) b' more)) (sym whole ∙ rw on)
 
-    pub ends-emitted : (rs : List Rule) (code₀ : List ℕ) {lines d n l : List ℕ} {o : Outcome} → length (c ++ rest) ≡ length code₀
+    pub ends-emitted : (rs : List Rule) (code₀ : List ℕ) {lines d n l : List ℕ} {o : Result Compiled Refused} → length (c ++ rest) ≡ length code₀
         → Ends (finishing s rs (view (world e (c ++ rest) b' more))) (c ++ rest) more lines d n l o → Ends (compile_program s rs (program_of text h)) code₀ constants lines d n l o
     unfolding compile_program
     ends-emitted rs code₀ eb ends = record {
@@ -129,30 +118,42 @@ order : (sheet rules program : List ℕ) (r : Room) (place : ℕ) → compile_in
 unfolding compile_into compile_files behind_sheet behind_rules
 order sheet rules program r place = refl
 
-module _ (sheet rules program : List ℕ) (r : Room) {a : compile.Answer} where
-  pub short : roomy r ≡ false → a ≡ answer r (refuse 14 0) → Compiles r sheet rules program a
+module _ (sheet rules program code constants lines : List ℕ) where
+  abbrev r : Room
+  r = room code constants lines
+
+  pub short : {b k l : List ℕ} → roomy r ≡ false → Finds sheet rules program code constants lines b k l (Err (record { refusal = OutputShort; place = 0 }))
   unfolding ◌>>◌ demand
-  short off is =
+  short off =
       let f = place-by sheet (read_sheet sheet) refl in
-      record { place = f.0; free = f.1; is = is ∙ rw (order sheet rules program r f.0, off) }
+      record { place = f.0; free = f.1; ends = ends-here _ (record { refusal = OutputShort; place = 0 }) (rw (order sheet rules program r f.0, off)) }
 
-  module _ (table : List ℕ) (f : SheetRead) (room : roomy r ≡ true) (h : Reads sheet table (answer_of f)) where
-    pub refused-7 : {n p q : ℕ} → f ≡ sheets.Refused n p → q ≡ p → a ≡ answer r (refuse n q) → Compiles r sheet rules program a
+  module _ (table : List ℕ) (enough : roomy r ≡ true) where
+    pub refused-7 : (e : Refused) {b k l : List ℕ} → Refuses sheet table (refusal_number e.refusal) e.place → Finds sheet rules program code constants lines b k l (Err e)
     unfolding ◌>>◌ ◌>>=◌ demand given Free
-    refused-7 {n} {p} {q} e same is =
-        let d : Refuses sheet table n p = rw e at h in
-        record { place = p; free = λ _. d.fault; is = is ∙ rw (same, order sheet rules program r p, room, d.is, d.number) }
+    refused-7 e d = record { place = e.place; free = λ _. d.fault; ends = ends-here _ e (rw (order sheet rules program r e.place, enough, d.is, d.number)) }
 
-    pub after-sheet : f ≡ sheets.Accepted → a ≡ answer r (behind_sheet (sheet_in table) rules program) → Compiles r sheet rules program a
+    pub after-sheet : {b k l : List ℕ} {o : Result Compiled Refused} → Accepts sheet table → Ends (behind_sheet (sheet_in table) rules program) code constants lines b k l o → Finds sheet rules program code constants lines b k l o
     unfolding ◌>>◌ ◌>>=◌ demand given Free
-    after-sheet e is =
-        let d : Accepts sheet table = rw e at h in
+    after-sheet d ends =
         let good = d.is in
-        record { place = 0; free = λ q. absurd (let z : ◌≡◌ {A = ℕ} 0 1 = cc in omega arith); is = is ∙ rw (order sheet rules program r 0, room, d.is) }
+        record {
+          place = 0;
+          free = λ q. absurd (cc);
+          ends = ends_as (rw (order sheet rules program r 0, enough, d.is)) ends;
+        }
 
-pub sheet-good : (sheet table : List ℕ) (f : SheetRead) → Reads sheet table (answer_of f) → f ≡ sheets.Accepted → Good (sheet_in table)
-sheet-good sheet table f h e = let d : Accepts sheet table = rw e at h in good sheet (sheet_in table) d.is
+pub sheet-good : {sheet table : List ℕ} → Accepts sheet table → Good (sheet_in table)
+sheet-good {sheet} {table} d = good sheet (sheet_in table) d.is
 
 -- what the call answers, demand 3 of it and, for an empty rule file, that it does what the statements say
-pub answered : {r : Room} {sheet rules program : List ℕ} {a : compile.Answer} → Compiles r sheet rules program a → Compiles r sheet rules program a × ((a.number ≡ 0 → Safe sheet rules program a) × (a.number ≡ 0 → length rules ≡ 0 → Faithful sheet program a))
-answered {r} {sheet} {rules} {program} {a} k = (k, (λ z. compiled-safe r sheet rules program a k z, λ z e. compiled-faithful r sheet rules program a k z e))
+module _ (sheet rules program : List ℕ) {code constants lines b k l : List ℕ} (b' k' l' : List ℕ) {o : Result Compiled Refused} (f : Finds sheet rules program code constants lines b k l o) (r : Result Compiled Refused)
+    (is : answer_view r b' k' l' ≡ settled o b k l) (eb : length b ≡ length code) (ek : length k ≡ length constants) (el : length l ≡ length lines) where
+  pub answered : Compiles (room code constants lines) sheet rules program (answer_view r b' k' l')
+  answered = record { place = f.place; free = f.free; is = is ∙ settled_is (compile_into f.place (room code constants lines) sheet rules program) f.ends eb ek el }
+
+  pub answered-safe : OnOk r (Safe sheet rules program (answer_view r b' k' l'))
+  answered-safe = on_ok (λ a. Safe sheet rules program a) r b' k' l' (compiled-safe (room code constants lines) sheet rules program (answer_view r b' k' l') answered)
+
+  pub answered-faithful : OnOk r (length rules ≡ 0 → Faithful sheet program (answer_view r b' k' l'))
+  answered-faithful = on_ok (λ a. length rules ≡ 0 → Faithful sheet program a) r b' k' l' (compiled-faithful (room code constants lines) sheet rules program (answer_view r b' k' l') answered)

@@ -20,9 +20,7 @@ use Rattle.emit.specs.Book.{patch_base, patch_size, patch_in, row, rows, patches
 use Rattle.emit.specs.View.{patch_view}
 use Rattle.emit.proofs.Tables.{pushed-sets}
 use Rattle.compile.specs.declared.Branch.{Branch}
-use Rattle.compile.specs.declared.Reach.{Reach}
-use Rattle.compile.specs.declared.Reach.TheVariants as reach
-use Rattle.compile.specs.View.{targets_of, BoundIn, Inside, IsBranch, demanded, reach_view, reached_with}
+use Rattle.compile.specs.View.{targets_of, BoundIn, Inside, IsBranch, demanded}
 
 -- ---- what holds of each
 
@@ -96,11 +94,6 @@ module _ (labels : List (Option ℕ)) where
 
 -- ---- one branch
 
--- the wrapped difference of two numbers of 16 bits
-wrapped : (d target next : ℕ) → d < 2 ^ 16 → next < 2 ^ 16 → (d + next) % 2 ^ 16 ≡ target → d ≡ displacement target next
-unfolding displacement
-wrapped d target next a b e = omega arith
-
 -- two bytes put at a place
 put-over : (code : List ℕ) (at d : ℕ) → at + 2 ≤ length code → (push_all (store.at code at) (le16 d)).cells ≡ overwrite at (le16 d) code
 unfolding le16 overwrite
@@ -117,14 +110,12 @@ pub same-room : (code : List ℕ) (at d : ℕ) {code' : List ℕ} {used : ℕ} �
 same-room code at d put = ap (λ (s : Store). length s.cells) put ∙ length-push_all (store.at code at) (le16 d)
 
 module _ (labels : List (Option ℕ)) (m : OffsetMap) (p : PendingPatch) (code : List ℕ) where
-  pub jumped : {b : Branch} {next d used : ℕ} {code' : List ℕ} → Inside m (length code) (patch_view p) → IsBranch labels m (patch_view p) b → next ≡ b.next → length code ≤ max_code → d < 2 ^ 16 → (d + next) % 2 ^ 16 ≡ b.target
+  pub jumped : {b : Branch} {d used : ℕ} {code' : List ℕ} → Inside m (length code) (patch_view p) → IsBranch labels m (patch_view p) b → d ≡ displacement b.target b.next
       → store.at code' used ≡ push_all (store.at code (b.next - 2)) (le16 d) → code' ≡ patch_jump labels m (patch_view p) code
   unfolding patch_jump
-  jumped {b} {next} {d} {used} {code'} inside is n few small wraps put =
-      let behind : b.next ≤ length code = omega (arith, inside.is, is.next) in
+  jumped {b} {d} {used} {code'} inside is bits put =
       let own : b.next - 2 ≡ moved_to m p.instruction_offset + p.operand_delta = omega (arith, is.next) in
-      let bits : d ≡ displacement b.target next = wrapped d b.target next small (omega arith) wraps in
-      ap (λ (s : Store). s.cells) put ∙ put-over code (b.next - 2) d (omega (arith, is.next)) ∙ rw (bits, n, is.target, own, is.next)
+      ap (λ (s : Store). s.cells) put ∙ put-over code (b.next - 2) d (omega (arith, is.next, inside.is)) ∙ rw (bits, is.target, own, is.next)
 
 -- ---- all of them
 
@@ -166,32 +157,6 @@ same-patches labels m n (p ∷ ps) code h = rw (h p.instruction_offset, h (bound
 
 -- ---- 15
 
--- the test by differences
-pub near-back : (target next : ℕ) → target < next → leb (next - target) max_back ≡ near target next
-unfolding near
-near-back target next lt = go (leb (next - target) max_back) refl
-  where
-    go : (b : Bool) → leb (next - target) max_back ≡ b → b ≡ near target next
-    go true e = let h = leb-true (next - target) max_back e in rw (le-leb next (target + max_back) (omega arith), le-leb target (next + max_forward) (omega arith))
-    go false e = let h = leb-false (next - target) max_back e in rw (lt-leb next (target + max_back) (omega arith))
-
-pub near-forward : (target next : ℕ) → next ≤ target → leb (target - next) max_forward ≡ near target next
-unfolding near
-near-forward target next le = go (leb (target - next) max_forward) refl
-  where
-    go : (b : Bool) → leb (target - next) max_forward ≡ b → b ≡ near target next
-    go true e = let h = leb-true (target - next) max_forward e in rw (le-leb next (target + max_back) (omega arith), le-leb target (next + max_forward) (omega arith))
-    go false e = let h = leb-false (target - next) max_forward e in rw (le-leb next (target + max_back) (omega arith), lt-leb target (next + max_forward) (omega arith))
-
--- one branch more
-pub reach_far : {known : Reach} {x : ℕ} (b : Branch) → known ≡ reach.Far x → reach_view (reach.Far x) ≡ reached_with known b
-unfolding ◌>>◌
-reach_far b e = rw e
-
-pub reach-tested : {known : Reach} {near? : Bool} (b : Branch) (r : Reach) → known ≡ reach.Fine → near? ≡ near b.target b.next → reach_view r ≡ demand near? far_branch b.from → reach_view r ≡ reached_with known b
-unfolding ◌>>◌
-reach-tested b r e is h = rw (e, ← is) h
-
 then-assoc : {A B C : Type 0} (a : Res A) (b : Res B) (c : Res C) → (a >> (b >> c)) ≡ ((a >> b) >> c)
 unfolding ◌>>◌
 then-assoc (ok x) b c = refl
@@ -215,28 +180,33 @@ module _ (labels : List (Option ℕ)) (m : OffsetMap) where
   unfolding test
   tested-is is = rw (is.from, is.next, is.target)
 
-  pub record Reaching (book : List ℕ) (n : ℕ) (r : Reach) (i : ℕ) : Type 0 where
-    pub is : reach_view r ≡ in_reach labels m (patches_in book i)
-    pub within : i ≤ n
+  reach-here : (book : List ℕ) (i : ℕ) {p : PendingPatch} {b : Branch} → in_reach labels m (patches_in book i) ≡ ok tt → patch_view p ≡ patch_in (row patch_base patch_size book i) → IsBranch labels m (patch_view p) b
+      → in_reach labels m (patches_in book (suc i)) ≡ demanded b
+  unfolding rows ◌>>◌
+  reach-here book i r at is = reach-more (patches_in book i) (patch_in (row patch_base patch_size book i)) ∙ rw r (ap (λ (q : def.PendingPatch). test q) (sym at) ∙ sym (tested-is is))
 
-  module _ (book : List ℕ) (n : ℕ) where
-    pub reach-begins : Reaching book n reach.Fine 0
-    unfolding in_reach rows
-    reach-begins = record { is = refl; within = omega arith }
+  -- none of the first is far
+  pub reach-goes-on : (book : List ℕ) (i : ℕ) {p : PendingPatch} {b : Branch} → in_reach labels m (patches_in book i) ≡ ok tt → patch_view p ≡ patch_in (row patch_base patch_size book i) → IsBranch labels m (patch_view p) b
+      → near b.target b.next ≡ true → in_reach labels m (patches_in book (i + 1)) ≡ ok tt
+  unfolding demand
+  reach-goes-on book i {b = b} r at is k = rw (add-one i) (reach-here book i r at is ∙ rw k refl)
 
-    pub reach-goes-on : {r r' : Reach} {i : ℕ} {p : PendingPatch} {b : Branch} → Reaching book n r i → i < n → patch_view p ≡ patch_in (row patch_base patch_size book i) → IsBranch labels m (patch_view p) b
-        → reach_view r' ≡ reached_with r b → Reaching book n r' (i + 1)
-    unfolding rows
-    reach-goes-on {r} {r'} {i} {p} {b} g h at is e = record {
-      is = e ∙ (ap (λ (x : Res (Unit {0})). reach_view r >> x) (tested-is is ∙ ap (λ (q : def.PendingPatch). test q) at)
-          ∙ rw (add-one i, g.is) (sym (reach-more (patches_in book i) (patch_in (row patch_base patch_size book i)))));
-      within = omega arith;
-    }
+  -- the first that is far stays
+  reach-stays : (book : List ℕ) (i k : ℕ) {n x : ℕ} → in_reach labels m (patches_in book i) ≡ refuse n x → in_reach labels m (patches_in book (k + i)) ≡ refuse n x
+  unfolding rows ◌>>◌
+  reach-stays book i zero r = let e : 0 + i ≡ i = omega arith in rw e r
+  reach-stays book i (suc k) r = let e : suc k + i ≡ suc (k + i) = omega arith in rw e (reach-more (patches_in book (k + i)) (patch_in (row patch_base patch_size book (k + i))) ∙ rw (reach-stays book i k r) refl)
 
-    pub reach-ends : {r : Reach} {i : ℕ} → Reaching book n r i → n ≤ i → reach_view r ≡ in_reach labels m (patches_in book n)
-    reach-ends {r} {i} g h =
-        let same : i ≡ n = omega (arith, g.within) in
-        g.is ∙ ap (λ (k : ℕ). in_reach labels m (patches_in book k)) same
+  pub reach-far : (book : List ℕ) (i n : ℕ) {p : PendingPatch} {b : Branch} → in_reach labels m (patches_in book i) ≡ ok tt → i < n → patch_view p ≡ patch_in (row patch_base patch_size book i) → IsBranch labels m (patch_view p) b
+      → near b.target b.next ≡ false → refuse far_branch b.from ≡ in_reach labels m (patches_in book n)
+  unfolding demand
+  reach-far book i n {b = b} r lt at is k =
+      let e : n ≡ (n - suc i) + suc i = omega arith in
+      rw e (sym (reach-stays book (suc i) (n - suc i) (reach-here book i r at is ∙ rw k refl)))
+
+  pub reach-begins : (book : List ℕ) → in_reach labels m (patches_in book 0) ≡ ok tt
+  unfolding in_reach rows
+  reach-begins book = refl
 
 -- a map that moves alike reaches alike
 pub same-reach : (labels : List (Option ℕ)) (m n : OffsetMap) (ps : List def.PendingPatch) → ((x : ℕ) → moved_to m x ≡ moved_to n x) → in_reach labels m ps ≡ in_reach labels n ps

@@ -13,27 +13,26 @@ use Rattle.definition.specs.Lent.{filled, zeros, entries_of}
 use Rattle.definition.specs.Compile.{jump_targets, patch_jumps, in_reach, finalize_function}
 use Rattle.definition.specs.Claims.{Each}
 use Rattle.store.specs.Fill.{zeroed_from}
-use Rattle.store.proofs.Fills.{front, length-filled}
-use Rattle.optimize.specs.View.{map_in, pipeline, passes, Bounds, Ran, Remaps, Runnable, Tables}
+use Rattle.store.proofs.Fills.{front, length-filled, zeroed-is}
+use Rattle.opcode.specs.Table.{IsTable}
+use Rattle.optimize.specs.View.{map_in, pipeline, passes, Bounds, Ran, Remaps, Runnable}
 use Rattle.optimize.proofs.Whole.{same-optimize, same-remap}
 use Rattle.emit.specs.declared.Emitter.{Emitter}
 use Rattle.emit.specs.Book.{labels_in, patches_in, lines_in}
 use Rattle.emit.specs.Steps.{Fine}
 use Rattle.emit.specs.View.{world, state}
 use Rattle.runs.proofs.Finished.{each-so}
-use Rattle.compile.specs.declared.Reach.{Reach}
-use Rattle.compile.specs.declared.Reach.TheVariants as reach
-use Rattle.compile.specs.declared.Finalized.{Finalized}
-use Rattle.compile.specs.declared.Finalized.TheVariants.{Done, Far}
+use Rattle.std.specs.Prelude as std
+use Rattle.std.specs.Prelude.{Some, None, Ok, Err}
 use Rattle.compile.specs.View.{targets_of, targets_in, BoundIn, Inside, Patchable, Moved, Finalizes, reach_view}
 use Rattle.compile.proofs.Patches.{small-targets, same-patches, same-reach}
 
 -- ---- the passes
 
-pub runnable : {sheet rules code : List ℕ} {count : ℕ} (e : Emitter) (book : List ℕ) {targets : List ℕ} → Tables sheet rules count → Fine e → length code ≡ e.size
-    → Each (BoundIn e.size (labels_in book e.labels)) (patches_in book e.patches) → targets ≡ targets_in e book → Runnable sheet rules count code targets
+pub runnable : {sheet code : List ℕ} (e : Emitter) (book : List ℕ) {targets : List ℕ} → IsTable sheet → Fine e → length code ≡ e.size
+    → Each (BoundIn e.size (labels_in book e.labels)) (patches_in book e.patches) → targets ≡ targets_in e book → Runnable sheet code targets
 runnable e book t fine long near is =
-    rw is (record { table = t.table; held = t.held; few = rw long fine.size; small = rw long (small-targets (labels_in book e.labels) (patches_in book e.patches) near) })
+    rw is (record { table = t; few = rw long fine.size; small = rw long (small-targets (labels_in book e.labels) (patches_in book e.patches) near) })
 
 pub moved : (s : Sheet) (rs : List Rule) (e : Emitter) (book code table : List ℕ) {targets code' protected' total' : List ℕ} {end n : ℕ} → targets ≡ targets_in e book → Bounds s code table end
     → Ran (passes s rs (pipeline code targets table)) code code' protected' total' n → Moved (optimize s rs code (targets_in e book)) code code' total' n
@@ -97,12 +96,12 @@ module _ (s : Sheet) (rs : List Rule) (e : Emitter) (code book lines : List ℕ)
   insides q = each-so (λ (p : def.PendingPatch) i. record { is = rw (rewritten, mv.moved p.instruction_offset) i.is }) q.inside
 
   -- 15
-  reached : (f : Reach) → reach_view f ≡ in_reach L (map_in total) P → in_reach L (optimize s rs (take e.size code) (targets_in e book)).map P ≡ reach_view f
+  reached : (f : std.Option ℕ) → reach_view f ≡ in_reach L (map_in total) P → in_reach L (optimize s rs (take e.size code) (targets_in e book)).map P ≡ reach_view f
   reached f r = sym (r ∙ same-reach L (map_in total) _ P mv.moved)
 
-  pub far : (f : Reach) {x : ℕ} {g : Finalized} {b l : List ℕ} → reach_view f ≡ in_reach L (map_in total) P → f ≡ reach.Far x → g ≡ Far x → b ≡ zeros (length b₁) → l ≡ zeros (length lines) → Finalizes s rs e code book lines b l g
+  pub far : {x : ℕ} {b l : List ℕ} → reach_view (Some x) ≡ in_reach L (map_in total) P → b ≡ zeros (length b₁) → l ≡ zeros (length lines) → Finalizes s rs e code book lines b l (Err x)
   unfolding ◌>>◌ jump_targets targets_of
-  far f r q is zb zl = rw is (record { is = λ pool. (rw (reached f r, q), zb ∙ ap (λ n. zeros n) whole_long, zl) })
+  far {x = x} r zb zl = record { is = λ pool. (rw (reached (Some x) r), zb ∙ ap (λ n. zeros n) whole_long, zl) }
 
   module _ {c₂ b₃ : List ℕ} (is : c₂ ≡ patch_jumps L (map_in total) P (take n b₁)) (as_long : length c₂ ≡ length (take n b₁)) (zeroed : b₃ ≡ zeroed_from n (c₂ ++ drop n b₁)) where
     patched : c₂ ≡ patch_jumps L (optimize s rs (take e.size code) (targets_in e book)).map P done
@@ -112,22 +111,22 @@ module _ (s : Sheet) (rs : List Rule) (e : Emitter) (code book lines : List ℕ)
     end_is = as_long ∙ length-take-le n b₁ end-within
 
     held : b₃ ≡ filled (length code) c₂
-    unfolding zeroed_from filled
+    unfolding filled
     held =
         let all : length (c₂ ++ drop n b₁) ≡ length code = rw (length-append, end_is, length-drop, whole_long) (omega (arith, end-within, whole_long)) in
-        zeroed ∙ rw (take_at c₂ (drop n b₁) n end_is, all, end_is)
+        zeroed ∙ zeroed-is n (c₂ ++ drop n b₁) ∙ rw (take_at c₂ (drop n b₁) n end_is, all, end_is)
 
     -- and the lines
     module _ (part : List ℕ) {lines' : List ℕ} {k : ℕ} (there : entries_of part ≡ lines_in book e.lines) (remaps : Remaps (remap_line_map (map_in total) n none (entries_of part)) lines lines' k) where
-      pub finalized : (f : Reach) → reach_view f ≡ in_reach L (map_in total) P → f ≡ reach.Fine → Finalizes s rs e code book lines b₃ lines' (Done (record { size = n; max_stack_depth = e.deepest; entries = k }))
+      pub finalized : reach_view None ≡ in_reach L (map_in total) P → Finalizes s rs e code book lines b₃ lines' (Ok (record { size = n; max_stack_depth = e.deepest; entries = k }))
       unfolding ◌>>◌ finalize_function jump_targets targets_of
-      finalized f reaches fine =
+      finalized reaches =
           let same : remap_line_map (map_in total) n none (entries_of part) ≡ remap_line_map (optimize s rs (take e.size code) (targets_in e book)).map (length done) none (lines_in book e.lines)
           = rw (there, mv.end) (same-remap (map_in total) _ (length done) none (lines_in book e.lines) mv.moved) in
           let r = rw same at remaps in
           record {
             is = λ pool. (
-              rw (reached f reaches, fine),
+              rw (reached None reaches),
               record {
                 code = held ∙ ap (filled (length code)) patched;
                 lines = r.is;

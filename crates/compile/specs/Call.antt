@@ -1,7 +1,10 @@
 -- What the parts of the call give, said of the definition.
 use Rattle.std.specs.Prelude.{◌≡◌, ℕ, ◌*◌, ◌≤◌, List, length}
 use Rattle.definition.specs.Limits.{max_code, max_constants, max_lines, entry_size}
+use Rattle.std.specs.Prelude.{Result, Ok, Err}
 use Rattle.definition.specs.Res.{Res, ok, refuse, ◌>>=◌}
+use Rattle.definition.specs.View.{refusal_number, res_of}
+use Rattle.definition.specs.declared.Refused.{Refused}
 use Rattle.definition.specs.Opcode.{Sheet}
 use Rattle.definition.specs.Rules.{Rule}
 use Rattle.definition.specs.Emit as def
@@ -9,9 +12,7 @@ use Rattle.definition.specs.Lent.{filled, entry_numbers}
 use Rattle.definition.specs.Compile as compile
 use Rattle.definition.specs.Compile.{FinalizedFunction, Room, answer}
 use Rattle.compile.specs.View.{finalizing}
-use Rattle.compile.specs.declared.call.Answer.{Answer}
-use Rattle.compile.specs.declared.call.Outcome.{Outcome}
-use Rattle.compile.specs.declared.call.Outcome.TheVariants.{Refused, Finished}
+use Rattle.compile.specs.declared.call.Compiled.{Compiled}
 
 abbrev pub room_of : ℕ → ℕ → ℕ → Room
 room_of code constants lines = record { code = code; constants = constants; lines = lines }
@@ -26,10 +27,21 @@ pub record Roomy (r : Room) : Type 0 where
   pub lines : max_lines * entry_size ≤ r.lines
 
 -- the answer with what the outputs hold
-abbrev pub answer_view : Answer → List ℕ → List ℕ → List ℕ → compile.Answer
-answer_view r code constants lines = record {
-  number = r.number;
-  place = r.place;
+abbrev pub answer_view : Result Compiled Refused → List ℕ → List ℕ → List ℕ → compile.Answer
+answer_view (Err e) code constants lines = record {
+  number = refusal_number e.refusal;
+  place = e.place;
+  code_length = 0;
+  depth = 0;
+  constant_count = 0;
+  entry_count = 0;
+  code = code;
+  constants = constants;
+  lines = lines;
+}
+answer_view (Ok r) code constants lines = record {
+  number = 0;
+  place = 0;
   code_length = r.bytes;
   depth = r.depth;
   constant_count = r.constants;
@@ -44,9 +56,9 @@ abbrev pub finishing : Sheet → List Rule → Res def.Emitter → Res Finalized
 finishing s rs x = x >>= λ d. finalizing s rs d
 
 -- what the part behind the sheet comes to
-abbrev pub outcome_of : Res FinalizedFunction → Outcome
-outcome_of (refuse n p) = Refused n p
-outcome_of (ok f) = Finished (length f.bytecode) f.depth (length f.constants) (length f.line_map)
+abbrev pub outcome_of : Res FinalizedFunction → Res Compiled
+outcome_of (refuse n p) = refuse n p
+outcome_of (ok f) = ok (record { bytes = length f.bytecode; depth = f.depth; constants = length f.constants; entries = length f.line_map })
 
 -- the outputs hold a result, and 0 up to their ends
 pub record Held (f : FinalizedFunction) (bytes words numbers bytes' words' numbers' : List ℕ) : Type 0 where
@@ -55,21 +67,11 @@ pub record Held (f : FinalizedFunction) (bytes words numbers bytes' words' numbe
   pub lines : numbers' ≡ filled (length numbers) (entry_numbers f.line_map)
 
 -- a refusal, after which nothing is said of the outputs; or a result in them
-pub record Ends (x : Res FinalizedFunction) (bytes words numbers bytes' words' numbers' : List ℕ) (r : Outcome) : Type 0 where
-  pub is : r ≡ outcome_of x
+pub record Ends (x : Res FinalizedFunction) (bytes words numbers bytes' words' numbers' : List ℕ) (r : Result Compiled Refused) : Type 0 where
+  pub is : res_of (λ c. c) r ≡ outcome_of x
   pub held : (f : FinalizedFunction) → x ≡ ok f → Held f bytes words numbers bytes' words' numbers'
 
 -- the answer that follows: only here are outputs zeroed
-abbrev pub settled : Outcome → List ℕ → List ℕ → List ℕ → compile.Answer
-settled (Refused n p) code constants lines = answer (room code constants lines) (refuse n p)
-settled (Finished a d k e) code constants lines = record {
-  number = 0;
-  place = 0;
-  code_length = a;
-  depth = d;
-  constant_count = k;
-  entry_count = e;
-  code = code;
-  constants = constants;
-  lines = lines;
-}
+abbrev pub settled : Result Compiled Refused → List ℕ → List ℕ → List ℕ → compile.Answer
+settled (Err e) code constants lines = answer (room code constants lines) (refuse (refusal_number e.refusal) e.place)
+settled (Ok r) code constants lines = answer_view (Ok r) code constants lines

@@ -1,3 +1,4 @@
 pub mod View
 pub mod Call
 pub mod Entry
+pub mod Props

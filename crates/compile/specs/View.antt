@@ -1,5 +1,7 @@
 -- What this crate's functions give, said of the definition.
 use Rattle.std.specs.Prelude.{◌≡◌, ℕ, ◌+◌, ◌/◌, ◌≤◌, List, map, length}
+use Rattle.std.specs.Prelude as std
+use Rattle.std.specs.Prelude.{Some, None, Result, Ok, Err}
 use Rattle.std.proofs.Math.Option.{Option}
 use Rattle.definition.specs.Limits.{far_branch}
 use Rattle.definition.specs.Res.{Res, ok, refuse, ◌>>◌, demand}
@@ -20,10 +22,6 @@ use Rattle.emit.specs.Book.{labels_in, patches_in}
 use Rattle.emit.specs.View.{world, state}
 use Rattle.compile.specs.declared.FinalizedFunction.{FinalizedFunction}
 use Rattle.compile.specs.declared.Branch.{Branch}
-use Rattle.compile.specs.declared.Reach.{Reach}
-use Rattle.compile.specs.declared.Reach.TheVariants as reach
-use Rattle.compile.specs.declared.Finalized.{Finalized}
-use Rattle.compile.specs.declared.Finalized.TheVariants.{Done, Far}
 
 -- ---- branches
 
@@ -60,13 +58,10 @@ pub record IsBranch (labels : List (Option ℕ)) (m : OffsetMap) (p : PendingPat
 abbrev pub demanded : Branch → Res (Unit {0})
 demanded b = demand (near b.target b.next) far_branch b.from
 
-abbrev pub reach_view : Reach → Res (Unit {0})
-reach_view reach.Fine = ok tt
-reach_view (reach.Far x) = refuse far_branch x
-
--- with one branch more
-abbrev pub reached_with : Reach → Branch → Res (Unit {0})
-reached_with known b = reach_view known >> demanded b
+-- the first far branch
+abbrev pub reach_view : std.Option ℕ → Res (Unit {0})
+reach_view None = ok tt
+reach_view (Some x) = refuse far_branch x
 
 -- what the three passes make of emitted code
 abbrev pub passed : Sheet → List Rule → def.Emitter → Pipeline
@@ -99,10 +94,10 @@ abbrev pub finalizing : Sheet → List Rule → def.Emitter → Res compile.Fina
 finalizing s rules d = in_reach d.labels (passed s rules d).map d.patches >> ok (finalize_function s rules d)
 
 -- what that comes to, with f for finished code; outputs of 0 behind 15
-abbrev pub Comes : Res compile.FinalizedFunction → compile.FinalizedFunction → List ℕ → List ℕ → List ℕ → List ℕ → Finalized → Type 0
-Comes x f bytes numbers bytes' numbers' (Done r) = (x ≡ ok f) × Holds f bytes numbers bytes' numbers' r
-Comes x f bytes numbers bytes' numbers' (Far p) = (x ≡ refuse far_branch p) × (bytes' ≡ zeros (length bytes)) × (numbers' ≡ zeros (length numbers))
+abbrev pub Comes : Res compile.FinalizedFunction → compile.FinalizedFunction → List ℕ → List ℕ → List ℕ → List ℕ → Result FinalizedFunction ℕ → Type 0
+Comes x f bytes numbers bytes' numbers' (Ok r) = (x ≡ ok f) × Holds f bytes numbers bytes' numbers' r
+Comes x f bytes numbers bytes' numbers' (Err p) = (x ≡ refuse far_branch p) × (bytes' ≡ zeros (length bytes)) × (numbers' ≡ zeros (length numbers))
 
 -- whatever the pool, which is finished as it stands
-pub record Finalizes (s : Sheet) (rules : List Rule) (e : Emitter) (code book lines code' lines' : List ℕ) (r : Finalized) : Type 0 where
+pub record Finalizes (s : Sheet) (rules : List Rule) (e : Emitter) (code book lines code' lines' : List ℕ) (r : Result FinalizedFunction ℕ) : Type 0 where
   pub is : (pool : List ℕ) → Comes (finalizing s rules (state (world e code book pool))) (finalize_function s rules (state (world e code book pool))) code lines code' lines' r

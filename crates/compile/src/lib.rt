@@ -1,25 +1,25 @@
 // From the emitter to finished code (compile.rs `finalize_function`, emit.rs `patch_jumps`), and 15 between its passes and patching.
 #![tactic(auto)]
 
-ghost use Rattle.std.specs.Prelude.{◌≡◌, ◌*◌, ◌≤◌, [], length};
-ghost use Rattle.definition.specs.Limits.{max_code, max_lines, entry_size};
-ghost use Rattle.definition.specs.Lent.{zeros};
+ghost use Rattle.std.specs.Prelude.{◌≡◌, ◌+◌, ◌*◌, ◌<◌, ◌≤◌, [], length};
+ghost use Rattle.definition.specs.Limits.{max_code, max_branches, max_lines, entry_size};
 ghost use Rattle.definition.specs.Optimize.{optimize};
 ghost use Rattle.definition.specs.Compile.{patch_jump, patch_jumps, near, in_reach};
 ghost use Rattle.definition.specs.Claims.{Each};
-ghost use Rattle.opcode.specs.Table.{sheet_in};
+ghost use Rattle.opcode.specs.Table.{IsTable, sheet_in};
 ghost use Rattle.rules.specs.View.{rules_in};
 ghost use Rattle.rewrite.specs.View.{Clear};
-ghost use Rattle.optimize.specs.View.{map_in, Tables};
-ghost use Rattle.emit.specs.Book.{book_size, labels_in, patches_in};
+ghost use Rattle.optimize.specs.View.{map_in};
+ghost use Rattle.emit.specs.Book.{labels_in, patches_in};
 ghost use Rattle.emit.specs.View.{world, state, patch_view};
 ghost use Rattle.emit.specs.Steps.{Fine};
-ghost use Rattle.compile.specs.declared.Finalized.TheVariants.{Far};
-ghost use Rattle.compile.specs.View.{targets_in, BoundIn, Inside, Patchable, IsBranch, reach_view, reached_with, Moved, Finalizes};
+ghost use Rattle.compile.specs.Props.{fine-prop, bound-prop};
+ghost use Rattle.compile.specs.View.{targets_in, BoundIn, Inside, Patchable, IsBranch, reach_view, Moved, Finalizes};
 
 use definition::{MAX_BACK, MAX_BRANCHES, MAX_FORWARD};
 use emit::patch::PendingPatch;
-use emit::{Emitter, book, bytes};
+use emit::{Book, Emitter, book, bytes};
+use rules::Rules;
 
 pub mod call; // call.rt: what the call answers
 pub mod entry; // entry.rt: the call
@@ -28,6 +28,15 @@ pub mod entry; // entry.rt: the call
 const SMALL_BRANCHES: usize = rewrite::SMALL_CODE / 3;
 
 const MIDDLE_BRANCHES: usize = rewrite::MIDDLE_CODE / 3;
+
+// What was emitted: the emitter's counts and its book, in which the label of each pending patch is bound within the code.
+#[derive(Clone, Copy)]
+pub struct Emitted<'a> {
+    pub emitter: Emitter,
+    pub book: &'a Book,
+    pub ghost fine: { Fine emitter } by { fine-prop emitter },
+    pub ghost bound: { Each (BoundIn emitter.size (labels_in book.now emitter.labels)) (patches_in book.now emitter.patches) } by { bound-prop emitter.size (labels_in book.now emitter.labels) (patches_in book.now emitter.patches) },
+}
 
 // Finished code: its bytes and depth, and how many line entries it has.
 #[derive(Clone, Copy)]
@@ -45,327 +54,206 @@ struct Branch {
     target: u16,
 }
 
-// What the test of the branches finds: none is far, or the place of the first that is.
-#[derive(Clone, Copy)]
-enum Reach {
-    Fine,
-    Far(u16),
-}
-
-// What finishing comes to: finished code, or the place of a far branch.
-#[derive(Clone, Copy)]
-pub enum Finalized {
-    Done(FinalizedFunction),
-    Far(u16),
-}
-
 // Where the labels of pending patches are bound, in the order of emission: each is protected.
-fn jump_targets(e: Emitter, book: &[u16], targets: &mut [u16])
-    requires fine { Fine e }
-    requires book_len { length book.now ≡ book_size }
-    requires targets_len { length targets.old ≡ e.patches }
-    requires each { Each (BoundIn e.size (labels_in book.now e.labels)) (patches_in book.now e.patches) }
-    ensures { targets.new ≡ targets_in e book.now }
+fn jump_targets(emitted: Emitted, targets: &mut [u16])
+    requires { length targets.old ≡ emitted.emitter.patches }
+    ensures { targets.new ≡ targets_in emitted.entry.emitter emitted.entry.book.now }
 {
-    let mut i = 0;
-    while i < targets.len() {
-        let patch = book::patch_at(book, i);
-        let place = e.bound_label(book, patch.label);
-        targets[i] = numbers::narrow(place);
-        i += 1;
+    for (i, target) in targets.iter_mut().enumerate() {
+        let patch = book::patch_at(emitted.book, i);
+        let place = emitted.emitter.bound_label(emitted.book, patch.label);
+        *target = place as u16;
     }
 }
 
 // The three passes over emitted code, with the map from its places to where they moved. The tables are lent: an element for each branch, and for each offset.
 fn optimize_emitted(
     sheet: &[u8],
-    rules: &[u16],
-    count: usize,
-    e: Emitter,
-    book: &[u16],
+    rules: Rules,
+    emitted: Emitted,
     code: &mut [u8],
     targets: &mut [u16],
     total: &mut [u16],
     marks: &mut [u8],
     moves: &mut [u16],
 ) -> usize
-    requires tables { Tables sheet.now rules.now count }
-    requires fine { Fine e }
-    requires book_len { length book.now ≡ book_size }
-    requires code_len { length code.old ≡ e.size }
-    requires targets_len { length targets.old ≡ e.patches }
-    requires clear { Clear e.size total.old }
-    requires clear_2 { Clear e.size marks.old }
-    requires clear_3 { Clear e.size moves.old }
-    requires each { Each (BoundIn e.size (labels_in book.now e.labels)) (patches_in book.now e.patches) }
-    ensures { Moved (optimize (sheet_in sheet.now) (rules_in rules.now count) code.old (targets_in e book.now)) code.old code.new total.new result }
+    requires table { IsTable sheet.now }
+    requires code_len { length code.old ≡ emitted.emitter.size }
+    requires targets_len { length targets.old ≡ emitted.emitter.patches }
+    requires clear { Clear emitted.emitter.size total.old }
+    requires clear_2 { Clear emitted.emitter.size marks.old }
+    requires clear_3 { Clear emitted.emitter.size moves.old }
+    ensures { Moved (optimize (sheet_in sheet.now) (rules_in rules.entry.table.now rules.entry.count) code.old (targets_in emitted.entry.emitter emitted.entry.book.now)) code.old code.new total.new result }
 {
-    jump_targets(e, book, targets);
+    jump_targets(emitted, targets);
     optimize::list_boundaries(sheet, code, total);
-    optimize::optimize(sheet, rules, count, code, targets, total, marks, moves)
+    optimize::optimize(sheet, rules, code, targets, total, marks, moves)
 }
 
-fn branch_of(e: Emitter, book: &[u16], moves: &[u16], patch: PendingPatch) -> Branch
-    requires fine { Fine e }
-    requires book_len { length book.now ≡ book_size }
-    requires bound_in { BoundIn e.size (labels_in book.now e.labels) (patch_view patch) }
-    ensures { IsBranch (labels_in book.now e.labels) (map_in moves.now) (patch_view patch) result }
+fn branch_of(emitted: Emitted, moves: &[u16], patch: PendingPatch) -> Branch
+    requires { BoundIn emitted.emitter.size (labels_in emitted.book.now emitted.emitter.labels) (patch_view patch) }
+    ensures { IsBranch (labels_in emitted.entry.book.now emitted.entry.emitter.labels) (map_in moves.now) (patch_view patch) result }
 {
     let from = optimize::moved_to(moves, patch.instruction_offset);
-    let next = numbers::wide(from) + numbers::wide(patch.operand_delta) + 2;
-    let place = e.bound_label(book, patch.label);
-    let target = optimize::moved_to(moves, numbers::narrow(place));
-    Branch {
-        from: from,
-        next: next,
-        target: target,
-    }
+    let next = usize::from(from) + usize::from(patch.operand_delta) + 2;
+    let place = emitted.emitter.bound_label(emitted.book, patch.label);
+    let target = optimize::moved_to(moves, place as u16);
+    Branch { from, next, target }
 }
 
 // Does a signed number of sixteen bits lead from the next place to the target?
+#[tactic(auto, using(std::proofs::lemmas::Bool::Decides::nat_tests), unfolding(definition::specs::Compile::near))]
 fn is_near(target: u16, next: usize) -> bool
     ensures { result ≡ near target next }
 {
-    let to = numbers::wide(target);
-    if to < next {
-        return next - to <= MAX_BACK;
-    }
-    to - next <= MAX_FORWARD
+    let to = usize::from(target);
+    next.saturating_sub(to) <= MAX_BACK && to.saturating_sub(next) <= MAX_FORWARD
 }
 
-// The test with one branch more: the first that is far stays.
-fn reach_with(known: Reach, branch: Branch) -> Reach
-    ensures { reach_view result ≡ reached_with known branch }
+// 15: the place of the first branch, in the order of emission, that is too far from its target.
+fn first_far(emitted: Emitted, moves: &[u16]) -> Option<u16>
+    ensures { reach_view result ≡ in_reach (labels_in emitted.entry.book.now emitted.entry.emitter.labels) (map_in moves.now) (patches_in emitted.entry.book.now emitted.entry.emitter.patches) }
 {
-    match known {
-        Reach::Far(x) => Reach::Far(x),
-        Reach::Fine => {
-            if is_near(branch.target, branch.next) {
-                Reach::Fine
-            } else {
-                Reach::Far(branch.from)
-            }
+    for i in 0..emitted.emitter.patches {
+        let patch = book::patch_at(emitted.book, i);
+        let branch = branch_of(emitted, moves, patch);
+        if !is_near(branch.target, branch.next) {
+            return Some(branch.from);
         }
     }
-}
-
-// 15: the first branch, in the order of emission, that is too far from its target.
-fn in_reach(e: Emitter, book: &[u16], moves: &[u16]) -> Reach
-    requires fine { Fine e }
-    requires book_len { length book.now ≡ book_size }
-    requires each { Each (BoundIn e.size (labels_in book.now e.labels)) (patches_in book.now e.patches) }
-    ensures { reach_view result ≡ in_reach (labels_in book.now e.labels) (map_in moves.now) (patches_in book.now e.patches) }
-{
-    let mut found = Reach::Fine;
-    let mut i = 0;
-    while i < e.patches {
-        let patch = book::patch_at(book, i);
-        let branch = branch_of(e, book, moves, patch);
-        found = reach_with(found, branch);
-        i += 1;
-    }
-    found
+    None
 }
 
 // One branch: the low sixteen bits of its target's place less the next, low byte first, over its two offset bytes.
-fn patch_jump(e: Emitter, book: &[u16], moves: &[u16], patch: PendingPatch, code: &mut [u8])
-    requires fine { Fine e }
-    requires book_len { length book.now ≡ book_size }
+fn patch_jump(emitted: Emitted, moves: &[u16], patch: PendingPatch, code: &mut [u8])
     requires code_len_bound { length code.old ≤ max_code }
-    requires bound_in { BoundIn e.size (labels_in book.now e.labels) (patch_view patch) }
+    requires bound_in { BoundIn emitted.emitter.size (labels_in emitted.book.now emitted.emitter.labels) (patch_view patch) }
     requires inside { Inside (map_in moves.now) (length code.old) (patch_view patch) }
-    ensures code_after { code.new ≡ patch_jump (labels_in book.now e.labels) (map_in moves.now) (patch_view patch) code.old }
+    ensures code_after { code.new ≡ patch_jump (labels_in emitted.entry.book.now emitted.entry.emitter.labels) (map_in moves.now) (patch_view patch) code.old }
     ensures code_len_unchanged { length code.new ≡ length code.old }
 {
-    let branch = branch_of(e, book, moves, patch);
-    let next = numbers::narrow(branch.next);
-    let displacement = std::num::wrapping_sub_u16(branch.target, next);
+    let branch = branch_of(emitted, moves, patch);
+    let next = branch.next as u16;
+    let displacement = branch.target.wrapping_sub(next);
     bytes::push_u16(code, branch.next - 2, displacement);
 }
 
 // Every pending patch, in the order of emission.
-fn patch_jumps(e: Emitter, book: &[u16], moves: &[u16], code: &mut [u8])
-    requires fine { Fine e }
-    requires book_len { length book.now ≡ book_size }
+fn patch_jumps(emitted: Emitted, moves: &[u16], code: &mut [u8])
     requires code_len_bound { length code.old ≤ max_code }
-    requires each { Each (BoundIn e.size (labels_in book.now e.labels)) (patches_in book.now e.patches) }
-    requires each_2 { Each (Inside (map_in moves.now) (length code.old)) (patches_in book.now e.patches) }
-    ensures code_after { code.new ≡ patch_jumps (labels_in book.now e.labels) (map_in moves.now) (patches_in book.now e.patches) code.old }
+    requires inside { Each (Inside (map_in moves.now) (length code.old)) (patches_in emitted.book.now emitted.emitter.patches) }
+    ensures code_after { code.new ≡ patch_jumps (labels_in emitted.entry.book.now emitted.entry.emitter.labels) (map_in moves.now) (patches_in emitted.entry.book.now emitted.entry.emitter.patches) code.old }
     ensures code_len_unchanged { length code.new ≡ length code.old }
 {
-    let mut i = 0;
-    while i < e.patches {
-        let patch = book::patch_at(book, i);
-        patch_jump(e, book, moves, patch, code);
-        i += 1;
+    for i in 0..emitted.emitter.patches {
+        let patch = book::patch_at(emitted.book, i);
+        patch_jump(emitted, moves, patch, code);
     }
-}
-
-// A far branch leaves nothing in the outputs.
-fn far(x: u16, code: &mut [u8], lines: &mut [u16]) -> Finalized
-    ensures value { result ≡ Far x }
-    ensures code_after { code.new ≡ zeros (length code.old) }
-    ensures lines_after { lines.new ≡ zeros (length lines.old) }
-{
-    store::zero_bytes(code, 0);
-    store::zero_numbers(lines, 0);
-    Finalized::Far(x)
 }
 
 // Three passes, then 15, patching and line mapping, over lent tables: an element for each branch, and for each offset of the code.
 fn finalize_in(
     sheet: &[u8],
-    rules: &[u16],
-    count: usize,
-    e: Emitter,
+    rules: Rules,
+    emitted: Emitted,
     code: &mut [u8],
-    book: &[u16],
     lines: &mut [u16],
     targets: &mut [u16],
     total: &mut [u16],
     marks: &mut [u8],
     moves: &mut [u16],
-) -> Finalized
-    requires tables { Tables sheet.now rules.now count }
-    requires fine { Fine e }
+) -> Result<FinalizedFunction, u16>
+    requires table { IsTable sheet.now }
     requires max_code_in_bounds { max_code ≤ length code.old }
-    requires book_len { length book.now ≡ book_size }
     requires entry_size_in_bounds { max_lines * entry_size ≤ length lines.old }
-    requires patchable { Patchable (sheet_in sheet.now) (rules_in rules.now count) (state (world e code.old book.now [])) }
-    requires targets_len { length targets.old ≡ e.patches }
-    requires clear { Clear e.size total.old }
-    requires clear_2 { Clear e.size marks.old }
-    requires clear_3 { Clear e.size moves.old }
-    ensures { Finalizes (sheet_in sheet.now) (rules_in rules.now count) e code.old book.now lines.old code.new lines.new result }
+    requires patchable { Patchable (sheet_in sheet.now) (rules_in rules.table.now rules.count) (state (world emitted.emitter code.old emitted.book.now [])) }
+    requires targets_len { length targets.old ≡ emitted.emitter.patches }
+    requires clear { Clear emitted.emitter.size total.old }
+    requires clear_2 { Clear emitted.emitter.size marks.old }
+    requires clear_3 { Clear emitted.emitter.size moves.old }
+    ensures { Finalizes (sheet_in sheet.now) (rules_in rules.entry.table.now rules.entry.count) emitted.entry.emitter code.old emitted.entry.book.now lines.old code.new lines.new result }
 {
-    let emitted = e.size;
-    let n = optimize_emitted(
-        sheet,
-        rules,
-        count,
-        e,
-        book,
-        &mut code[..emitted],
-        targets,
-        total,
-        marks,
-        moves,
-    );
-    if let Reach::Far(x) = in_reach(e, book, total) {
-        return far(x, code, lines);
+    let e = emitted.emitter;
+    let part = &mut code[..e.size];
+    let n = optimize_emitted(sheet, rules, emitted, part, targets, total, marks, moves);
+    if let Some(from) = first_far(emitted, total) {
+        store::set_from(code, 0, 0);
+        store::set_from(lines, 0, 0);
+        return Err(from);
     }
-    patch_jumps(e, book, total, &mut code[..n]);
-    store::zero_bytes(code, n);
-    let entries = book::emitted_lines(book, e.lines);
+    patch_jumps(emitted, total, &mut code[..n]);
+    store::set_from(code, n, 0);
+    let entries = book::emitted_lines(emitted.book, e.lines);
     let kept = optimize::remap_line_map(total, n, entries, lines);
-    Finalized::Done(FinalizedFunction {
+    Ok(FinalizedFunction {
         size: n,
         max_stack_depth: e.deepest,
         entries: kept,
     })
 }
 
-// Code that is too long for small tables: by middle ones, or by the longest.
-fn finalize_long(
+// The same over tables for `N` offsets and `B` branches, which are cleared once, and used as far as the code goes. Never inlined, so that each size has a frame of its
+// own, and short code never touches the longest tables' pages.
+#[inline(never)]
+fn finalize_over<const N: usize, const B: usize>(
     sheet: &[u8],
-    rules: &[u16],
-    count: usize,
-    e: Emitter,
+    rules: Rules,
+    emitted: Emitted,
     code: &mut [u8],
-    book: &[u16],
     lines: &mut [u16],
-) -> Finalized
-    requires tables { Tables sheet.now rules.now count }
-    requires fine { Fine e }
+) -> Result<FinalizedFunction, u16>
+    requires table { IsTable sheet.now }
     requires max_code_in_bounds { max_code ≤ length code.old }
-    requires book_len { length book.now ≡ book_size }
     requires entry_size_in_bounds { max_lines * entry_size ≤ length lines.old }
-    requires patchable { Patchable (sheet_in sheet.now) (rules_in rules.now count) (state (world e code.old book.now [])) }
-    ensures { Finalizes (sheet_in sheet.now) (rules_in rules.now count) e code.old book.now lines.old code.new lines.new result }
+    requires patchable { Patchable (sheet_in sheet.now) (rules_in rules.table.now rules.count) (state (world emitted.emitter code.old emitted.book.now [])) }
+    requires branches { emitted.emitter.patches ≤ B }
+    requires most_branches { B ≤ max_branches }
+    requires slots { emitted.emitter.size < N }
+    requires most_slots { N ≤ max_code + 1 }
+    ensures { Finalizes (sheet_in sheet.now) (rules_in rules.entry.table.now rules.entry.count) emitted.entry.emitter code.old emitted.entry.book.now lines.old code.new lines.new result }
 {
-    let branches = e.patches;
-    let end = e.size + 1;
-    if e.size <= rewrite::MIDDLE_CODE {
-        let mut targets = [0u16; MIDDLE_BRANCHES];
-        let mut total = [0u16; rewrite::MIDDLE_SLOTS];
-        let mut marks = [0u8; rewrite::MIDDLE_SLOTS];
-        let mut moves = [0u16; rewrite::MIDDLE_SLOTS];
-        finalize_in(
-            sheet,
-            rules,
-            count,
-            e,
-            code,
-            book,
-            lines,
-            &mut targets[..branches],
-            &mut total[..end],
-            &mut marks[..end],
-            &mut moves[..end],
-        )
-    } else {
-        let mut targets = [0u16; MAX_BRANCHES];
-        let mut total = [0u16; rewrite::SLOTS];
-        let mut marks = [0u8; rewrite::SLOTS];
-        let mut moves = [0u16; rewrite::SLOTS];
-        finalize_in(
-            sheet,
-            rules,
-            count,
-            e,
-            code,
-            book,
-            lines,
-            &mut targets[..branches],
-            &mut total[..end],
-            &mut marks[..end],
-            &mut moves[..end],
-        )
-    }
-}
-
-// `finalize_function`, with 15. Both outputs are 0 behind what they hold, and behind 15 whole; the tables are cleared once, and used as far as the code goes.
-// Each test of what small tables hold asks for `finalize_long` by itself: called from two places it keeps a frame of its own, and short code never touches the longest tables' pages.
-pub fn finalize_function(
-    sheet: &[u8],
-    rules: &[u16],
-    count: usize,
-    e: Emitter,
-    code: &mut [u8],
-    book: &[u16],
-    lines: &mut [u16],
-) -> Finalized
-    requires tables { Tables sheet.now rules.now count }
-    requires fine { Fine e }
-    requires max_code_in_bounds { max_code ≤ length code.old }
-    requires book_len { length book.now ≡ book_size }
-    requires entry_size_in_bounds { max_lines * entry_size ≤ length lines.old }
-    requires patchable { Patchable (sheet_in sheet.now) (rules_in rules.now count) (state (world e code.old book.now [])) }
-    ensures { Finalizes (sheet_in sheet.now) (rules_in rules.now count) e code.old book.now lines.old code.new lines.new result }
-{
-    if e.patches > SMALL_BRANCHES {
-        return finalize_long(sheet, rules, count, e, code, book, lines);
-    }
-    if e.size > rewrite::SMALL_CODE {
-        return finalize_long(sheet, rules, count, e, code, book, lines);
-    }
-    let branches = e.patches;
-    let end = e.size + 1;
-    let mut targets = [0u16; SMALL_BRANCHES];
-    let mut total = [0u16; rewrite::SMALL_SLOTS];
-    let mut marks = [0u8; rewrite::SMALL_SLOTS];
-    let mut moves = [0u16; rewrite::SMALL_SLOTS];
+    let branches = emitted.emitter.patches;
+    let end = emitted.emitter.size + 1;
+    let mut targets = [0u16; B];
+    let mut total = [0u16; N];
+    let mut marks = [0u8; N];
+    let mut moves = [0u16; N];
     finalize_in(
         sheet,
         rules,
-        count,
-        e,
+        emitted,
         code,
-        book,
         lines,
         &mut targets[..branches],
         &mut total[..end],
         &mut marks[..end],
         &mut moves[..end],
     )
+}
+
+// `finalize_function`, with 15, whose place is that of the far branch. Both outputs are 0 behind what they hold, and behind 15 whole.
+pub fn finalize_function(
+    sheet: &[u8],
+    rules: Rules,
+    emitted: Emitted,
+    code: &mut [u8],
+    lines: &mut [u16],
+) -> Result<FinalizedFunction, u16>
+    requires table { IsTable sheet.now }
+    requires max_code_in_bounds { max_code ≤ length code.old }
+    requires entry_size_in_bounds { max_lines * entry_size ≤ length lines.old }
+    requires patchable { Patchable (sheet_in sheet.now) (rules_in rules.table.now rules.count) (state (world emitted.emitter code.old emitted.book.now [])) }
+    ensures { Finalizes (sheet_in sheet.now) (rules_in rules.entry.table.now rules.entry.count) emitted.entry.emitter code.old emitted.entry.book.now lines.old code.new lines.new result }
+{
+    if emitted.emitter.patches <= SMALL_BRANCHES && emitted.emitter.size <= rewrite::SMALL_CODE {
+        finalize_over::<{ rewrite::SMALL_SLOTS }, SMALL_BRANCHES>(
+            sheet, rules, emitted, code, lines,
+        )
+    } else if emitted.emitter.size <= rewrite::MIDDLE_CODE {
+        finalize_over::<{ rewrite::MIDDLE_SLOTS }, MIDDLE_BRANCHES>(
+            sheet, rules, emitted, code, lines,
+        )
+    } else {
+        finalize_over::<{ rewrite::SLOTS }, MAX_BRANCHES>(sheet, rules, emitted, code, lines)
+    }
 }

@@ -92,7 +92,7 @@ fn negative(number: Option<u64>) -> Result<u32, Fault>
 }
 
 // Where what starts at `at` ends: at the first byte that stops it, or with the bytes. A loop, since `position` over the part from `at` on takes a tenth
-// more instructions for reading a sheet.
+// more instructions for reading rules.
 fn end_where<F: Fn(u8) -> bool>(bytes: &[u8], at: usize, stops: F) -> usize
     requires { F.IsAlwaysCallable stops }
     ensures { (test : ℕ → Bool) → ((b : ℕ) (r : Bool) → F.post stops b r → r ≡ test b) → Ends (until test) bytes.now at result }

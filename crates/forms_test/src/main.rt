@@ -46,8 +46,8 @@ fn print_emitted<W: Write>(out: &mut W, e: Emitter, code: &[u8], book: &Book) ->
     print_bytes(out, &code[..e.size])?;
     for n in 0..e.patches {
         let patch = book::patch_at(book, n);
-        print(out, u64::from(patch.instruction_offset), b',')?;
-        print(out, u64::from(e.bound_label(book, patch.label)), b'\n')?;
+        print(out, patch.instruction_offset as u64, b',')?;
+        print(out, e.bound_label(book, patch.label) as u64, b'\n')?;
     }
     Ok(())
 }

@@ -233,6 +233,7 @@ pub fn mark_starts(sheet: &[u8], code: &[u8], flags: &mut [u8])
     ensures { Image sheet.now code.now flags.new }
 {
     let mut at = 0;
+    // No `for`: the step is the instruction's size.
     while let Some(i) = rewrite::decode(sheet, code, at) {
         if !is_listed(sheet, i) {
             return;

@@ -3,15 +3,12 @@ use mathlib.Core.Path.{◌≡◌, refl, ap, sym, ◌∙◌}
 use mathlib.Core.List.{List, [], ◌∷◌, ◌++◌, append_assoc}
 use Prim.Native.Nat.{ℕ, zero, suc, ◌+◌, ◌*◌, ◌/◌, ◌≤◌, ◌<◌}
 use native.Mathlib.Omega.{arith}
-use lib.ListN.{length, get_or, take, drop, length-drop, length-append}
-use lib.Seq.{get_or-drop, drop-drop, drop_at}
+use lib.ListN.{length, take, drop, length-drop, length-append}
+use lib.Seq.{drop-drop, drop_at}
 use Rattle.definition.specs.Limits.{entry_size}
 use Rattle.definition.specs.Tree.{pos_numbers, pos_of}
 use Rattle.definition.specs.Emit.{LineEntry}
 use Rattle.definition.specs.Lent.{one_entry, entry_in, entry_numbers, first_entries, entries_of}
-use Rattle.store.specs.Store.{Store, push, push_all}
-use Rattle.line_map.specs.declared.LineEntry as code
-use Rattle.line_map.specs.View.{entry_view}
 
 -- ---- one entry: these laws know its numbers, those below only how many they are
 
@@ -29,15 +26,6 @@ in-front [] h = absurd (omega arith)
 in-front (a ∷ []) h = absurd (omega arith)
 in-front (a ∷ b ∷ []) h = absurd (omega arith)
 in-front (a ∷ b ∷ c ∷ ns) h = refl
-
--- in code
-pub entry-is : (e : code.LineEntry) (ns : List ℕ) → e.offset ≡ get_or ns 0 0 → e.pos.line ≡ get_or ns 1 0 → e.pos.column ≡ get_or ns 2 0 → entry_view e ≡ entry_in ns
-unfolding entry_in pos_of
-entry-is e ns a b c = rw (a, b, c, get_or-drop 1 ns 0 0, get_or-drop 1 ns 1 0)
-
-pub entry-put : (e : code.LineEntry) (s : Store) {t u v : Store} → t ≡ push s e.offset → u ≡ push t e.pos.line → v ≡ push u e.pos.column → v ≡ push_all s (one_entry (entry_view e))
-unfolding one_entry pos_numbers push_all
-entry-put e s a b c = c ∙ ap (λ (w : Store). push w e.pos.column) (b ∙ ap (λ (w : Store). push w e.pos.line) a)
 
 -- ---- many
 

@@ -17,6 +17,7 @@ pub struct Pos {
 
 impl Pos {
     // `==`, named for what it decides in the definition.
+    #[tactic(auto, unfolding(definition::specs::Emit::same_pos))]
     pub fn same(self, other: Pos) -> bool
         ensures { result ≡ same_pos (pos_view self) (pos_view other) }
     {
@@ -42,6 +43,7 @@ fn number_at(list: &[u16], at: usize, k: usize) -> u16
 }
 
 // The entry whose numbers start at a place.
+#[tactic(auto, unfolding(definition::specs::Lent::entry_in, definition::specs::Tree::pos_of))]
 pub fn entry_at(list: &[u16], at: usize) -> LineEntry
     ensures { entry_view result ≡ entry_in (drop at list.now) }
 {
@@ -55,6 +57,7 @@ pub fn entry_at(list: &[u16], at: usize) -> LineEntry
 }
 
 // An entry's numbers put from a place on, as far as there is room; the place behind them is answered.
+#[tactic(auto, unfolding(store::specs::Store::push_all, definition::specs::Lent::one_entry, definition::specs::Tree::pos_numbers))]
 pub fn put_entry(list: &mut [u16], used: usize, entry: LineEntry) -> usize
     ensures { at list.new result ≡ push_all (at list.old used) (one_entry (entry_view entry)) }
 {

@@ -10,10 +10,11 @@ ghost use Rattle.definition.specs.Check.{Checks};
 ghost use Rattle.definition.specs.Slowest.{Measures};
 ghost use Rattle.compile.specs.Call as call;
 ghost use Rattle.optimize.specs.View as alone;
-ghost use Rattle.slowest.specs.View.{bit};
 ghost use Rattle.mezhukan.specs.Exported.{compiled, rewritten, measured};
 
+use definition::Refused;
 use emit::Constant;
+use slowest::Measured;
 
 // Numbers of an answer of the call: number, place, bytes, depth, constants, line entries.
 pub const COMPILED: usize = 6;
@@ -39,16 +40,23 @@ pub fn mezhukan_compile(
     ensures safe { result ≡ 0 → Safe sheet.now rules.now program.now (compiled answer.new code.new constants.new lines.new) }
     ensures faithful { result ≡ 0 → length rules.now ≡ 0 → Faithful sheet.now program.now (compiled answer.new code.new constants.new lines.new) }
 {
-    let a = compile::entry::compile(sheet, rules, program, code, constants, lines);
-    *answer = [
-        a.number as u64,
-        a.place as u64,
-        a.bytes as u64,
-        a.depth as u64,
-        a.constants as u64,
-        a.entries as u64,
-    ];
-    a.number
+    match compile::entry::compile(sheet, rules, program, code, constants, lines) {
+        Err(Refused { refusal, place }) => {
+            *answer = [u64::from(refusal.number()), place as u64, 0, 0, 0, 0];
+            refusal.number()
+        }
+        Ok(c) => {
+            *answer = [
+                0,
+                0,
+                c.bytes as u64,
+                c.depth as u64,
+                c.constants as u64,
+                c.entries as u64,
+            ];
+            0
+        }
+    }
 }
 
 // Rewriting and line mapping called alone. A refusal's number is answered, or 0.
@@ -66,17 +74,18 @@ pub fn mezhukan_rewrite_alone(
     ensures rewrites { Rewrites (alone.room bytes.old offsets.old entries.old) sheet.now rules.now (alone.given code.now protected.now lines.now) (rewritten answer.new bytes.new offsets.new entries.new) }
     ensures value { result ≡ (rewritten answer.new bytes.new offsets.new entries.new).number }
 {
-    let a = optimize::rewrite_alone(
+    match optimize::rewrite_alone(
         sheet, rules, code, protected, lines, bytes, offsets, entries,
-    );
-    *answer = [
-        a.number as u64,
-        a.place as u64,
-        a.bytes as u64,
-        a.protected as u64,
-        a.entries as u64,
-    ];
-    a.number
+    ) {
+        Err(Refused { refusal, place }) => {
+            *answer = [u64::from(refusal.number()), place as u64, 0, 0, 0];
+            refusal.number()
+        }
+        Ok(r) => {
+            *answer = [0, 0, r.bytes as u64, r.protected as u64, r.entries as u64];
+            0
+        }
+    }
 }
 
 // Code of an image from the old configurator, checked against a sheet and its declared depth. A refusal's number is answered, or 0 if it passes.
@@ -89,18 +98,16 @@ pub fn mezhukan_check_image(
     ensures checks { Checks sheet.now code.now depth (get_or answer.new 0 0) (get_or answer.new 1 0) }
     ensures value { result ≡ get_or answer.new 0 0 }
 {
-    let a = image_check::check_image(sheet, code, depth);
-    *answer = [a.number as u64, a.place as u64];
-    a.number
-}
-
-fn bit(b: bool) -> u64
-    ensures { result ≡ bit b }
-{
-    if b {
-        return 1;
+    match image_check::check_image(sheet, code, depth) {
+        Err(Refused { refusal, place }) => {
+            *answer = [u64::from(refusal.number()), place as u64];
+            refusal.number()
+        }
+        Ok(()) => {
+            *answer = [0, 0];
+            0
+        }
     }
-    0
 }
 
 // The slowest call of code, checked as an image is. A refusal's number is answered, or 0.
@@ -114,14 +121,23 @@ pub fn mezhukan_slowest(
     ensures measures { Measures (length outcomes.old) sheet.now code.now depth (measured answer.new outcomes.new) }
     ensures value { result ≡ (measured answer.new outcomes.new).number }
 {
-    let a = slowest::slowest(sheet, code, depth, outcomes);
-    let loops = bit(a.loops);
-    *answer = [
-        a.number as u64,
-        a.place as u64,
-        loops,
-        a.instructions as u64,
-        a.outcomes as u64,
-    ];
-    a.number
+    match slowest::slowest(sheet, code, depth, outcomes) {
+        Err(Refused { refusal, place }) => {
+            *answer = [u64::from(refusal.number()), place as u64, 0, 0, 0];
+            refusal.number()
+        }
+        Ok(Measured::Loops) => {
+            *answer = [0, 0, 1, 0, 0];
+            0
+        }
+        Ok(
+            Measured::Run {
+                instructions,
+                outcomes,
+            },
+        ) => {
+            *answer = [0, 0, 0, u64::from(instructions), outcomes as u64];
+            0
+        }
+    }
 }

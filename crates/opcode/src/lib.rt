@@ -79,8 +79,8 @@ pub enum Role {
     Ret,
 }
 
-// Every role at its number.
-const ROLES: [Role; ROLE_COUNT] = [
+// Every role at its number. A static: a const of this size is copied where it is indexed.
+static ROLES: [Role; ROLE_COUNT] = [
     Role::Dup,
     Role::Pop,
     Role::LoadVar,
@@ -237,7 +237,7 @@ impl Role {
     pub fn numbered(n: u8) -> Role
         ensures { role_view result ≡ role_numbered n }
     {
-        // Over a literal table of this length the proof of `get(..).copied().unwrap_or(..)` does not close.
+        // Over a literal table of this length the proof of `get(..).copied().unwrap_or(..)` does not close (three tries).
         let i = usize::from(n);
         if i < ROLE_COUNT { ROLES[i] } else { Role::Ret }
     }

@@ -89,7 +89,8 @@ fn rewrite_checked(
     })
 }
 
-// The same over tables of N elements, of which as many are used as the code has offsets.
+// The same over tables of N elements, of which as many are used as the code has offsets. Never inlined, so that each size has a frame of its own.
+#[inline(never)]
 fn rewrite_over<const N: usize>(
     sheet: &[u8],
     rules: Rules,

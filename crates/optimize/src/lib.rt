@@ -1,4 +1,4 @@
-// The three passes and line mapping (optimize/mod.rs).
+// The three passes and line mapping (optimize/mod.rs). What is lent stays parameters: a struct that holds `&mut`s needs a clause for each of them in every contract.
 #![tactic(auto)]
 
 ghost use Rattle.std.specs.Prelude.{◌≡◌, map, [], ◌∷◌, ◌*◌, ◌/◌, ◌≤◌, suc, length};
@@ -61,6 +61,7 @@ pub fn list_boundaries(sheet: &[u8], code: &[u8], table: &mut [u16]) -> usize
     ensures { Bounds (sheet_in sheet.now) code.now table.new result }
 {
     let mut at = 0;
+    // No `for`: the step is the instruction's size.
     while let Some(i) = rewrite::decode(sheet, code, at) {
         table[at] = at as u16;
         at += i.len();
@@ -92,7 +93,7 @@ fn check_protected(table: &[u16], list: &[u16]) -> Result<(), u16>
     Ok(())
 }
 
-// The first of the line entries' offsets that is no boundary is the error.
+// The first of the line entries' offsets that is no boundary is the error. (A list of three numbers an entry: over any iterator one function for both is no plainer.)
 fn check_lines(table: &[u16], lines: &[u16]) -> Result<(), u16>
     requires { 1 ≤ length table.now }
     ensures { offset_view result ≡ boundaries (fixed_in table.now) (entry_offsets lines.now) }

@@ -164,6 +164,7 @@ pub fn next_line(text: &[u8], c: Cursor, end: usize) -> Cursor
 // ---- walks
 
 // A walk over parts of a program of so many variables. One that heeds no fault is never refused: it goes on from a line at fault.
+// Its four loops over parts stay four: two of them lend `ends` on, and they stand in two cycles, so one function for them is no plainer.
 #[derive(Clone, Copy)]
 struct Walk<'a> {
     text: &'a [u8],

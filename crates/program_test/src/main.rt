@@ -66,12 +66,14 @@ fn answer<W: Write>(out: &mut W, text: &[u8]) -> io::Result<()> {
             print(out, u64::from(refused.refusal.number()), b',')?;
             print(out, refused.place as u64, b'\n')
         }
-        Ok(Checked {
-            variables,
-            statements,
-            pos,
-            next,
-        }) => {
+        Ok(
+            Checked {
+                variables,
+                statements,
+                pos,
+                next,
+            },
+        ) => {
             print(out, 0, b',')?;
             print(out, u64::from(variables), b',')?;
             print(out, u64::from(statements), b',')?;
@@ -86,6 +88,7 @@ fn answer<W: Write>(out: &mut W, text: &[u8]) -> io::Result<()> {
 fn answer_all<W: Write>(out: &mut W, input: &[u8], text: &mut [u8]) -> io::Result<()> {
     let mut rest = input;
     let mut used = 0;
+    // Each chunk says where the next one starts, so the step varies.
     while !rest.is_empty() {
         let Some(c) = read_chunk(rest) else {
             return answer(out, &text[..used]);

@@ -175,6 +175,7 @@ pub fn apply_peephole(
     let mut at = 0;
     let mut to = 0;
     let mut next = None;
+    // No `for`: the step is the instruction's size.
     while let Some(plan) = decide(sheet, &matcher, marks, code, at, next) {
         moves[at] = to as u16;
         to = apply(code, at, to, plan.size, plan.action);

@@ -120,7 +120,7 @@ works-measured sheet code depth outcomes counts small passed known c f =
     let run = slowest (sheet_in sheet) code known.straight depth (passed.passes.0 refl) in
     measures passed known.straight (subst (λ n. Slowest (sheet_in sheet) code n (longest (sheet_in sheet) code 0).outcomes) (sym (c ∙ known.exact 0 (omega arith))) run) (few (sheet_in sheet) code known.straight 0 small) f
 
-refused-number : (r : Refusal) → refusal_number r ≡ 0 → ⊥
+pub refused-number : (r : Refusal) → refusal_number r ≡ 0 → ⊥
 refused-number BadText e = absurd (omega arith)
 refused-number BadForm e = absurd (omega arith)
 refused-number BadRange e = absurd (omega arith)

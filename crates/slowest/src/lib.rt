@@ -142,6 +142,7 @@ fn follow(image: Flagged, counts: &[u16], outcomes: &mut [u8]) -> usize
 {
     let mut p = 0;
     let mut n = 0;
+    // No `for`: each place says where the run goes on.
     loop {
         let way = way_at(image, counts, p);
         let Some(q) = place_behind(way) else {

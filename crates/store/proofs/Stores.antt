@@ -3,7 +3,6 @@ use mathlib.Core.Path.{◌≡◌, refl, ap, sym, ◌∙◌}
 use mathlib.Core.Bool.{Bool, true, false}
 use mathlib.Core.List.{List, [], ◌∷◌, ◌++◌, append_assoc, append-nil}
 use Prim.Native.Nat.{ℕ, suc, ◌+◌, ◌≤◌, ◌<◌}
-use native.Mathlib.Numerals.{add-one}
 use native.Mathlib.Omega.{arith}
 use borrow.Author.Tests.{lt-ltb, le-ltb, ltb-true, ltb-false}
 use lib.Dec.{ltb}
@@ -20,13 +19,6 @@ push-room s x h = rw (lt-ltb s.used (length s.cells) h, push)
 pub push-full : {A : Type 0} (s : StoreOf A) (x : A) → length s.cells ≤ s.used → push s x ≡ s
 unfolding push
 push-full s x h = rw (le-ltb s.used (length s.cells) h, push)
-
--- the same, of the code's results
-pub pushed : {A : Type 0} (cells : List A) (used : ℕ) (x : A) → used < length cells → at (set cells used x) (used + 1) ≡ push (at cells used) x
-pushed cells used x h = rw (add-one used) (sym (push-room (at cells used) x h))
-
-pub unpushed : {A : Type 0} (cells : List A) (used : ℕ) (x : A) → length cells ≤ used → at cells used ≡ push (at cells used) x
-unpushed cells used x h = sym (push-full (at cells used) x h)
 
 -- ---- what a store keeps to: no more elements are used than there are
 

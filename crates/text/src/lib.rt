@@ -285,6 +285,7 @@ impl<'a> Text<'a> {
         ensures same { self.new.out.ghost_name ≡ self.old.out.ghost_name }
     {
         let mut place = 0;
+        // No `for`: the step is the instruction's size.
         while let Some(i) = rewrite::decode(table, code, place) {
             self.put_instruction(place as u64, i);
             place += i.len();
