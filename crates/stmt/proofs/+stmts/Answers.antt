@@ -5,7 +5,7 @@ use Rattle.stmt_parts.proofs.Walks.{inner-left, inner-inside}
 use Rattle.stmt.proofs.Walks.{nested, stands_here, reads, inner-noted}
 use Rattle.stmt.proofs.Simple.{ran-assign, ran-return, ran-exit, ran-continue}
 use Rattle.stmt.proofs.Laws.{begins, goes_on, stays, ends, ran-if, ran-loop, ran-for, else-none, else-some, if-done, for-done}
-use Rattle.stmt.proofs.Looping.{body-done, plain_done, while-done, repeat-done, while-places, repeat-places, is-while, is-repeat, is_plain}
+use Rattle.stmt.proofs.Looping.{body-done, plain_done, while-done, repeat-done, is-while, is-repeat, is_plain}
 use Rattle.stmt.proofs.Cases.{arm-none, arm-some, arms-begin, arms-on, arms-bad, arms_end_lem, case-done, ran-case}
 use Rattle.stmt.proofs.+stmts.Goals as goal
 use Rattle.stmt.proofs.+stmts.Goals.{sequence-in-Ok, sequence-in-Err}
