@@ -147,13 +147,17 @@ pub sheet-good : {sheet table : List ℕ} → Accepts sheet table → Good (shee
 sheet-good {sheet} {table} d = good sheet (sheet_in table) d.is
 
 -- what the call answers, demand 3 of it and, for an empty rule file, that it does what the statements say
+pub answered : {r : Room} {sheet rules program : List ℕ} {a : compile.Answer} → Compiles r sheet rules program a → Compiles r sheet rules program a × ((a.number ≡ 0 → Safe sheet rules program a) × (a.number ≡ 0 → length rules ≡ 0 → Faithful sheet program a))
+answered {r} {sheet} {rules} {program} {a} k = (k, (λ z. compiled-safe r sheet rules program a k z, λ z e. compiled-faithful r sheet rules program a k z e))
+
+-- the same of what code answers
 module _ (sheet rules program : List ℕ) {code constants lines b k l : List ℕ} (b' k' l' : List ℕ) {o : Result Compiled Refused} (f : Finds sheet rules program code constants lines b k l o) (r : Result Compiled Refused)
     (is : answer_view r b' k' l' ≡ settled o b k l) (eb : length b ≡ length code) (ek : length k ≡ length constants) (el : length l ≡ length lines) where
-  pub answered : Compiles (room code constants lines) sheet rules program (answer_view r b' k' l')
-  answered = record { place = f.place; free = f.free; is = is ∙ settled_is (compile_into f.place (room code constants lines) sheet rules program) f.ends eb ek el }
+  pub call-answers : Compiles (room code constants lines) sheet rules program (answer_view r b' k' l')
+  call-answers = record { place = f.place; free = f.free; is = is ∙ settled_is (compile_into f.place (room code constants lines) sheet rules program) f.ends eb ek el }
 
   pub answered-safe : OnOk r (Safe sheet rules program (answer_view r b' k' l'))
-  answered-safe = on_ok (λ a. Safe sheet rules program a) r b' k' l' (compiled-safe (room code constants lines) sheet rules program (answer_view r b' k' l') answered)
+  answered-safe = on_ok (λ a. Safe sheet rules program a) r b' k' l' (answered call-answers).1.0
 
   pub answered-faithful : OnOk r (length rules ≡ 0 → Faithful sheet program (answer_view r b' k' l'))
-  answered-faithful = on_ok (λ a. length rules ≡ 0 → Faithful sheet program a) r b' k' l' (compiled-faithful (room code constants lines) sheet rules program (answer_view r b' k' l') answered)
+  answered-faithful = on_ok (λ a. length rules ≡ 0 → Faithful sheet program a) r b' k' l' (answered call-answers).1.1

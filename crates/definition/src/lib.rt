@@ -121,6 +121,7 @@ impl Refusal {
     pub fn number(self) -> u8
         ensures { result ≡ refusal_number self }
     {
+        // An arm for each, and no discriminants, so that each number stands once: in its constant.
         match self {
             Refusal::BadText => BAD_TEXT,
             Refusal::BadForm => BAD_FORM,

@@ -497,6 +497,7 @@ impl Emitter {
         self.emit_branch(sheet, code, book, Role::Jmp, patch)
     }
 
+    // The source's two methods, each one call.
     pub fn emit_jmp_if_not(
         self,
         sheet: &[u8],

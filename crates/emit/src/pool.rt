@@ -16,6 +16,7 @@ const LINK_BASE: usize = HEAD_BASE + BUCKETS;
 
 const COUNT_AT: usize = LINK_BASE + MAX_CONSTANTS;
 
+// Numbers behind the constants, in one list of fixed size, as `Held` speaks of it; 0 is no link.
 const STALE_AT: usize = COUNT_AT + 1;
 
 // Constants of a pool, with its table.

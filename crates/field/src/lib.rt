@@ -24,7 +24,7 @@ pub enum Fault {
     Outside,
 }
 
-// A field of a text as it is read, where it ends, and the byte that it ends at: a comma, an LF, or 0 for the text's end. A value is its two's complement bits.
+// A field of a text as it is read, where it ends, and the byte that it ends at: a comma, an LF, or 0 for the text's end (no Option: a byte is what a field's end is compared with, and 0 ends none). A value is its two's complement bits.
 #[derive(Clone, Copy)]
 pub struct Next {
     pub read: Result<u32, Fault>,
@@ -92,7 +92,7 @@ fn negative(number: Option<u64>) -> Result<u32, Fault>
 }
 
 // Where what starts at `at` ends: at the first byte that stops it, or with the bytes. A loop, since `position` over the part from `at` on takes a tenth
-// more instructions for reading a sheet.
+// more instructions for reading rules.
 fn end_where<F: Fn(u8) -> bool>(bytes: &[u8], at: usize, stops: F) -> usize
     requires { F.IsAlwaysCallable stops }
     ensures { (test : ℕ → Bool) → ((b : ℕ) (r : Bool) → F.post stops b r → r ≡ test b) → Ends (until test) bytes.now at result }
@@ -137,7 +137,7 @@ pub fn next_end(text: &[u8], at: usize) -> End
     }
 }
 
-// What the digits from `at` on make, up to the first byte that is none, and where that is.
+// What the digits from `at` on make, up to the first byte that is none, and where that is. By index, since where it stops is answered too.
 fn digits(text: &[u8], at: usize) -> (u64, usize)
     ensures made { (stops : ℕ → Bool) → Passes stops → Sums stops text.now at result.0 result.1 }
     ensures stopped { false ≡ is_digit (get_or text.now result.1 0) }

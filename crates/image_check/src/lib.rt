@@ -30,6 +30,7 @@ pub struct Flagged<'a> {
 #[derive(Clone, Copy)]
 pub struct Trip {
     pub count: usize,
+    // No error: behind a fault of height the traversal goes on, since going astray comes before it.
     pub bad: bool,
 }
 
@@ -58,6 +59,7 @@ fn meet(
     if !is_place(flags, end, q) {
         return None;
     }
+    // A mark is a height and one, 0 where nothing was: lent numbers, cleared once.
     let mark = marks[q];
     if mark == 0 {
         marks[q] = h + 1;

@@ -4,7 +4,7 @@ use mathlib.Core.Bool.{Bool, true}
 use mathlib.Core.List.{List}
 use Rattle.std.specs.Prelude.{Result, Ok, Err}
 use Prim.Native.Nat.{ℕ}
-use lib.ListN.{length, take}
+use lib.ListN.{length}
 use Rattle.definition.specs.Sheet.{read_sheet}
 use Rattle.definition.specs.Compile.{Room, Answer, Compiles, answer, compile_into}
 use Rattle.definition.specs.Listing.{text}

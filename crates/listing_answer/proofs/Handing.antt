@@ -1,12 +1,11 @@
 -- What is handed over, and what is put for an answer.
-use mathlib.Core.Path.{◌≡◌, refl, ap, ◌∙◌}
-use mathlib.Core.Bool.{Bool, true, false}
+use mathlib.Core.Path.{◌≡◌, refl}
+use mathlib.Core.Bool.{Bool, true}
 use mathlib.Core.List.{List, [], ◌∷◌}
 use mathlib.Core.Option.{Option}
 use Prim.Native.Nat.{ℕ, ◌*◌, min}
-use borrow.Author.Tests.{eq-eqb, ne_eqb}
 use lib.ListN.{length, take}
-use Rattle.definition.specs.Limits.{entry_size, bad_sheet, bad_rule}
+use Rattle.definition.specs.Limits.{entry_size}
 use Rattle.definition.specs.Opcode.{Sheet}
 use Rattle.definition.specs.Lent.{entries_of}
 use Rattle.definition.specs.Compile.{Room, Answer, Compiles}

@@ -142,6 +142,7 @@ fn rewrite_limited(
     ensures { Gives (room bytes.old offsets.old entries.old) (after_rules (sheet_in sheet.now) (rules_in rules.entry.table.now rules.entry.count) (given code.now protected.now lines.now)) result bytes.new offsets.new entries.new }
 {
     check_limits(code.len(), protected.len(), lines.len() / ENTRY_SIZE)?;
+    // A size is a const parameter, so each has its own call.
     if code.len() <= SMALL_CODE {
         rewrite_over::<SMALL_SLOTS>(
             sheet, rules, code, protected, lines, bytes, offsets, entries,

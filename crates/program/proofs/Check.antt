@@ -21,9 +21,9 @@ use Rattle.field.proofs.Tests.{and_left, and_right}
 use Rattle.std.specs.Prelude.{Result, Ok, Err}
 use Rattle.std.specs.List.{ends_with}
 use Rattle.definition.specs.View.{refusal_number, res_of}
-use Rattle.definition.specs.declared.Refused.{Refused}
+use Rattle.program.specs.declared.Stop.{Stop}
 use Rattle.program.specs.declared.Cursor.{Cursor}
-use Rattle.program.specs.Walk.{cursor_of, Skipped, Walked, outcome, many, over_stmt}
+use Rattle.program.specs.Walk.{cursor_of, Skipped, Walked, walk_view, outcome, many, over_stmt}
 use Rattle.program.specs.Check.{checked, Headed, program_of, Accepts}
 use Rattle.program.proofs.Laws.{block-many, line-there}
 
@@ -85,14 +85,14 @@ module _ {text : List ℕ} {h : Header} (headed : Headed text h) {top : Cursor} 
   unfolding read_program demand ◌>>◌ ◌>>=◌ header_of behind top_stmts
   read_is = rw (read_program, le-leb _ _ headed.short, headed.ended, headed.header)
 
-  stands : {r : Result Cursor Refused} → Walked (many n (over_stmt true max_nesting h.variables text)) text top r → res_of cursor_of r ≡ outcome true (fault_of_block body.0) body.1
+  stands : {r : Result Cursor Stop} → Walked (many n (over_stmt true max_nesting h.variables text)) text top r → walk_view r ≡ outcome true (fault_of_block body.0) body.1
   stands walked = walked.did ∙ rw (all, passed.is) (sym (block-many true (λ c. stmt_at max_nesting h.variables text c) h.statements _))
 
   checked-is : (x : Res Program) → read_program text ≡ x → checked text ≡ x >>= (λ p. ok (h, top.at))
   unfolding checked header_of ◌>>=◌
   checked-is x e = rw (checked, e, headed.header, ← passed.is)
 
-  pub check-faulty : {e : Refused} → Walked (many n (over_stmt true max_nesting h.variables text)) text top (Err e) → refuse (refusal_number e.refusal) e.place ≡ checked text
+  pub check-faulty : {e : Stop} → Walked (many n (over_stmt true max_nesting h.variables text)) text top (Err e) → refuse (refusal_number e.refusal) e.at.row ≡ checked text
   unfolding ◌>>=◌
   check-faulty w = sym (checked-is _ (read_is ∙ behind-refused _ _ _ _ _ _ (stands w)))
 

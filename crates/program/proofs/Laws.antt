@@ -18,7 +18,7 @@ use Rattle.definition.specs.Program as def
 use Rattle.definition.specs.Program.{Form, Line, is, not, line_of, line_at, refusal, Reader, A, I, S, F, L, X, N, R, K, B, D, O, U, C, H, M, StmtLine, ExprLine, ArmLine, next_line, fault_at, expr_forms, stmt_forms, arm_forms, label_forms, expr_of, expr_by, expr_at, label_by, labels_at, block_of, arm_by, arms_at, stmt_of, stmt_by, stmt_at, or_else, fault_of_expr, fault_of_labels, fault_of_stmt, fault_of_block, fault_of_arms}
 use Rattle.definition.specs.View.{refusal_number}
 use Rattle.definition.specs.declared.Refusal.{Refusal}
-use Rattle.definition.specs.declared.Refused.{Refused}
+use Rattle.program.specs.declared.Stop.{Stop}
 use Rattle.field.specs.View.{Ends, line_end}
 use Rattle.field.proofs.Parts.{line-ends}
 use Rattle.field.proofs.Refusals.{LineTold, anything, at_told}
@@ -244,28 +244,28 @@ next-is e near h = record {
   near = record { short = near.short; within = omega (arith, e.high); rows = omega (arith, near.rows, e.low) };
 }
 
-stands-on : {text : List ℕ} {c d : def.Cursor} → Counted text c d → (r : Result Cursor Refused) → Stands text d r → Stands text c r
+stands-on : {text : List ℕ} {c d : def.Cursor} → Counted text c d → (r : Result Cursor Stop) → Stands text d r → Stands text c r
 stands-on k (Ok e) (near, l) = (near, counted-then k l)
-stands-on k (Err e) (at, near, l) = (at, near, counted-then k l)
+stands-on k (Err e) (near, l) = (near, counted-then k l)
 
-pub walked_then : {f g : def.Cursor → Res def.Cursor} {text : List ℕ} {c d : Cursor} → Walked f text c (Ok d) → (r : Result Cursor Refused) → Walked g text d r → Walked (λ x. f x >>= g) text c r
+pub walked_then : {f g : def.Cursor → Res def.Cursor} {text : List ℕ} {c d : Cursor} → Walked f text c (Ok d) → (r : Result Cursor Stop) → Walked g text d r → Walked (λ x. f x >>= g) text c r
 unfolding ◌>>=◌
 walked_then {g = g} a r b = record { did = b.did ∙ ap (λ (m : Res def.Cursor). m >>= g) a.did; stands = stands-on a.stands.1 r b.stands }
 
-pub walked-off : {f : def.Cursor → Res def.Cursor} (g : def.Cursor → Res def.Cursor) {text : List ℕ} {c : Cursor} (e : Refused) → Walked f text c (Err e) → Walked (λ x. f x >>= g) text c (Err e)
+pub walked-off : {f : def.Cursor → Res def.Cursor} (g : def.Cursor → Res def.Cursor) {text : List ℕ} {c : Cursor} (e : Stop) → Walked f text c (Err e) → Walked (λ x. f x >>= g) text c (Err e)
 unfolding ◌>>=◌
 walked-off g e a = record { did = ap (λ (m : Res def.Cursor). m >>= g) a.did; stands = a.stands }
 
 -- it went over a line, and on
 pub goes_over : {f g : def.Cursor → Res def.Cursor} {text : List ℕ} {c on : Cursor} → Skipped text (next_line text (cursor_of c)) on → f (cursor_of c) ≡ g (next_line text (cursor_of c))
-    → (r : Result Cursor Refused) → Walked g text on r → Walked f text c r
+    → (r : Result Cursor Stop) → Walked g text on r → Walked f text c r
 goes_over {g = g} {text} {c} s e r w = record { did = w.did ∙ ap g s.is ∙ sym e; stands = stands-on (rw s.is (line_on text (cursor_of c))) r w.stands }
 
 -- it stood at a line that is at fault
 pub fails : {f : def.Cursor → Res def.Cursor} {text : List ℕ} {c : Cursor} (heed : Bool) (e : Refusal) → Near text c.at c.row → f (cursor_of c) ≡ outcome heed (some (fault_at (cursor_of c) (refusal_number e))) (cursor_of c)
     → Walked f text c (failed heed c e)
 unfolding failed outcome fault_at
-fails {text = text} {c} true e near h = record { did = sym h; stands = (c.at, near, here text (cursor_of c)) }
+fails {text = text} {c} true e near h = record { did = sym h; stands = (near, here text (cursor_of c)) }
 fails {text = text} {c} false e near h = record { did = sym h; stands = (near, here text (cursor_of c)) }
 
 pub walked_none : {text : List ℕ} {c : Cursor} → Near text c.at c.row → Walked (λ d. ok d) text c (Ok c)
@@ -337,7 +337,7 @@ module _ {n : ℕ} {f : def.Cursor → Res def.Cursor} {text : List ℕ} {first 
   unfolding many
   ends h = let none : n - i ≡ 0 = omega arith in record { did = rw none at g.left; stands = (g.near, g.lines) }
 
-  pub breaks : i < n → (e : Refused) → Walked f text c (Err e) → Walked (many n f) text first (Err e)
+  pub breaks : i < n → (e : Stop) → Walked f text c (Err e) → Walked (many n f) text first (Err e)
   unfolding ◌>>=◌
   breaks h e w = record {
     did = ap (λ (m : Res def.Cursor). m >>= (λ x. many (n - i - 1) f x)) w.did ∙ sym (many_more f (n - i) (omega arith) (cursor_of c)) ∙ g.left;
@@ -360,7 +360,7 @@ module _ {T P : Type 0} (of : T → P) (forms : List (Form P)) (left : ℕ) (tex
 
 -- ---- a walk that heeds no fault goes to the place that is read
 
-pub unrefused : {f : def.Cursor → Res def.Cursor} {text : List ℕ} {c : Cursor} (d : def.Cursor) (e : Refused) → Walked f text c (Err e) → f (cursor_of c) ≡ ok d → ⊥
+pub unrefused : {f : def.Cursor → Res def.Cursor} {text : List ℕ} {c : Cursor} (d : def.Cursor) (e : Stop) → Walked f text c (Err e) → f (cursor_of c) ≡ ok d → ⊥
 unrefused d e w k = let p = w.did ∙ k in absurd (cc)
 
 pub skipped : {f : def.Cursor → Res def.Cursor} {text : List ℕ} {c : Cursor} (d : def.Cursor) (r : Cursor) → Walked f text c (Ok r) → f (cursor_of c) ≡ ok d → Skipped text d r

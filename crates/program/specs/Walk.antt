@@ -6,9 +6,9 @@ use Rattle.definition.specs.Res.{Res, ok, refuse, ◌>>=◌}
 use Rattle.definition.specs.Tree.{Fault, CaseLabel}
 use Rattle.definition.specs.Program as def
 use Rattle.definition.specs.Program.{Line, is, not, A, I, S, F, L, X, N, R, K, B, D, O, U, C, H, M, ArmLine, next_line, fault_at, line_at, arm_forms, label_forms, label_by, expr_at, stmt_at, fault_of_expr, fault_of_labels, fault_of_stmt}
-use Rattle.definition.specs.View.{res_of}
+use Rattle.definition.specs.View.{refusal_number}
 use Rattle.definition.specs.declared.Refusal.{Refusal}
-use Rattle.definition.specs.declared.Refused.{Refused}
+use Rattle.program.specs.declared.Stop.{Stop}
 use Rattle.program.specs.declared.Cursor.{Cursor}
 use Rattle.program.specs.declared.Parts.{Parts}
 
@@ -46,14 +46,19 @@ lines_on text (suc n) c = lines_on text n (next_line text c)
 pub record Counted (text : List ℕ) (c d : def.Cursor) : Type 0 where
   pub is : d ≡ lines_on text (d.row - c.row) c
 
+-- what a walk answers, as the definition's answer
+abbrev pub walk_view : Result Cursor Stop → Res def.Cursor
+walk_view (Ok d) = ok (cursor_of d)
+walk_view (Err s) = refuse (refusal_number s.refusal) s.at.row
+
 -- where a walk stands: at the place it went to, or at the line that it is refused for, whose byte is that of its number too
-abbrev pub Stands : List ℕ → def.Cursor → Result Cursor Refused → Type 0
+abbrev pub Stands : List ℕ → def.Cursor → Result Cursor Stop → Type 0
 Stands text c (Ok d) = Near text d.at d.row × Counted text c (cursor_of d)
-Stands text c (Err e) = (at : ℕ) × Near text at e.place × Counted text c (record { at = at; row = e.place })
+Stands text c (Err s) = Near text s.at.at s.at.row × Counted text c (cursor_of s.at)
 
 -- what a walk from c has done: `did` gives its refusal and its line, or where it goes on
-pub record Walked (f : def.Cursor → Res def.Cursor) (text : List ℕ) (c : Cursor) (r : Result Cursor Refused) : Type 0 where
-  pub did : res_of cursor_of r ≡ f (cursor_of c)
+pub record Walked (f : def.Cursor → Res def.Cursor) (text : List ℕ) (c : Cursor) (r : Result Cursor Stop) : Type 0 where
+  pub did : walk_view r ≡ f (cursor_of c)
   pub stands : Stands text (cursor_of c) r
 
 -- ---- what is gone over
@@ -119,8 +124,8 @@ blocks exprs first second = record { exprs = exprs; arms = 0; first = first; sec
 -- ---- one step
 
 -- at a line that is at fault
-unfoldable pub failed : Bool → Cursor → Refusal → Result Cursor Refused
-failed true c e = Err (record { refusal = e; place = c.row })
+unfoldable pub failed : Bool → Cursor → Refusal → Result Cursor Stop
+failed true c e = Err (record { refusal = e; at = c })
 failed false c e = Ok c
 
 -- `unfolding open_parts` names the definitions that code mirrors

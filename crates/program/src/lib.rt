@@ -25,6 +25,24 @@ pub struct Cursor {
     pub row: usize,
 }
 
+// Why a walk that heeds faults is refused, and at which line.
+#[derive(Clone, Copy)]
+pub struct Stop {
+    pub refusal: Refusal,
+    pub at: Cursor,
+}
+
+impl From<Stop> for Refused {
+    ghost from_gives = { λ s r. r ≡ record { refusal = s.refusal; place = s.at.row } };
+
+    fn from(stop: Stop) -> Refused {
+        Refused {
+            refusal: stop.refusal,
+            place: stop.at.row,
+        }
+    }
+}
+
 // What follows a statement's line, in this order.
 #[derive(Clone, Copy)]
 pub struct Parts {
@@ -54,6 +72,7 @@ pub struct Body {
     pub last: u16,
 }
 
+// A body of no statement stands where none is noted: with Options each of 128 would be larger, and what is noted only saves time.
 const NO_BODY: Body = Body {
     at: 0,
     row: 0,
@@ -126,14 +145,11 @@ fn operands_of(line: ExprLine) -> usize
 
 // The line at a place is at fault: a walk that heeds faults is refused there, and another goes on from there.
 #[tactic(auto, unfolding(crate::specs::Walk::open_parts))]
-fn fail(c: Cursor, heed: bool, refusal: Refusal) -> Result<Cursor, Refused>
+fn fail(c: Cursor, heed: bool, refusal: Refusal) -> Result<Cursor, Stop>
     ensures { result ≡ failed heed c refusal }
 {
     if heed {
-        Err(Refused {
-            refusal,
-            place: c.row,
-        })
+        Err(Stop { refusal, at: c })
     } else {
         Ok(c)
     }
@@ -175,7 +191,7 @@ struct Walk<'a> {
 impl<'a> Walk<'a> {
     // So many expressions.
     #[cycle(exprs)]
-    fn exprs(&self, left: usize, n: usize, c: Cursor) -> Result<Cursor, Refused>
+    fn exprs(&self, left: usize, n: usize, c: Cursor) -> Result<Cursor, Stop>
         requires { Near self.now.text.now c.at c.row }
         ensures { Walked (many n (over_expr self.now.heed left self.now.variables self.now.text.now)) self.now.text.now c result }
     {
@@ -188,7 +204,7 @@ impl<'a> Walk<'a> {
 
     // An expression, with so many nesting levels left.
     #[cycle(exprs)]
-    fn expr(&self, left: usize, c: Cursor) -> Result<Cursor, Refused>
+    fn expr(&self, left: usize, c: Cursor) -> Result<Cursor, Stop>
         requires { Near self.now.text.now c.at c.row }
         ensures { Walked (over_expr self.now.heed left self.now.variables self.now.text.now) self.now.text.now c result }
     {
@@ -202,7 +218,7 @@ impl<'a> Walk<'a> {
     }
 
     // So many labels.
-    fn labels(&self, left: usize, n: usize, c: Cursor) -> Result<Cursor, Refused>
+    fn labels(&self, left: usize, n: usize, c: Cursor) -> Result<Cursor, Stop>
         requires { Near self.now.text.now c.at c.row }
         ensures { Walked (many n (over_label self.now.heed left self.now.text.now)) self.now.text.now c result }
     {
@@ -214,7 +230,7 @@ impl<'a> Walk<'a> {
     }
 
     // A label's line.
-    fn label(&self, left: usize, c: Cursor) -> Result<Cursor, Refused>
+    fn label(&self, left: usize, c: Cursor) -> Result<Cursor, Stop>
         requires { Near self.now.text.now c.at c.row }
         ensures { Walked (over_label self.now.heed left self.now.text.now) self.now.text.now c result }
     {
@@ -226,7 +242,7 @@ impl<'a> Walk<'a> {
 
     // So many arms.
     #[cycle(stmts)]
-    fn arms(&self, ends: &mut Ends, left: usize, n: usize, c: Cursor) -> Result<Cursor, Refused>
+    fn arms(&self, ends: &mut Ends, left: usize, n: usize, c: Cursor) -> Result<Cursor, Stop>
         requires near { Near self.now.text.now c.at c.row }
         requires sound { Sound self.now.text.now self.now.variables ends.old }
         ensures walked { Walked (many n (over_arm self.now.heed left self.now.variables self.now.text.now)) self.now.text.now c result }
@@ -241,7 +257,7 @@ impl<'a> Walk<'a> {
 
     // An arm: its line, its labels and its body.
     #[cycle(stmts)]
-    fn arm(&self, ends: &mut Ends, left: usize, c: Cursor) -> Result<Cursor, Refused>
+    fn arm(&self, ends: &mut Ends, left: usize, c: Cursor) -> Result<Cursor, Stop>
         requires near { Near self.now.text.now c.at c.row }
         requires sound { Sound self.now.text.now self.now.variables ends.old }
         ensures walked { Walked (over_arm self.now.heed left self.now.variables self.now.text.now) self.now.text.now c result }
@@ -260,7 +276,7 @@ impl<'a> Walk<'a> {
 
     // So many statements.
     #[cycle(stmts)]
-    fn stmts(&self, ends: &mut Ends, left: usize, n: usize, c: Cursor) -> Result<Cursor, Refused>
+    fn stmts(&self, ends: &mut Ends, left: usize, n: usize, c: Cursor) -> Result<Cursor, Stop>
         requires near { Near self.now.text.now c.at c.row }
         requires sound { Sound self.now.text.now self.now.variables ends.old }
         ensures walked { Walked (many n (over_stmt self.now.heed left self.now.variables self.now.text.now)) self.now.text.now c result }
@@ -275,7 +291,7 @@ impl<'a> Walk<'a> {
 
     // A statement, with so many nesting levels left: its line, then its parts.
     #[cycle(stmts)]
-    fn stmt(&self, ends: &mut Ends, left: usize, c: Cursor) -> Result<Cursor, Refused>
+    fn stmt(&self, ends: &mut Ends, left: usize, c: Cursor) -> Result<Cursor, Stop>
         requires near { Near self.now.text.now c.at c.row }
         requires sound { Sound self.now.text.now self.now.variables ends.old }
         ensures walked { Walked (over_stmt self.now.heed left self.now.variables self.now.text.now) self.now.text.now c result }
@@ -304,7 +320,7 @@ pub fn walk_expr(
     heed: bool,
     left: usize,
     c: Cursor,
-) -> Result<Cursor, Refused>
+) -> Result<Cursor, Stop>
     requires { Near text.now c.at c.row }
     ensures { Walked (over_expr heed left variables text.now) text.now c result }
 {
@@ -325,7 +341,7 @@ pub fn walk_stmts(
     left: usize,
     n: usize,
     c: Cursor,
-) -> Result<Cursor, Refused>
+) -> Result<Cursor, Stop>
     requires near { Near text.now c.at c.row }
     requires sound { Sound text.now variables ends.old }
     ensures walked { Walked (many n (over_stmt heed left variables text.now)) text.now c result }

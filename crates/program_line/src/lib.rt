@@ -435,6 +435,7 @@ fn variable_line(mut s: Scan, variables: u16) -> Result<Next<ExprLine>, Refusal>
     s.finish(ExprLine::Read(k))
 }
 
+// These four differ in a table, its last number and a variant: one function would take all three, and is no shorter.
 fn binary_line(mut s: Scan, variables: u16) -> Result<Next<ExprLine>, Refusal>
     requires { Fresh s }
     ensures { Found expr_line result (by_letter (expr_forms variables) 0x4F (rest s.entry)) (ending s.entry) }

@@ -18,7 +18,7 @@ use Rattle.std.specs.Prelude.{Some, None, Ok, Err}
 use Rattle.std.specs.Result.{result_ok, IsOk}
 use Rattle.definition.specs.View.{refusal_number}
 use Rattle.definition.specs.declared.Refusal.{Refusal}
-use Rattle.definition.specs.declared.Refused.{Refused}
+use Rattle.program.specs.declared.Stop.{Stop}
 use Rattle.program_line.specs.declared.Next.{Next}
 use Rattle.program_line.specs.Scan.{Found}
 use Rattle.opcode.specs.declared.CompareOp as op
@@ -44,12 +44,12 @@ module _ (left v : ℕ) {text : List ℕ} (c : Cursor) where
   unfolding outcome
   skipped-expr r w = skipped _ r w refl
 
-  pub expr-ok : (r : code.Result Cursor Refused) → Walked (over_expr false left v text) text c r → IsOk r
+  pub expr-ok : (r : code.Result Cursor Stop) → Walked (over_expr false left v text) text c r → IsOk r
   unfolding outcome
   expr-ok (Ok d) w = refl
   expr-ok (Err e) w = absurd (unrefused _ e w refl)
 
-  pub block-is-ok : (n : ℕ) (r : code.Result Cursor Refused) → Walked (many n (over_stmt false left v text)) text c r → IsOk r
+  pub block-is-ok : (n : ℕ) (r : code.Result Cursor Stop) → Walked (many n (over_stmt false left v text)) text c r → IsOk r
   block-is-ok n (Ok d) w = refl
   block-is-ok n (Err e) w = absurd (unrefused _ e w (block-ok left v n text (cursor_of c)))
 

@@ -187,7 +187,7 @@ pub fn classify(text: &[u8], variables: u16, left: usize, c: Cursor) -> Option<C
 
 // ---- shapes of loops
 
-// A sole EXIT in then and an empty else, or the other way round.
+// A sole EXIT in then and an empty else, or the other way round: `when` is the value of the condition that exits (a bool of the definition too).
 #[tactic(auto, using(std::proofs::lemmas::Bool::Decides::nat_tests), unfolding(crate::specs::Shape::open_shape))]
 fn sizes_fit(when: bool, then: u16, otherwise: u16) -> bool
     ensures { result ≡ sizes_fit when then otherwise }
@@ -249,6 +249,7 @@ fn exit_at(
     Some(ExitIf { condition, end })
 }
 
+// While and Repeat are made by two functions: each is another variant, with another field.
 fn while_by(e: Option<ExitIf>) -> Shape
     ensures { result ≡ while_by e }
 {

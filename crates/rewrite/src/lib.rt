@@ -105,7 +105,7 @@ fn look_up(sheet: &[u8], matcher: &Matcher, first: Instruction, b: &[u8]) -> Opt
     matcher.find(first, seen(sheet, b))
 }
 
-// Whether a table of marks marks an offset.
+// Whether a table of marks, bytes that are lent cleared, marks an offset.
 fn is_marked(marks: &[u8], at: usize) -> bool
     requires { at < length marks.now }
     ensures { result ≡ has (marked marks.now) at }
@@ -137,7 +137,7 @@ fn decide(
         });
     }
     let first = seen(sheet, a);
-    if matcher.head(first.role) == rules::NO_RULE {
+    if rules::head(&matcher.index, first.role) == rules::NO_RULE {
         return Some(keep(size));
     }
     let then = at + size;

@@ -24,6 +24,7 @@ pub enum Action {
 // An instruction as a rule sees it. A number over the last role's stands for no role.
 #[derive(Clone, Copy)]
 pub struct Instruction {
+    // A number, as the rows of a table and the table of a sheet hold it.
     pub role: u8,
     pub operand: u16,
 }
@@ -54,6 +55,7 @@ struct Line {
 }
 
 // The numbers of a rule, in its line and in its row of a table.
+// Rows are numbers of a lent table, and so they stay: what a table holds is said of any list.
 const PASS: usize = 0;
 
 const FIRST: usize = 1;
@@ -309,6 +311,14 @@ fn fits(row: &[u16], pass: u8, a: Instruction, b: Instruction) -> bool
         && test_holds(row[TEST], row[NUMBER], a.operand, b.operand)
 }
 
+// The first rule that an index has for a role; NO_RULE for a number that no role has.
+pub fn head(index: &[u16; INDEX_SIZE], role: u8) -> u16
+    ensures { result ≡ head_in index.now role }
+{
+    let n = usize::from(role);
+    if n < ROLE_COUNT { index[n] } else { NO_RULE }
+}
+
 impl<'a> Matcher<'a> {
     // The last rule goes first, so that what stands at a role is the next rule for the one before.
     pub fn new(rules: Rules<'a>, pass: u8) -> Self
@@ -327,23 +337,11 @@ impl<'a> Matcher<'a> {
         Matcher { rules, pass, index }
     }
 
-    // The first rule that the index has for a role; NO_RULE for a number that no role has.
-    pub fn head(&self, role: u8) -> u16
-        ensures { result ≡ head_in self.now.index role }
-    {
-        let n = usize::from(role);
-        if n < ROLE_COUNT {
-            self.index[n]
-        } else {
-            NO_RULE
-        }
-    }
-
     // The first rule of the pass that fits two instructions, along the index. It is the definition's (proofs/Lookup.antt, `found-finds`).
     pub fn find(&self, a: Instruction, b: Instruction) -> Option<usize>
         ensures { result ≡ found_in self.now.rules.table.now self.now.rules.count self.now.pass a b }
     {
-        let mut i = usize::from(self.head(a.role));
+        let mut i = usize::from(head(&self.index, a.role));
         // No `for`: the index says which rule comes next.
         while i < self.rules.count {
             let start = i * ROW_SIZE;

@@ -69,7 +69,7 @@ fn record_position(e: Emitter, line: StmtLine, recording: bool) -> Emitter
     }
 }
 
-// n statements in order, each at its own position if positions are recorded (the source's `record`).
+// n statements in order, each at its own position if positions are recorded (the source's `record`: a bool, as in the definition).
 #[cycle(stmts)]
 fn sequence(
     text: &[u8],

@@ -1,9 +1,8 @@
 -- EXIT and CONTINUE.
-use mathlib.Core.Path.{◌≡◌, refl}
+use mathlib.Core.Path.{◌≡◌}
 use mathlib.Core.Bool.{Bool, true, false}
 use mathlib.Core.List.{List}
-use Prim.Native.Nat.{ℕ, zero, suc, ◌<◌}
-use native.Mathlib.Omega.{arith}
+use Prim.Native.Nat.{ℕ, ◌<◌}
 use lib.ListN.{length, get_or, set}
 use Rattle.definition.specs.Limits.{max_code, no_loop}
 use Rattle.definition.specs.Opcode.{Sheet}

@@ -44,9 +44,6 @@ module _ (s : Sheet) (text : List ℕ) (v : ℕ) (x : Expr) (l : ℕ) {d : def.C
   unfolding end_test_by
   end-fused k is-k is-op on f = rw (← is-k, ← is-op) (went on f)
 
-  pub end-tested : {o : Option ℕ} {op to : CompareOp} {w u : World} → none ≡ o → op ≡ to → Went s (end_test_by none op v x l) text d w u end → Went s (end_test_by o to v x l) text d w u end
-  end-tested is-k is-op d = rw (← is-k, ← is-op) d
-
   pub test-done : (op : CompareOp) {e e₁ e₃ r : Emitter} {code book pool k₁ b₁ k₃ b₃ k₄ b₄ : List ℕ} {u : World} → Ready (world e code book pool) → Coded (call s (load_variable v)) e code book e₁ k₁ b₁ → Went s (emit_expr x 1) text d (world e₁ k₁ b₁ pool) u end
       → Coded (call s (emit_opcode (role.compare op))) u.e u.code u.book e₃ k₃ b₃ → Coded (call s (emit_jmp_if_not l)) e₃ k₃ b₃ r k₄ b₄ → Went s (end_test_by none op v x l) text d (world e code book pool) (world r k₄ b₄ u.pool) end
   unfolding end_test_by

@@ -1,7 +1,7 @@
 -- What a method did in a world, and where a part stands.
 use mathlib.Core.Path.{◌≡◌, ap}
 use mathlib.Core.List.{List}
-use Prim.Native.Nat.{ℕ, ◌+◌, ◌-◌}
+use Prim.Native.Nat.{ℕ, ◌-◌}
 use Rattle.definition.specs.Opcode.{Sheet}
 use Rattle.definition.specs.Emit.{Call, create_label}
 use Rattle.emit.specs.declared.Emitter.{Emitter}
@@ -9,7 +9,7 @@ use Rattle.emit.specs.View.{World, world}
 use Rattle.emit.specs.Steps.{call, Step, Ready, Bare, Booked, Created, Pooled, Coded, Filled}
 use Rattle.emit.proofs.Steps.{bare-filled, booked-filled, created-filled, pooled-filled, coded-filled}
 use Rattle.stmt_parts.specs.declared.Context.{Context}
-use Rattle.stmt_parts.specs.Context.{inner_of, in_loop}
+use Rattle.stmt_parts.specs.Context.{inner_of}
 
 -- ---- what a method did in a world
 
@@ -37,10 +37,3 @@ module _ (ctx : Context) {k : Context} (deep : k ≡ inner_of ctx) where
 
   pub inner-inside : k.inside ≡ ctx.inside
   inner-inside = ap (λ (x : Context). x.inside) deep
-
-module _ (ctx : Context) {k : Context} (deep : k ≡ in_loop ctx) where
-  pub loop-left : k.left ≡ ctx.left
-  loop-left = ap (λ (x : Context). x.left) deep
-
-  pub loop-inside : k.inside ≡ ctx.inside + 1
-  loop-inside = ap (λ (x : Context). x.inside) deep

@@ -31,6 +31,7 @@ pub fn push<T: Copy>(cells: &mut [T], used: usize, x: T) -> usize
 pub fn set_from<T: Copy>(list: &mut [T], from: usize, x: T)
     ensures { list.new ≡ set_from from x list.old }
 {
+    // No `fill`: a place past the end is none, and a slice from there would have to be asked for.
     for i in from..list.len() {
         list[i] = x;
     }

@@ -51,10 +51,10 @@ pub emit_expr-returns-in-Compare : goal.emit_expr-returns-in-Compare
 emit_expr-returns-in-Compare t c = went-compare _ _ _ _ _ _ c.next_line-cursor.ensures _ (reads c.in-Ok.ensures.is c.in-Compare.is) c.emit_two-two-in-Compare.ensures c.operate-in-Compare.ensures
 
 pub emit_expr-returns-in-ShortCircuit-AndThen : goal.emit_expr-returns-in-ShortCircuit-AndThen
-emit_expr-returns-in-ShortCircuit-AndThen t c = went-short _ _ _ _ _ _ c.next_line-cursor.ensures _ (reads-short {x = AndThen} c.in-Ok.ensures.is c.in-ShortCircuit-AndThen.is (search rules)) c.emit_and_then.ensures
+emit_expr-returns-in-ShortCircuit-AndThen t c = went-short _ _ _ _ _ _ c.next_line-cursor.ensures _ (reads-short {x = AndThen} c.in-Ok.ensures.is c.in-ShortCircuit-AndThen.is (search rules)) (search rules)
 
 pub emit_expr-returns-in-ShortCircuit-OrElse : goal.emit_expr-returns-in-ShortCircuit-OrElse
-emit_expr-returns-in-ShortCircuit-OrElse t c = went-short _ _ _ _ _ _ c.next_line-cursor.ensures _ (reads-short {x = OrElse} c.in-Ok.ensures.is c.in-ShortCircuit-OrElse.is (search rules)) c.emit_or_else.ensures
+emit_expr-returns-in-ShortCircuit-OrElse t c = went-short _ _ _ _ _ _ c.next_line-cursor.ensures _ (reads-short {x = OrElse} c.in-Ok.ensures.is c.in-ShortCircuit-OrElse.is (search rules)) (search rules)
 
 pub emit_two-returns : goal.emit_two-returns
 emit_two-returns t c = two-done _ _ _ _ _ _ c.emit_expr.ensures c.emit_expr-2.ensures

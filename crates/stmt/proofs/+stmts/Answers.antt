@@ -5,7 +5,7 @@ use Rattle.stmt_parts.proofs.Walks.{inner-left, inner-inside}
 use Rattle.stmt.proofs.Walks.{nested, stands_here, reads, inner-noted}
 use Rattle.stmt.proofs.Simple.{ran-assign, ran-return, ran-exit, ran-continue}
 use Rattle.stmt.proofs.Laws.{begins, goes_on, stays, ends, ran-if, ran-loop, ran-for, else-none, else-some, if-done, for-done}
-use Rattle.stmt.proofs.Looping.{body-done, plain_done, while-done, repeat-done, while-places, repeat-places, is-while, is-repeat, is_plain}
+use Rattle.stmt.proofs.Looping.{body-done, plain_done, while-done, repeat-done, is-while, is-repeat, is_plain}
 use Rattle.stmt.proofs.Cases.{arm-none, arm-some, arms-begin, arms-on, arms-bad, arms_end_lem, case-done, ran-case}
 use Rattle.stmt.proofs.+stmts.Goals as goal
 use Rattle.stmt.proofs.+stmts.Goals.{sequence-in-Ok, sequence-in-Err}
@@ -109,8 +109,8 @@ arms-loop-preserved t c = arms-on c.loop.invariant _ _ (sym c.in-Ok.ensures.is) 
 pub sequence-loop-preserved : goal.sequence-loop-preserved
 sequence-loop-preserved t c =
     elim c.match-next_stmt.branch [
-      sequence-in-Ok w ↦ rw (w.on-is, w.code-is, w.book-is, w.pool-is, w.lent-is, w.here-is) (goes_on c.loop.invariant _ w.in-Ok.ensures.is w.record_position-on.ensures w.stmt-done.ensures (omega (arith, c.loop-test.true)) (omega arith))
-    | sequence-in-Err w ↦ rw (w.on-is, w.code-is, w.book-is, w.pool-is, w.lent-is, w.here-is) (stays c.loop.invariant _ (sym w.in-Err.ensures.is) w.refuse-on.ensures (omega (arith, c.loop-test.true)) (omega arith))
+      | sequence-in-Ok w ↦ rw (w.on-is, w.code-is, w.book-is, w.pool-is, w.lent-is, w.here-is) (goes_on c.loop.invariant _ w.in-Ok.ensures.is w.record_position-on.ensures w.stmt-done.ensures (omega (arith, c.loop-test.true)) (omega arith))
+      | sequence-in-Err w ↦ rw (w.on-is, w.code-is, w.book-is, w.pool-is, w.lent-is, w.here-is) (stays c.loop.invariant _ (sym w.in-Err.ensures.is) w.refuse-on.ensures (omega (arith, c.loop-test.true)) (omega arith))
     ]
 
 pub arms-next_line-to-requires-clause-at_in_bounds : goal.arms-next_line-to-requires-clause-at_in_bounds

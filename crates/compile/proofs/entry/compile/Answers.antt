@@ -1,8 +1,8 @@
-use Rattle.compile.proofs.Entries.{answered, answered-safe, answered-faithful}
+use Rattle.compile.proofs.Entries.{call-answers, answered-safe, answered-faithful}
 use Rattle.compile.proofs.entry.compile.Goals as goal
 
 pub returns-clause-compiles : goal.returns-clause-compiles
-returns-clause-compiles c = answered c.args.sheet.now c.args.rules.now c.args.program.now _ _ _ c.compile_into-outcome.ensures c.settle.result c.settle.ensures c.compile_into-outcome.auto.code c.compile_into-outcome.auto.constants c.compile_into-outcome.auto.lines
+returns-clause-compiles c = call-answers c.args.sheet.now c.args.rules.now c.args.program.now _ _ _ c.compile_into-outcome.ensures c.settle.result c.settle.ensures c.compile_into-outcome.auto.code c.compile_into-outcome.auto.constants c.compile_into-outcome.auto.lines
 
 pub returns-clause-safe : goal.returns-clause-safe
 returns-clause-safe c = answered-safe c.args.sheet.now c.args.rules.now c.args.program.now _ _ _ c.compile_into-outcome.ensures c.settle.result c.settle.ensures c.compile_into-outcome.auto.code c.compile_into-outcome.auto.constants c.compile_into-outcome.auto.lines

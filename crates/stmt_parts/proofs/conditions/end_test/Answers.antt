@@ -1,6 +1,6 @@
 use mathlib.Core.Path.{sym, ◌∙◌, ap}
 use Rattle.program_shape.specs.Shape.{constant_in}
-use Rattle.stmt_parts.proofs.Tests.{end-fused, end-tested}
+use Rattle.stmt_parts.proofs.Tests.{end-fused}
 use Rattle.stmt_parts.proofs.conditions.end_test.Goals as goal
 
 pub returns-in-Constant : goal.returns-in-Constant
