@@ -4,7 +4,7 @@
 
 ghost use Rattle.std.specs.Prelude.{◌≤◌};
 
-use compile::Compiled;
+use compile::call::Compiled;
 use definition::{ENTRY_SIZE, MAX_CODE, MAX_CONSTANTS, MAX_LINES, Refused};
 use replay::{print, read_full};
 use std::io;
