@@ -27,7 +27,7 @@ const CONSTANT_ROOM: usize = MAX_CONSTANTS + OVER;
 const LINE_ROOM: usize = MAX_LINES * ENTRY_SIZE + OVER;
 
 // A case as far as it was read: its name; where in its text rules, program and answer begin, and where the text ends; the key of the last line; the output that
-// is lent short.
+// is lent short. The parts are places and not slices, since the text grows under them.
 #[derive(Clone, Copy)]
 struct Case<'a> {
     name: Option<&'a [u8]>,

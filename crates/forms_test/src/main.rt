@@ -60,6 +60,7 @@ fn start() -> Emitter
 
 // ---- LOOP v0 := 7; v1 := v0; IF v0 >= 5 THEN EXIT; END_IF; END_LOOP, step by step
 
+// Sheet, code, book and pool go along one by one, as Lent's methods take them.
 fn assignments(e: &mut Lent, sheet: &[u8], code: &mut [u8], book: &mut Book, pool: &mut Pool)
     requires { Ready (world e.old.emitter code.old book.old pool.old) }
     ensures { Ready (world e.new.emitter code.new book.new pool.new) }
