@@ -167,7 +167,7 @@ impl Emitter {
                 label,
             };
         }
-        book::put_label(book, n, None);
+        book::put_bound(book, n, None);
         NewLabel {
             emitter: Emitter {
                 labels: n + 1,
@@ -187,7 +187,7 @@ impl Emitter {
         }
         let n = usize::from(label.0);
         if n < self.labels {
-            book::put_label(book, n, Some(self.size as u16));
+            book::put_bound(book, n, Some(self.size as u16));
         }
         Emitter {
             last: Last::Other,
