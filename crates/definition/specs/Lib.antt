@@ -30,4 +30,5 @@ pub mod Listing
 pub mod Passes
 pub mod Cases
 pub mod Refusals
+pub mod Unnamed
 pub mod View

@@ -3,7 +3,7 @@ use Rattle.std.specs.Prelude.{ℕ, Result, Ok, Err}
 use Rattle.definition.specs.Limits.{bad_text, bad_form, bad_range, no_loop, too_deep, wrong_lines, bad_sheet, bad_code, bad_rule, code_full, labels_full, lines_full, constants_full, output_short, far_branch, astray, bad_height}
 use Rattle.definition.specs.Res.{Res, ok, refuse}
 use Rattle.definition.specs.declared.Refusal.{Refusal}
-use Rattle.definition.specs.declared.Refusal.TheVariants.{BadText, BadForm, BadRange, NoLoop, TooDeep, WrongLines, BadSheet, BadCode, BadRule, CodeFull, LabelsFull, LinesFull, ConstantsFull, OutputShort, FarBranch, Astray, BadHeight}
+use Rattle.definition.specs.declared.Refusal.TheVariants.{BadText, BadForm, BadRange, NoLoop, TooDeep, WrongLines, BadSheet, BadCode, BadRule, CodeFull, LabelsFull, LinesFull, ConstantsFull, OutputShort, FarBranch, Astray, BadHeight, Other}
 use Rattle.definition.specs.declared.Refused.{Refused}
 
 abbrev pub refusal_number : Refusal → ℕ
@@ -24,6 +24,7 @@ refusal_number OutputShort = output_short
 refusal_number FarBranch = far_branch
 refusal_number Astray = astray
 refusal_number BadHeight = bad_height
+refusal_number (Other u) = u.number
 
 -- what a function of code answers, as the definition's answer
 abbrev pub res_of : {T A : Type 0} → (T → A) → Result T Refused → Res A

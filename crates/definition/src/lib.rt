@@ -1,9 +1,9 @@
 // The limits, counts and refusal numbers of documents 01 and 02 for code, each shown to be the definition's (specs/Limits.antt, Opcode.antt, Rules.antt).
 #![tactic(auto)]
 
-ghost use Rattle.std.specs.Prelude.{◌≡◌, ◌*◌};
+ghost use Rattle.std.specs.Prelude.{◌≡◌, ◌<◌, ◌*◌};
 ghost use Rattle.definition.specs.Limits.{max_code, max_back, max_forward, max_branches, max_labels, max_protected, max_lines, max_constants, max_outcomes, entry_size, max_program, max_nesting, max_variables, max_field, max_rules, pass_count, width, bad_text, bad_form, bad_range, no_loop, too_deep, wrong_lines, bad_sheet, bad_code, bad_rule, code_full, labels_full, lines_full, constants_full, output_short, far_branch, astray, bad_height};
-ghost use Rattle.definition.specs.View.{refusal_number};
+ghost use Rattle.definition.specs.Unnamed.{IsUnnamed};
 ghost use Rattle.definition.specs.Opcode.{role_count, comparison_count};
 ghost use Rattle.definition.specs.Rules.{nameable, last_test, last_action};
 
@@ -87,6 +87,13 @@ pub const ASTRAY: u8 = 20;
 // Refusal: an image with a height fault.
 pub const BAD_HEIGHT: u8 = 21;
 
+// A number that none of the constants above is, nor 0.
+#[derive(Clone, Copy, PartialEq, Eq)]
+pub struct Unnamed {
+    pub number: u8,
+    pub ghost unnamed: { IsUnnamed number },
+}
+
 // Why something is refused. The constants above say what each number means.
 #[derive(Clone, Copy, PartialEq, Eq)]
 pub enum Refusal {
@@ -107,6 +114,8 @@ pub enum Refusal {
     FarBranch,
     Astray,
     BadHeight,
+    // By a number of a caller's own (`Emitter::refuse`).
+    Other(Unnamed),
 }
 
 // A refusal and its place: a line, a field, an offset, or 0.
@@ -117,6 +126,35 @@ pub struct Refused {
 }
 
 impl Refusal {
+    ghost use Rattle.definition.specs.View.{refusal_number};
+
+    // The refusal of a number: each but 0 has one.
+    pub fn of(number: u8) -> Refusal
+        requires { 0 < number }
+        ensures { refusal_number result ≡ number }
+    {
+        match number {
+            BAD_TEXT => Refusal::BadText,
+            BAD_FORM => Refusal::BadForm,
+            BAD_RANGE => Refusal::BadRange,
+            NO_LOOP => Refusal::NoLoop,
+            TOO_DEEP => Refusal::TooDeep,
+            WRONG_LINES => Refusal::WrongLines,
+            BAD_SHEET => Refusal::BadSheet,
+            BAD_CODE => Refusal::BadCode,
+            BAD_RULE => Refusal::BadRule,
+            CODE_FULL => Refusal::CodeFull,
+            LABELS_FULL => Refusal::LabelsFull,
+            LINES_FULL => Refusal::LinesFull,
+            CONSTANTS_FULL => Refusal::ConstantsFull,
+            OUTPUT_SHORT => Refusal::OutputShort,
+            FAR_BRANCH => Refusal::FarBranch,
+            ASTRAY => Refusal::Astray,
+            BAD_HEIGHT => Refusal::BadHeight,
+            _ => Refusal::Other(Unnamed { number }),
+        }
+    }
+
     // The number that is answered.
     pub fn number(self) -> u8
         ensures { result ≡ refusal_number self }
@@ -140,6 +178,7 @@ impl Refusal {
             Refusal::FarBranch => FAR_BRANCH,
             Refusal::Astray => ASTRAY,
             Refusal::BadHeight => BAD_HEIGHT,
+            Refusal::Other(unnamed) => unnamed.number,
         }
     }
 }

@@ -1,6 +1,6 @@
 // The book's three tables, a row at a time. Nothing else knows where they lie. They stay one list: the theorems speak of `labels_in`, `patches_in` and
 // `lines_in` of a book, and a part of it is lent as line entries (`emitted_lines`).
-ghost use Rattle.std.specs.Prelude.{◌≡◌, ◌<◌, ◌≤◌, ◌+◌, ◌*◌, length};
+ghost use Rattle.std.specs.Prelude.{◌≡◌, ◌<◌, ◌≤◌, ◌+◌, ◌*◌, ◌∷◌, [], length};
 ghost use Rattle.std.proofs.lemmas.List.Edits.{sets};
 ghost use Rattle.definition.specs.Limits.{max_labels, max_branches, max_lines, entry_size};
 ghost use Rattle.definition.specs.Compile.{bound_or0};
@@ -28,14 +28,22 @@ const LINE_BASE: usize = PATCH_BASE + PATCH_SIZE * MAX_BRANCHES;
 // Numbers of a book.
 pub const BOOK_SIZE: usize = LINE_BASE + ENTRY_SIZE * MAX_LINES;
 
-// Label n: where it is bound, if it is.
-pub fn put_label(book: &mut Book, n: usize, place: Option<u16>)
+// Label n: bound (1) or not (0), and its place.
+pub fn put_label(book: &mut Book, n: usize, bound: u16, place: u16)
+    requires n_lt_max_labels { n < max_labels }
+    ensures { book.new ≡ sets book.old (label_base + label_size * n) (bound ∷ place ∷ []) }
+{
+    let at = LABEL_BASE + LABEL_SIZE * n;
+    book[at] = bound;
+    book[at + 1] = place;
+}
+
+// The same by where it is bound, if it is.
+pub fn put_bound(book: &mut Book, n: usize, place: Option<u16>)
     requires n_lt_max_labels { n < max_labels }
     ensures { book.new ≡ sets book.old (label_base + label_size * n) (label_numbers place) }
 {
-    let at = LABEL_BASE + LABEL_SIZE * n;
-    book[at] = u16::from(place.is_some());
-    book[at + 1] = place.unwrap_or(0);
+    put_label(book, n, u16::from(place.is_some()), place.unwrap_or(0));
 }
 
 // Where label n is bound; 0 where it is not, as the definition has it (`bound_or0`).

@@ -106,8 +106,17 @@ impl Emitter {
         }
     }
 
-    // Refused for good, unless it was before.
-    pub fn refuse(self, refusal: Refusal, place: usize) -> Emitter
+    // Refused for good by a number, unless it was before.
+    pub fn refuse(self, number: u8, place: usize) -> Emitter
+        requires fine { Fine self }
+        requires number_nonzero { 0 < number }
+        ensures { Bare (refused (record { number = number; place = place })) self result }
+    {
+        self.fail(Refusal::of(number), place)
+    }
+
+    // The same by a refusal.
+    pub fn fail(self, refusal: Refusal, place: usize) -> Emitter
         requires { Fine self }
         ensures { Bare (refused (record { number = refusal_number refusal; place = place })) self result }
     {
@@ -163,11 +172,11 @@ impl Emitter {
         }
         if n >= MAX_LABELS {
             return NewLabel {
-                emitter: self.refuse(Refusal::LabelsFull, 0),
+                emitter: self.fail(Refusal::LabelsFull, 0),
                 label,
             };
         }
-        book::put_label(book, n, None);
+        book::put_bound(book, n, None);
         NewLabel {
             emitter: Emitter {
                 labels: n + 1,
@@ -187,7 +196,7 @@ impl Emitter {
         }
         let n = usize::from(label.0);
         if n < self.labels {
-            book::put_label(book, n, Some(self.size as u16));
+            book::put_bound(book, n, Some(self.size as u16));
         }
         Emitter {
             last: Last::Other,
@@ -367,7 +376,7 @@ impl Emitter {
             return self;
         }
         if self.size >= MAX_CODE {
-            return self.refuse(Refusal::CodeFull, 0);
+            return self.fail(Refusal::CodeFull, 0);
         }
         let opcode = sheet::opcode_of(sheet, Role::Dup);
         bytes::insert_before_three(code, self.size - STORE_SIZE, opcode);
@@ -420,7 +429,7 @@ impl Emitter {
             return self;
         }
         let Some(i) = pool::place_of(pool, self.constants, k) else {
-            return self.refuse(Refusal::ConstantsFull, 0);
+            return self.fail(Refusal::ConstantsFull, 0);
         };
         Emitter {
             constants: pool::keep(pool, self.constants, i, k),
@@ -440,7 +449,7 @@ impl Emitter {
         ensures { Filled (call (sheet_in sheet.now) (load_constant k)) (world self code.old book.old pool.old) (world result code.new book.new pool.new) }
     {
         let Some(i) = pool::place_of(pool, self.constants, k) else {
-            return self.refuse(Refusal::ConstantsFull, 0);
+            return self.fail(Refusal::ConstantsFull, 0);
         };
         let mut e = self.prepare(book, 3);
         if e.refused.is_some() { // by 10 or 12, or before: nothing is appended
@@ -529,7 +538,7 @@ impl Emitter {
         ensures { Filled (call (sheet_in sheet.now) (emit_cmp_br (compare_view op) v k label.0)) (world self code.old book.old pool.old) (world result code.new book.new pool.new) }
     {
         let Some(i) = pool::place_of(pool, self.constants, k) else {
-            return self.refuse(Refusal::ConstantsFull, 0);
+            return self.fail(Refusal::ConstantsFull, 0);
         };
         let mut e = self.prepare(book, 8);
         if e.refused.is_some() {

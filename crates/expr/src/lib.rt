@@ -65,7 +65,7 @@ pub fn emit_expr(
     let next = match program_line::next_expr(text, variables, left, c.at) {
         Ok(next) => next,
         Err(refusal) => {
-            let emitter = e.refuse(refusal, c.row);
+            let emitter = e.fail(refusal, c.row);
             return Walked { cursor: c, emitter };
         }
     };

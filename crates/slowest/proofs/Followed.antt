@@ -30,7 +30,7 @@ use Rattle.slowest.specs.declared.Measured.TheVariants as code_measured
 use Rattle.std.specs.Prelude.{Some, None, Result, Ok, Err}
 use Rattle.definition.specs.View.{refusal_number}
 use Rattle.definition.specs.declared.Refusal.{Refusal}
-use Rattle.definition.specs.declared.Refusal.TheVariants.{BadText, BadForm, BadRange, NoLoop, TooDeep, WrongLines, BadSheet, BadCode, BadRule, CodeFull, LabelsFull, LinesFull, ConstantsFull, OutputShort, FarBranch, Astray, BadHeight}
+use Rattle.definition.specs.declared.Refusal.TheVariants.{BadText, BadForm, BadRange, NoLoop, TooDeep, WrongLines, BadSheet, BadCode, BadRule, CodeFull, LabelsFull, LinesFull, ConstantsFull, OutputShort, FarBranch, Astray, BadHeight, Other}
 use Rattle.definition.specs.declared.Refused.{Refused}
 use Rattle.slowest.proofs.Longest.{slowest}
 use Rattle.slowest.proofs.Few.{few}
@@ -138,6 +138,7 @@ refused-number OutputShort e = absurd (omega arith)
 refused-number FarBranch e = absurd (omega arith)
 refused-number Astray e = absurd (omega arith)
 refused-number BadHeight e = absurd (omega arith)
+refused-number (Other u) e = absurd (omega (arith, u.unnamed.past_far_branch))
 
 -- a refusal behind the sheet has no place
 abbrev pub placed : Result Measured Refusal → Result Measured Refused

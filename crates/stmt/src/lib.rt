@@ -104,7 +104,7 @@ fn sequence(
                 here = done.cursor;
             }
             // The walk stays here, where the others are refused alike, and a refused emitter stays as it is.
-            Err(refusal) => on = on.refuse(refusal, here.row),
+            Err(refusal) => on = on.fail(refusal, here.row),
         }
     }
     Walked {
@@ -390,7 +390,7 @@ fn arms(
         let next = match program_line::next_arm(text, ctx.left, here.at) {
             Ok(next) => next,
             Err(refusal) => {
-                let emitter = on.refuse(refusal, here.row);
+                let emitter = on.fail(refusal, here.row);
                 return Walked {
                     cursor: here,
                     emitter,

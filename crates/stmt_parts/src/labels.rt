@@ -92,7 +92,7 @@ fn test_label(
     let next = match program_line::next_label(text, left, c.at) {
         Ok(next) => next,
         Err(refusal) => {
-            let emitter = e.refuse(refusal, c.row);
+            let emitter = e.fail(refusal, c.row);
             return Walked { cursor: c, emitter };
         }
     };

@@ -78,7 +78,7 @@ pub fn exit(
     let found = labels(loops, inside, i);
     let emitter = match found {
         Some(k) => e.emit_jmp(sheet, code, book, loops[k].exit),
-        None => e.refuse(Refusal::NoLoop, c.row),
+        None => e.fail(Refusal::NoLoop, c.row),
     };
     Walked {
         cursor: on,
@@ -111,7 +111,7 @@ pub fn continue_(
             open.used = true;
             e.emit_jmp(sheet, code, book, open.next)
         }
-        None => e.refuse(Refusal::NoLoop, c.row),
+        None => e.fail(Refusal::NoLoop, c.row),
     };
     Walked {
         cursor: on,

@@ -9,7 +9,7 @@ use Rattle.expr.proofs.Laws.{reads, reads-short, went-bad, went-const, went-bool
 use Rattle.expr.proofs.+exprs.Goals as goal
 
 pub emit_expr-returns-in-Err : goal.emit_expr-returns-in-Err
-emit_expr-returns-in-Err t c = went-bad _ _ _ _ _ _ _ c.requires.near c.requires.ready (sym c.in-Err.ensures.is) c.refuse-emitter.ensures
+emit_expr-returns-in-Err t c = went-bad _ _ _ _ _ _ _ c.requires.near c.requires.ready (sym c.in-Err.ensures.is) c.fail-emitter.ensures
 
 pub emit_expr-next_line-cursor-requires-clause-at_in_bounds : goal.emit_expr-next_line-cursor-requires-clause-at_in_bounds
 emit_expr-next_line-cursor-requires-clause-at_in_bounds t c = (line-there _ _ _ _ _ (sym c.in-Ok.ensures.is)).0

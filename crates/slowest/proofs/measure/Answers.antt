@@ -9,7 +9,7 @@ returns-then-outcomes-lt-MAX_OUTCOMES c = fronts-short _ _ _ _ c.if-outcomes-lt-
 pub returns-in_err-admit : goal.returns-in_err-admit
 returns-in_err-admit c =
     let p = err_from_is_err_and c.from_residual.result c.from_residual.ensures.1 in
-    rw (p.1, p.2) (fronts-unfit _ _ _ _ c.if-outcomes-lt-MAX_OUTCOMES.false _ c.in_err-admit.ensures)
+    rw (p.1, p.2) (fronts-unfit _ _ _ _ c.if-outcomes-lt-MAX_OUTCOMES.false c.in_err-admit.field-0.0 c.in_err-admit.ensures)
 
 pub returns-in-Ok : goal.returns-in-Ok
 returns-in-Ok c = fronts-worked _ _ _ _ (omega (arith, c.measure_table.auto.outcomes, c.if-outcomes-lt-MAX_OUTCOMES.false)) c.in_ok-admit.ensures c.in-Ok.ensures

@@ -101,7 +101,7 @@ pub stmt-loop_-requires : goal.stmt-loop_-requires
 stmt-loop_-requires t c = (omega (arith, c.decreases, (line-there _ _ _ _ _ (reads c.requires.line_value c.in-Loop.is)).1, inner-left _ c.inner-ctx.ensures), (inner-noted _ c.inner-ctx.ensures c.requires.noted, (c.requires.skipped.near, (c.requires.ready, omega (arith, c.requires.left_bound, (line-there _ _ _ _ _ (reads c.requires.line_value c.in-Loop.is)).1, inner-left _ c.inner-ctx.ensures, inner-inside _ c.inner-ctx.ensures)))))
 
 pub arms-returns-in-Err : goal.arms-returns-in-Err
-arms-returns-in-Err t c = arms-bad c.loop.invariant _ (sym c.in-Err.ensures.is) (omega (arith, c.loop-test.true)) c.refuse-emitter.ensures
+arms-returns-in-Err t c = arms-bad c.loop.invariant _ (sym c.in-Err.ensures.is) (omega (arith, c.loop-test.true)) c.fail-emitter.ensures
 
 pub arms-loop-preserved : goal.arms-loop-preserved
 arms-loop-preserved t c = arms-on c.loop.invariant _ _ (sym c.in-Ok.ensures.is) c.next_line-to.ensures c.arm-done.ensures (omega (arith, c.loop-test.true)) (omega arith)
@@ -110,7 +110,7 @@ pub sequence-loop-preserved : goal.sequence-loop-preserved
 sequence-loop-preserved t c =
     elim c.match-next_stmt.branch [
       | sequence-in-Ok w ↦ rw (w.on-is, w.code-is, w.book-is, w.pool-is, w.lent-is, w.here-is) (goes_on c.loop.invariant _ w.in-Ok.ensures.is w.record_position-on.ensures w.stmt-done.ensures (omega (arith, c.loop-test.true)) (omega arith))
-      | sequence-in-Err w ↦ rw (w.on-is, w.code-is, w.book-is, w.pool-is, w.lent-is, w.here-is) (stays c.loop.invariant _ (sym w.in-Err.ensures.is) w.refuse-on.ensures (omega (arith, c.loop-test.true)) (omega arith))
+      | sequence-in-Err w ↦ rw (w.on-is, w.code-is, w.book-is, w.pool-is, w.lent-is, w.here-is) (stays c.loop.invariant _ (sym w.in-Err.ensures.is) w.fail-on.ensures (omega (arith, c.loop-test.true)) (omega arith))
     ]
 
 pub arms-next_line-to-requires-clause-at_in_bounds : goal.arms-next_line-to-requires-clause-at_in_bounds

@@ -7,7 +7,7 @@ pub returns-then-is_some : goal.returns-then-is_some
 returns-then-is_some c = pool-stays _ c.requires.fine c.requires.held (some-is _ c.is_some.ensures c.if-is_some.true)
 
 pub returns-in_default : goal.returns-in_default
-returns-in_default c = pool-full _ c.requires.fine c.requires.held refl c.in_default.ensures c.refuse.ensures
+returns-in_default c = pool-full _ c.requires.fine c.requires.held refl c.in_default.ensures c.fail.ensures
 
 pub returns : goal.returns
 returns c = pool-keeps _ c.requires.fine c.requires.held c.in-Some.ensures.0 (none-is _ c.is_some.ensures c.if-is_some.false) c.in-Some.ensures.1 c.keep.ensures

@@ -14,6 +14,6 @@ pub returns : goal.returns
 returns c =
     let on = none-is _ c.is_some.ensures c.if-is_some.false in
     elim c.if-n-self.branch [
-      | then-n-self w ↦ rw w.book-is (bind_goes c.requires.fine c.told-book (label_numbers (Some c.args.self.size)) (label-long (Some c.args.self.size)) (bound-label _) refl on c.from-n.ensures w.if-n-self.true w.put_label.ensures)
+      | then-n-self w ↦ rw w.book-is (bind_goes c.requires.fine c.told-book (label_numbers (Some c.args.self.size)) (label-long (Some c.args.self.size)) (bound-label _) refl on c.from-n.ensures w.if-n-self.true w.put_bound.ensures)
       | else-n-self w ↦ rw w.book-is (bind-nowhere c.requires.fine c.told-book c.from-n.ensures refl on w.if-n-self.false)
     ]

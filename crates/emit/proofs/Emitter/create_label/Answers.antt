@@ -10,7 +10,7 @@ pub returns-then-is_some : goal.returns-then-is_some
 returns-then-is_some c = create-stays (search rules) (search rules) refl (some-is _ c.is_some.ensures c.if-is_some.true)
 
 pub returns-then-n-ge-MAX_LABELS : goal.returns-then-n-ge-MAX_LABELS
-returns-then-n-ge-MAX_LABELS c = create-full c.requires.fine c.told-book refl c.if-n-ge-MAX_LABELS.true c.refuse.ensures
+returns-then-n-ge-MAX_LABELS c = create-full c.requires.fine c.told-book refl c.if-n-ge-MAX_LABELS.true c.fail.ensures
 
 pub returns : goal.returns
-returns c = create-goes c.requires.fine c.told-book (label_numbers None) (label-long None) free-label refl (none-is _ c.is_some.ensures c.if-is_some.false) c.if-n-ge-MAX_LABELS.false c.put_label.ensures
+returns c = create-goes c.requires.fine c.told-book (label_numbers None) (label-long None) free-label refl (none-is _ c.is_some.ensures c.if-is_some.false) c.if-n-ge-MAX_LABELS.false c.put_bound.ensures

@@ -6,7 +6,7 @@ use Rattle.emit.proofs.Constants.{constant-full, constant-halts, constant-kept, 
 use Rattle.emit.proofs.Emitter.emit_cmp_br.Goals as goal
 
 pub returns-in_default : goal.returns-in_default
-returns-in_default c = constant-full _ _ 8 (fusing _ _ _ _) _ (cmp-br-is _ _ _ _ _) c.requires refl c.in_default.ensures c.refuse.ensures
+returns-in_default c = constant-full _ _ 8 (fusing _ _ _ _) _ (cmp-br-is _ _ _ _ _) c.requires refl c.in_default.ensures c.fail.ensures
 
 pub returns-then-is_some : goal.returns-then-is_some
 returns-then-is_some c = constant-halts _ _ 8 (fusing _ _ _ _) _ (cmp-br-is _ _ _ _ _) c.requires c.in-Some.ensures.0 c.in-Some.ensures.1 c.prepare-e.ensures (some-is _ c.is_some.ensures c.if-is_some.true)

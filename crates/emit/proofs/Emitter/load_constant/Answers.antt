@@ -4,7 +4,7 @@ use Rattle.emit.proofs.Constants.{constant-full, constant-halts, constant-kept, 
 use Rattle.emit.proofs.Emitter.load_constant.Goals as goal
 
 pub returns-in_default : goal.returns-in_default
-returns-in_default c = constant-full _ _ 3 (loading _) _ (load-constant-is _ _) c.requires refl c.in_default.ensures c.refuse.ensures
+returns-in_default c = constant-full _ _ 3 (loading _) _ (load-constant-is _ _) c.requires refl c.in_default.ensures c.fail.ensures
 
 pub returns-then-is_some : goal.returns-then-is_some
 returns-then-is_some c = constant-halts _ _ 3 (loading _) _ (load-constant-is _ _) c.requires c.in-Some.ensures.0 c.in-Some.ensures.1 c.prepare-e.ensures (some-is _ c.is_some.ensures c.if-is_some.true)

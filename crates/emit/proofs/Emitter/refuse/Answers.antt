@@ -1,10 +1,8 @@
-use Rattle.emit.proofs.Steps.{none-is, some-is}
-use Rattle.emit.proofs.State.{bare-stays, refuses}
-use borrow.Author.Rules.{rules}
+use mathlib.Core.Path.{subst}
+use Prim.Native.Nat.{ℕ}
+use Rattle.definition.specs.Emit.{refused}
+use Rattle.emit.specs.Steps.{Bare}
 use Rattle.emit.proofs.Emitter.refuse.Goals as goal
 
-pub returns-then-is_some : goal.returns-then-is_some
-returns-then-is_some c = bare-stays _ (search rules) (some-is _ c.is_some.ensures c.if-is_some.true)
-
 pub returns : goal.returns
-returns c = refuses _ (search rules) (none-is _ c.is_some.ensures c.if-is_some.false)
+returns c = subst (λ (n : ℕ). Bare (refused (record { number = n; place = c.args.place })) c.args.self c.fail.result) c.of.ensures c.fail.ensures

@@ -11,7 +11,7 @@ use Rattle.optimize.proofs.alone.rewrite_limited.Goals as goal
 pub returns-in_err-check_limits : goal.returns-in_err-check_limits
 returns-in_err-check_limits c =
     let e : c.from_residual.result ≡ Err c.in_err-check_limits.field-0.0 = search rules in
-    rw e (over-limits (sheet_in c.args.sheet.now) (rules_in c.args.rules.table.now c.args.rules.count) (given c.args.code.now c.args.protected.now c.args.lines.now) _ c.in_err-check_limits.ensures)
+    rw e (over-limits (sheet_in c.args.sheet.now) (rules_in c.args.rules.table.now c.args.rules.count) (given c.args.code.now c.args.protected.now c.args.lines.now) c.in_err-check_limits.field-0.0 c.in_err-check_limits.ensures)
 
 pub rewrite_over-requires-clause-within : goal.rewrite_over-requires-clause-within
 rewrite_over-requires-clause-within c = holds c.in_ok-check_limits.ensures c.requires.roomy

@@ -4,7 +4,7 @@ use Rattle.stmt_parts.proofs.Arms.{label_is, label-bad, reads}
 use Rattle.stmt_parts.proofs.labels.test_label.Goals as goal
 
 pub returns-in-Err : goal.returns-in-Err
-returns-in-Err c = label-bad _ _ _ _ _ _ c.requires.near c.requires.ready (sym c.in-Err.ensures.is) c.refuse-emitter.ensures
+returns-in-Err c = label-bad _ _ _ _ _ _ c.requires.near c.requires.ready (sym c.in-Err.ensures.is) c.fail-emitter.ensures
 
 pub next_line-cursor-requires-clause-at_in_bounds : goal.next_line-cursor-requires-clause-at_in_bounds
 next_line-cursor-requires-clause-at_in_bounds c = (line-there _ _ _ _ _ (sym c.in-Ok.ensures.is)).0

@@ -5,4 +5,4 @@ pub returns-in-Some : goal.returns-in-Some
 returns-in-Some c = exit-found _ _ _ _ _ c.requires.skipped _ c.in-Some.ensures c.emit_jmp-emitter.ensures
 
 pub returns-in-None : goal.returns-in-None
-returns-in-None c = exit-none _ _ _ _ _ c.requires.skipped _ c.in-None.ensures c.requires.code_len c.told-book c.refuse-emitter.ensures
+returns-in-None c = exit-none _ _ _ _ _ c.requires.skipped _ c.in-None.ensures c.requires.code_len c.told-book c.fail-emitter.ensures
