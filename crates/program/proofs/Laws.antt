@@ -29,7 +29,7 @@ use Rattle.program_line.specs.View.{label_line}
 use Rattle.program_line.specs.Scan.{Found}
 use Rattle.program.specs.declared.Cursor.{Cursor}
 use Rattle.program.specs.declared.Parts.{Parts}
-use Rattle.program.specs.Walk.{cursor_of, Near, Skipped, behind_line, lines_on, Counted, Stands, Walked, outcome, went, many, over_expr, over_stmt, fault_of_label, over_label, arm_with, over_arm, parts_of, operands_of, failed}
+use Rattle.program.specs.Walk.{cursor_of, cursor_in, Near, Skipped, behind_line, lines_on, Counted, Stands, Walked, WalkedOn, outcome, went, many, over_expr, over_stmt, fault_of_label, over_label, arm_with, over_arm, parts_of, operands_of, failed}
 
 -- ---- answers in a row
 
@@ -270,6 +270,22 @@ fails {text = text} {c} false e near h = record { did = sym h; stands = (near, h
 
 pub walked_none : {text : List ℕ} {c : Cursor} → Near text c.at c.row → Walked (λ d. ok d) text c (Ok c)
 walked_none {text} {c} near = record { did = refl; stands = (near, here text (cursor_of c)) }
+
+-- ---- on from an answer
+
+module _ (f : def.Cursor → Res def.Cursor) {text : List ℕ} {w : Result Cursor Stop} where
+  -- it was refused before
+  pub stays-refused : (s : Stop) → w ≡ Err s → Near text (cursor_in w).at (cursor_in w).row → WalkedOn f text w (Err s)
+  unfolding ◌>>=◌
+  stays-refused s e near = rw e (record { did = refl; stands = (rw e at near, here text (cursor_of s.at)); stays = refl })
+
+  pub walks-on : {c : Cursor} (r : Result Cursor Stop) → w ≡ Ok c → Walked f text c r → WalkedOn f text w r
+  unfolding ◌>>=◌
+  walks-on r e d = rw e (record { did = d.did; stands = d.stands; stays = tt })
+
+pub walked-from : {f : def.Cursor → Res def.Cursor} {text : List ℕ} {c : Cursor} (r : Result Cursor Stop) → WalkedOn f text (Ok c) r → Walked f text c r
+unfolding ◌>>=◌
+walked-from r d = record { did = d.did; stands = d.stands }
 
 -- ---- one line, and what follows it
 

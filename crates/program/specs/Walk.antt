@@ -1,5 +1,5 @@
 -- The walk over a program's lines: where it stands, and what it has gone over.
-use Rattle.std.specs.Prelude.{ℕ, zero, suc, ◌+◌, ◌-◌, ◌≤◌, ◌≡◌, List, [], ◌∷◌, Bool, true, false, length, Result, Ok, Err}
+use Rattle.std.specs.Prelude.{ℕ, zero, suc, ◌+◌, ◌-◌, ◌≤◌, ◌≡◌, List, [], ◌∷◌, Bool, true, false, length, Result, Ok, Err, OnErr}
 use Rattle.std.proofs.Math.Option.{Option, some, none}
 use Rattle.definition.specs.Limits.{max_program}
 use Rattle.definition.specs.Res.{Res, ok, refuse, ◌>>=◌}
@@ -51,6 +51,11 @@ abbrev pub walk_view : Result Cursor Stop → Res def.Cursor
 walk_view (Ok d) = ok (cursor_of d)
 walk_view (Err s) = refuse (refusal_number s.refusal) s.at.row
 
+-- the place that a walk's answer gives: where it went to, or the line that it is refused for
+abbrev pub cursor_in : Result Cursor Stop → def.Cursor
+cursor_in (Ok d) = cursor_of d
+cursor_in (Err s) = cursor_of s.at
+
 -- where a walk stands: at the place it went to, or at the line that it is refused for, whose byte is that of its number too
 abbrev pub Stands : List ℕ → def.Cursor → Result Cursor Stop → Type 0
 Stands text c (Ok d) = Near text d.at d.row × Counted text c (cursor_of d)
@@ -60,6 +65,12 @@ Stands text c (Err s) = Near text s.at.at s.at.row × Counted text c (cursor_of 
 pub record Walked (f : def.Cursor → Res def.Cursor) (text : List ℕ) (c : Cursor) (r : Result Cursor Stop) : Type 0 where
   pub did : walk_view r ≡ f (cursor_of c)
   pub stands : Stands text (cursor_of c) r
+
+-- what a walk on from another's answer has done: a walk that is refused already is answered as it was
+pub record WalkedOn (f : def.Cursor → Res def.Cursor) (text : List ℕ) (w r : Result Cursor Stop) : Type 0 where
+  pub did : walk_view r ≡ walk_view w >>= f
+  pub stands : Stands text (cursor_in w) r
+  pub stays : OnErr w (r ≡ w)
 
 -- ---- what is gone over
 

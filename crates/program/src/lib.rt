@@ -7,7 +7,7 @@ ghost use Rattle.definition.specs.Program.{next_line, ends_in_lf};
 ghost use Rattle.definition.specs.View.{res_of};
 ghost use Rattle.field.specs.View.{line_end};
 ghost use Rattle.program_line.specs.View.{header_line, stmt_line, expr_line};
-ghost use Rattle.program.specs.Walk.{cursor_of, Near, Skipped, behind_line, Walked, many, over_expr, over_stmt, over_label, over_arm, parts_of, operands_of, blocks, failed};
+ghost use Rattle.program.specs.Walk.{cursor_of, cursor_in, Near, Skipped, behind_line, Walked, WalkedOn, many, over_expr, over_stmt, over_label, over_arm, parts_of, operands_of, blocks, failed};
 ghost use Rattle.program.specs.Check.{checked_view, checked, Headed};
 ghost use Rattle.program.specs.Ends.{no_ends, Sound, NoneNew, body_of, Noting};
 
@@ -313,17 +313,18 @@ impl<'a> Walk<'a> {
     }
 }
 
-// Over an expression, with so many nesting levels left, in a program of so many variables.
+// Over an expression, with so many nesting levels left, in a program of so many variables. A walk that is refused already stays so.
 pub fn walk_expr(
     text: &[u8],
     variables: u16,
     heed: bool,
     left: usize,
-    c: Cursor,
+    w: Result<Cursor, Stop>,
 ) -> Result<Cursor, Stop>
-    requires { Near text.now c.at c.row }
-    ensures { Walked (over_expr heed left variables text.now) text.now c result }
+    requires { Near text.now (cursor_in w).at (cursor_in w).row }
+    ensures { WalkedOn (over_expr heed left variables text.now) text.now w result }
 {
+    let c = w?;
     let walk = Walk {
         text,
         variables,
@@ -332,7 +333,7 @@ pub fn walk_expr(
     walk.expr(left, c)
 }
 
-// Over so many statements.
+// Over so many statements. A walk that is refused already stays so.
 pub fn walk_stmts(
     text: &[u8],
     ends: &mut Ends,
@@ -340,19 +341,20 @@ pub fn walk_stmts(
     heed: bool,
     left: usize,
     n: usize,
-    c: Cursor,
+    w: Result<Cursor, Stop>,
 ) -> Result<Cursor, Stop>
-    requires near { Near text.now c.at c.row }
+    requires near { Near text.now (cursor_in w).at (cursor_in w).row }
     requires sound { Sound text.now variables ends.old }
-    ensures walked { Walked (many n (over_stmt heed left variables text.now)) text.now c result }
+    ensures walked { WalkedOn (many n (over_stmt heed left variables text.now)) text.now w result }
     ensures sound_2 { Sound text.now variables ends.new }
 {
+    let first = w?;
     let walk = Walk {
         text,
         variables,
         heed,
     };
-    walk.stmts(ends, left, n, c)
+    walk.stmts(ends, left, n, first)
 }
 
 // ---- where bodies of loops end. A REPEAT is seen behind its body, so these are looked up when it is emitted; what is noted only saves time
@@ -447,8 +449,9 @@ fn check_body(text: &[u8], header: HeaderLine, end: usize) -> Result<Checked, Re
 {
     let top = next_line(text, Cursor { at: 0, row: 1 }, end);
     let mut ends = Ends::new();
+    let variables = header.variables;
     let n = usize::from(header.statements);
-    let last = walk_stmts(text, &mut ends, header.variables, true, MAX_NESTING, n, top)?;
+    let last = walk_stmts(text, &mut ends, variables, true, MAX_NESTING, n, Ok(top))?;
     if last.at < text.len() {
         return Err(Refused {
             refusal: Refusal::WrongLines,
@@ -456,7 +459,7 @@ fn check_body(text: &[u8], header: HeaderLine, end: usize) -> Result<Checked, Re
         });
     }
     Ok(Checked {
-        variables: header.variables,
+        variables,
         statements: header.statements,
         pos: header.pos,
         next: top.at,

@@ -54,7 +54,7 @@ pub fn skip_expr(text: &[u8], variables: u16, left: usize, c: Cursor) -> Cursor
     requires { Near text.now c.at c.row }
     ensures { Skipped text.now (expr_at left variables text.now (cursor_of c)).1 result }
 {
-    program::walk_expr(text, variables, false, left, c).unwrap()
+    program::walk_expr(text, variables, false, left, Ok(c)).unwrap()
 }
 
 // Where a block of n statements ends; the bodies in it are noted.
@@ -71,7 +71,7 @@ pub fn skip_block(
     ensures skipped { Skipped text.now (block_of (λ d. stmt_at left variables text.now d) n (cursor_of c)).1 result }
     ensures sound_2 { Sound text.now variables ends.new }
 {
-    program::walk_stmts(text, ends, variables, false, left, n, c).unwrap()
+    program::walk_stmts(text, ends, variables, false, left, n, Ok(c)).unwrap()
 }
 
 // Where a noted body ends, if it is the one of n statements at a place.

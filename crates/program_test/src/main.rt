@@ -22,8 +22,13 @@ struct Chunk<'a> {
     rest: &'a [u8],
 }
 
-fn number(bytes: &[u8]) -> usize {
-    field::up_to(bytes, TEXT_ROOM as u32).map_or(0, |n| n as usize)
+// A number of a chunk's line, as far as there is room for a text; 0 for what is none, or is past it.
+fn number(bytes: &[u8]) -> usize
+    ensures { result ≤ 70000 }
+{
+    field::up_to(bytes, TEXT_ROOM as u32)
+        .map_or(0, |n| n as usize)
+        .min(TEXT_ROOM)
 }
 
 // The chunk whose line starts the input; none where no line ends, or it has no comma.
