@@ -1,11 +1,12 @@
 -- What this crate's types stand for in the machine.
 use Rattle.std.specs.Prelude.{ℕ, ◌≡◌, Bool, true, false, List, []}
-use Rattle.store.specs.Store.{at, contents}
+use Rattle.store.specs.Store.{Store, at, contents}
 use Rattle.input_machine.specs.Machine as def
 use Rattle.input_reader.specs.declared.Phase.{Phase}
 use Rattle.input_reader.specs.declared.Phase.TheVariants.{SheetLine, CountLine, RuleLine, CodeLine, OffsetLine, EntryLine, ProgramText, Malformed, Uncounted}
 use Rattle.input_reader.specs.declared.Head.{Head}
 use Rattle.input_reader.specs.declared.Reader.{Reader}
+use Rattle.input_reader.specs.declared.Intake.{Intake}
 use Rattle.input_reader.specs.declared.Ending.{Ending}
 use Rattle.input_reader.specs.declared.Ending.TheVariants.{Whole, Cut, Countless}
 
@@ -35,23 +36,31 @@ ending_view Whole = def.whole
 ending_view (Cut n) = def.cut n
 ending_view Countless = def.countless
 
--- ---- a reader with what its buffers hold
+-- ---- where the reading stands, and what the buffers hold
 
+abbrev pub stores_of : Store → Store → Store → Store → Store → def.Stores
+stores_of sheet rules code offsets entries = record { sheet = sheet; rules = rules; code = code; offsets = offsets; entries = entries }
+
+abbrev pub state_of : Head → def.Stores → def.State
+state_of h s = record { head = head_view h; stores = s }
+
+-- a reader's
 abbrev pub stores_view : Reader → def.Stores
-stores_view r = record {
-  sheet = at r.sheet.cells.now r.sheet.used;
-  rules = at r.rules.cells.now r.rules.used;
-  code = at r.code.cells.now r.code.used;
-  offsets = at r.offsets.cells.now r.offsets.used;
-  entries = at r.entries.cells.now r.entries.used;
-}
-
--- where the reading stands, and what the buffers hold
-abbrev pub state_at : Head → Reader → def.State
-state_at h r = record { head = head_view h; stores = stores_view r }
+stores_view r =
+    stores_of (at r.sheet.cells.now r.sheet.used) (at r.rules.cells.now r.rules.used) (at r.code.cells.now r.code.used)
+    (at r.offsets.cells.now r.offsets.used) (at r.entries.cells.now r.entries.used)
 
 abbrev pub state_view : Reader → def.State
-state_view r = state_at r.head r
+state_view r = state_of r.head (stores_view r)
+
+-- an intake's
+abbrev pub intake_stores : Intake → def.Stores
+intake_stores r =
+    stores_of (at r.sheet.cells.now r.sheet.used) (at r.rules.cells.now r.rules.used) (at r.code.cells.now r.code.used)
+    (at r.offsets.cells.now r.offsets.used) (at r.entries.cells.now r.entries.used)
+
+abbrev pub intake_view : Intake → def.State
+intake_view r = state_of r.head (intake_stores r)
 
 -- the machine's start, over these buffers
 abbrev pub begun : List ℕ → List ℕ → List ℕ → List ℕ → List ℕ → def.State
@@ -61,7 +70,7 @@ begun sheet rules code offsets entries = record {
 }
 
 -- the same rules' end, and the same lent buffers, whatever they hold
-pub record SameBuffers (r t : Reader) : Type 0 where
+pub record SameBuffers (r t : Intake) : Type 0 where
   pub follows : t.follows ≡ r.follows
   pub sheet : t.sheet.cells.ghost_name ≡ r.sheet.cells.ghost_name
   pub rules : t.rules.cells.ghost_name ≡ r.rules.cells.ghost_name

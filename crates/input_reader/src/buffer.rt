@@ -11,6 +11,13 @@ pub struct Buffer<'a, T: Copy> {
     pub used: usize,
 }
 
+// What such a buffer holds, shared.
+#[derive(Clone, Copy)]
+pub struct Kept<'a, T: Copy> {
+    pub cells: &'a [T],
+    pub used: usize,
+}
+
 impl<'a, T: Copy> Buffer<'a, T> {
     pub fn new(cells: &'a mut [T]) -> Self
         ensures same { result.cells.ghost_name ≡ cells.entry.ghost_name }
@@ -28,9 +35,29 @@ impl<'a, T: Copy> Buffer<'a, T> {
         self.used = store::push(self.cells, self.used, x);
     }
 
+    // What it holds.
+    pub fn kept(&self) -> Kept<'_, T>
+        ensures cells { result.cells.now ≡ self.now.cells.now }
+        ensures used { result.used ≡ self.now.used }
+    {
+        Kept {
+            cells: &*self.cells,
+            used: self.used,
+        }
+    }
+
     // What is used of it, where that is to be read; else nothing.
     pub fn handed(&self, read: bool) -> &[T]
         ensures { result.now ≡ handed read (at self.now.cells.now self.now.used) }
+    {
+        self.kept().handed(read)
+    }
+}
+
+impl<'a, T: Copy> Kept<'a, T> {
+    // What is used of it, where that is to be read; else nothing.
+    pub fn handed(self, read: bool) -> &'a [T]
+        ensures { result.now ≡ handed read (at self.entry.cells.now self.entry.used) }
     {
         if read {
             &self.cells[..self.used.min(self.cells.len())]

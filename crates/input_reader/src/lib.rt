@@ -5,9 +5,9 @@ pub mod buffer;
 
 ghost use Rattle.std.specs.Prelude.{◌≡◌};
 ghost use Rattle.input_machine.specs.Machine as def;
-ghost use Rattle.input_reader.specs.View.{phase_view, head_view, ending_view, stores_view, state_view, begun, is_counted, SameBuffers};
+ghost use Rattle.input_reader.specs.View.{phase_view, head_view, ending_view, state_view, intake_stores, intake_view, begun, is_counted, SameBuffers};
 
-use crate::buffer::Buffer;
+use crate::buffer::{Buffer, Kept};
 use definition::{
     COMPARISON_COUNT, ENTRY_SIZE, MAX_CODE, MAX_FIELD, MAX_LINES, MAX_PROGRAM, MAX_PROTECTED,
     MAX_RULES, ROLE_COUNT,
@@ -39,9 +39,21 @@ pub struct Head {
     pub phase: Phase,
 }
 
-// What follows the rules, where the reading stands, and the buffers; a listing's program is in the code's.
-#[derive(Drop)]
+// What was read so far: where the reading stands, and what the buffers hold; a listing's program is in the code's.
+#[derive(Clone, Copy)]
 pub struct Reader<'a> {
+    pub head: Head,
+    pub sheet: Kept<'a, u8>,
+    pub rules: Kept<'a, u8>,
+    pub code: Kept<'a, u8>,
+    pub offsets: Kept<'a, u16>,
+    pub entries: Kept<'a, u16>,
+}
+
+// What reads: what follows the rules, where the reading stands, and the buffers that it fills. Made anew with a reader's head and counts it goes on
+// from there.
+#[derive(Drop)]
+pub struct Intake<'a> {
     pub follows: Phase,
     pub head: Head,
     pub sheet: Buffer<'a, u8>,
@@ -360,7 +372,7 @@ fn ends(most: u32, h: Head, b: u8) -> bool
 
 // ---- the machine
 
-impl<'a> Reader<'a> {
+impl<'a> Intake<'a> {
     // The start of an input, with nothing kept.
     pub fn start(
         follows: Phase,
@@ -376,9 +388,9 @@ impl<'a> Reader<'a> {
         ensures code { result.code.cells.ghost_name ≡ code.entry.ghost_name }
         ensures offsets { result.offsets.cells.ghost_name ≡ offsets.entry.ghost_name }
         ensures entries { result.entries.cells.ghost_name ≡ entries.entry.ghost_name }
-        ensures starts { state_view result ≡ begun sheet.old rules.old code.old offsets.old entries.old }
+        ensures starts { intake_view result ≡ begun sheet.old rules.old code.old offsets.old entries.old }
     {
-        Reader {
+        Intake {
             follows,
             head: line_in(Phase::SheetLine, 1, 0),
             sheet: Buffer::new(sheet),
@@ -392,7 +404,7 @@ impl<'a> Reader<'a> {
     // Keeps what a byte leaves to be kept where the reading stands at `h`.
     fn keep(&mut self, h: Head, b: u8)
         ensures buffers { SameBuffers self.old self.new }
-        ensures kept { stores_view self.new ≡ def.stored (stores_view self.old) (def.put_in (phase_view h.phase) (head_view h) b) }
+        ensures kept { intake_stores self.new ≡ def.stored (intake_stores self.old) (def.put_in (phase_view h.phase) (head_view h) b) }
     {
         match h.phase {
             Phase::SheetLine if is_kept(h, b) => self.sheet.push(b),
@@ -408,7 +420,7 @@ impl<'a> Reader<'a> {
     // The next bytes of an input. The head is a variable of the loop: behind `self` it would be stored and loaded again at each byte.
     pub fn feed(&mut self, bytes: &[u8])
         ensures buffers { SameBuffers self.old self.new }
-        ensures fed { state_view self.new ≡ def.steps (phase_view self.old.follows) (state_view self.old) bytes.now }
+        ensures fed { intake_view self.new ≡ def.steps (phase_view self.old.follows) (intake_view self.old) bytes.now }
     {
         let follows = self.follows;
         let mut head = self.head;
@@ -418,6 +430,21 @@ impl<'a> Reader<'a> {
             head = on;
         }
         self.head = head;
+    }
+
+    // What was read so far.
+    pub fn read(&self) -> Reader<'_>
+        ensures head { result.head ≡ self.now.head }
+        ensures state { state_view result ≡ intake_view self.now }
+    {
+        Reader {
+            head: self.head,
+            sheet: self.sheet.kept(),
+            rules: self.rules.kept(),
+            code: self.code.kept(),
+            offsets: self.offsets.kept(),
+            entries: self.entries.kept(),
+        }
     }
 }
 

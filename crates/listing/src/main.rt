@@ -2,7 +2,7 @@
 // the input cannot be read, or the output not written, it says so on standard error; bin/listing makes an exit status of that.
 #![tactic(auto)]
 
-use input_reader::{PROGRAM_ROOM, Phase, RULE_ROOM, Reader, SHEET_ROOM};
+use input_reader::{Intake, PROGRAM_ROOM, Phase, RULE_ROOM, Reader, SHEET_ROOM};
 use std::io;
 use std::io::Write;
 use text::LISTING_ROOM;
@@ -18,7 +18,7 @@ fn main(rt: HostRuntime) {
     let mut sheet = [0u8; SHEET_ROOM];
     let mut rules = [0u8; RULE_ROOM];
     let mut program = [0u8; PROGRAM_ROOM];
-    let mut reader = Reader::start(
+    let mut intake = Intake::start(
         Phase::ProgramText,
         &mut sheet,
         &mut rules,
@@ -26,11 +26,11 @@ fn main(rt: HostRuntime) {
         &mut [],
         &mut [],
     );
-    if standard_input::read_all(&mut rt.stdin(), &mut reader).is_err() {
+    if standard_input::read_all(&mut rt.stdin(), &mut intake).is_err() {
         let _ = rt.eprintln("listing: standard input cannot be read");
         return;
     }
-    if print(&mut rt.stdout(), &reader).is_err() {
+    if print(&mut rt.stdout(), &intake.read()).is_err() {
         let _ = rt.eprintln("listing: standard output cannot be written");
     }
 }

@@ -27,7 +27,7 @@ told-from s t input room l e f =
 pub prints : (input out : List ℕ) (r : ℕ) → Told listing_room text (cut_line input).0 (λ place. listed place input) out r → Lists input (take r out)
 prints input out r p = record { place = p.place; free = p.free; is = told_text p }
 
--- the same from a reader's start, in buffers that have room
+-- the same from an intake's start, in buffers that have room
 pub answered : (sheet rules program offsets entries : List ℕ) {q : Phase} {u t : State} (input : List ℕ) {out : List ℕ} {n : ℕ} → q ≡ program_text → u ≡ begun sheet rules program offsets entries → t ≡ steps q u input
     → sheet_room ≤ length sheet → rule_room ≤ length rules → program_room ≤ length program → length input < last_line
     → Told listing_room text (contents t.stores.sheet) (λ place. listed_at place t) out n → Told listing_room text (cut_line input).0 (λ place. listed place input) out n

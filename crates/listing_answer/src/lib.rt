@@ -15,7 +15,7 @@ ghost use Rattle.listing_answer.specs.View.{handed_program, whole_text, answer_t
 use compile::call::Compiled;
 use definition::{BAD_RULE, ENTRY_SIZE, MAX_CODE, MAX_CONSTANTS, MAX_LINES, Refusal, Refused};
 use emit::Constant;
-use input_reader::{PROGRAM_ROOM, Phase, RULE_ROOM, Reader, SHEET_ROOM};
+use input_reader::{Intake, PROGRAM_ROOM, Phase, RULE_ROOM, Reader, SHEET_ROOM};
 use text::{LISTING_ROOM, Text};
 
 // Numbers that a full line list takes.
@@ -115,7 +115,7 @@ pub fn answer(input: &[u8], out: &mut [u8; LISTING_ROOM]) -> usize
     let mut sheet = [0u8; SHEET_ROOM];
     let mut rules = [0u8; RULE_ROOM];
     let mut program = [0u8; PROGRAM_ROOM];
-    let mut reader = Reader::start(
+    let mut intake = Intake::start(
         Phase::ProgramText,
         &mut sheet,
         &mut rules,
@@ -123,6 +123,6 @@ pub fn answer(input: &[u8], out: &mut [u8; LISTING_ROOM]) -> usize
         &mut [],
         &mut [],
     );
-    reader.feed(input);
-    finish(&reader, out)
+    intake.feed(input);
+    finish(&intake.read(), out)
 }

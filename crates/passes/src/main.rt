@@ -3,7 +3,9 @@
 // standard error; bin/passes makes an exit status of that.
 #![tactic(auto)]
 
-use input_reader::{CODE_ROOM, ENTRY_ROOM, OFFSET_ROOM, Phase, RULE_ROOM, Reader, SHEET_ROOM};
+use input_reader::{
+    CODE_ROOM, ENTRY_ROOM, Intake, OFFSET_ROOM, Phase, RULE_ROOM, Reader, SHEET_ROOM,
+};
 use std::io;
 use std::io::Write;
 use text::TEXT_ROOM;
@@ -21,7 +23,7 @@ fn main(rt: HostRuntime) {
     let mut code = [0u8; CODE_ROOM];
     let mut offsets = [0u16; OFFSET_ROOM];
     let mut entries = [0u16; ENTRY_ROOM];
-    let mut reader = Reader::start(
+    let mut intake = Intake::start(
         Phase::CodeLine,
         &mut sheet,
         &mut rules,
@@ -29,11 +31,11 @@ fn main(rt: HostRuntime) {
         &mut offsets,
         &mut entries,
     );
-    if standard_input::read_all(&mut rt.stdin(), &mut reader).is_err() {
+    if standard_input::read_all(&mut rt.stdin(), &mut intake).is_err() {
         let _ = rt.eprintln("passes: standard input cannot be read");
         return;
     }
-    if print(&mut rt.stdout(), &reader).is_err() {
+    if print(&mut rt.stdout(), &intake.read()).is_err() {
         let _ = rt.eprintln("passes: standard output cannot be written");
     }
 }

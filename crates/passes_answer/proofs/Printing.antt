@@ -28,7 +28,7 @@ told-from s t input room l e f =
 pub prints : (input out : List ℕ) (r : ℕ) → Told text_room text (cut_line input).0 (λ place. passed place input) out r → Prints input (take r out)
 prints input out r p = record { place = p.place; free = p.free; is = told_text p }
 
--- the same from a reader's start, in buffers that have room
+-- the same from an intake's start, in buffers that have room
 pub answered : (sheet rules code offsets entries : List ℕ) {q : Phase} {u t : State} (input : List ℕ) {out : List ℕ} {n : ℕ} → q ≡ code_line → u ≡ begun sheet rules code offsets entries → t ≡ steps q u input
     → sheet_room ≤ length sheet → rule_room ≤ length rules → code_room ≤ length code → offset_room ≤ length offsets → entry_room ≤ length entries
     → length input < last_line → Told text_room text (contents t.stores.sheet) (λ place. concluded place t) out n → Told text_room text (cut_line input).0 (λ place. passed place input) out n

@@ -15,7 +15,7 @@ ghost use Rattle.text.specs.Text.{text_room, store_of, Told};
 
 use definition::{BAD_RULE, ENTRY_SIZE, MAX_CODE, MAX_LINES, MAX_PROTECTED, Refused};
 use input_reader::{
-    CODE_ROOM, ENTRY_ROOM, Ending, OFFSET_ROOM, Phase, RULE_ROOM, Reader, SHEET_ROOM,
+    CODE_ROOM, ENTRY_ROOM, Ending, Intake, OFFSET_ROOM, Phase, RULE_ROOM, Reader, SHEET_ROOM,
 };
 use optimize::Rewritten;
 use text::{TEXT_ROOM, Text};
@@ -117,7 +117,7 @@ pub fn answer(input: &[u8], out: &mut [u8; TEXT_ROOM]) -> usize
     let mut code = [0u8; CODE_ROOM];
     let mut offsets = [0u16; OFFSET_ROOM];
     let mut entries = [0u16; ENTRY_ROOM];
-    let mut reader = Reader::start(
+    let mut intake = Intake::start(
         Phase::CodeLine,
         &mut sheet,
         &mut rules,
@@ -125,6 +125,6 @@ pub fn answer(input: &[u8], out: &mut [u8; TEXT_ROOM]) -> usize
         &mut offsets,
         &mut entries,
     );
-    reader.feed(input);
-    finish(&reader, out)
+    intake.feed(input);
+    finish(&intake.read(), out)
 }

@@ -1,8 +1,8 @@
-use Rattle.std.proofs.Common.{ap, arith}
+use Rattle.std.proofs.Common.{ap, ◌∙◌, arith}
 use Rattle.input_reader.specs.View.{phase_view}
 use Rattle.listing_answer.proofs.Printing.{answered}
 use borrow.Author.Rules.{rules}
 use Rattle.listing_answer.proofs.answer.Goals as goal
 
 pub returns : goal.returns
-returns c = answered _ _ _ _ _ _ (ap phase_view c.start-reader.ensures.follows) c.start-reader.ensures.starts c.feed.ensures.fed (search rules) (search rules) (search rules) (omega (arith, c.well_formed)) c.finish.ensures
+returns c = answered _ _ _ _ _ _ (ap phase_view c.start-intake.ensures.follows) c.start-intake.ensures.starts (c.read.ensures.state ∙ c.feed.ensures.fed) (search rules) (search rules) (search rules) (omega (arith, c.well_formed)) c.finish.ensures
