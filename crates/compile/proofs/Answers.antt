@@ -1,6 +1,6 @@
 -- The parts of the call: 14, what follows emission, and the answer.
-use Rattle.std.proofs.Common.{◌≡◌, ℕ, zero, suc, ◌*◌, true, List, [], length, take, sym, refl, ◌∙◌, arith, length-take-le}
-use Rattle.definition.specs.Limits.{max_code, max_constants, max_lines, entry_size, far_branch}
+use Rattle.std.proofs.Common.{◌≡◌, ℕ, ◌*◌, true, List, [], length, take, sym, refl, ◌∙◌, arith, length-take-le}
+use Rattle.definition.specs.Limits.{max_code, max_constants, max_lines, entry_size}
 use Rattle.definition.specs.Res.{Res, ok, refuse, ◌>>=◌}
 use Rattle.definition.specs.Opcode.{Sheet}
 use Rattle.definition.specs.Rules.{Rule, read_rules}
@@ -25,12 +25,12 @@ use Rattle.runs.proofs.Finished.{each-so, program-bound, program-inside}
 use Rattle.compile.specs.declared.FinalizedFunction as ours
 use Rattle.std.specs.Prelude as std
 use Rattle.std.specs.Prelude.{Result, Ok, Err, Some, None, is_err, OnOk, false}
-use Rattle.definition.specs.View.{refusal_number, res_of}
+use Rattle.definition.specs.View.{refusal_number}
 use Rattle.definition.specs.declared.Refusal.TheVariants.{FarBranch}
 use Rattle.definition.specs.declared.Refused.{Refused}
 use Rattle.compile.specs.declared.call.Compiled.{Compiled}
 use Rattle.compile.specs.View.{Patchable, Finalizes}
-use Rattle.compile.specs.Call.{room, Roomy, answer_view, finishing, Ends, settled}
+use Rattle.compile.specs.Call.{room, Roomy, answer_view, numbered_view, finishing, Ends, output_after, settled}
 
 -- ---- 14
 
@@ -100,16 +100,27 @@ emitted s p code book pool b d = begun-acts s (emit_stmts p.body) b d
 
 -- ---- the answer
 
--- what a refusal leaves
-pub cleared : (o : Result Compiled Refused) (code constants lines : List ℕ) {b k l : List ℕ} → is_err o ≡ true → b ≡ zeroed_from 0 code → k ≡ zeroed_from 0 constants → l ≡ zeroed_from 0 lines
-    → answer_view o b k l ≡ settled o code constants lines
-unfolding answer
-cleared (Err e) code constants lines off eb ek el = rw (zero-all code eb, zero-all constants ek, zero-all lines el)
-cleared (Ok r) code constants lines off eb ek el = absurd (cc)
+-- an output behind a refusal, and behind a result
+pub cleared : {E : Type 0} (o : Result Compiled E) (xs : List ℕ) {ys : List ℕ} → is_err o ≡ true → ys ≡ zeroed_from 0 xs → ys ≡ output_after o xs
+cleared (Err e) xs off z = zero-all xs z
+cleared (Ok r) xs off z = absurd (cc)
 
-pub kept : (o : Result Compiled Refused) (code constants lines : List ℕ) → is_err o ≡ false → answer_view o code constants lines ≡ settled o code constants lines
-kept (Err e) code constants lines on = absurd (cc)
-kept (Ok r) code constants lines on = refl
+pub kept : {E : Type 0} (o : Result Compiled E) (xs : List ℕ) → is_err o ≡ false → xs ≡ output_after o xs
+kept (Err e) xs on = absurd (cc)
+kept (Ok r) xs on = refl
+
+-- the answer with the outputs
+pub settled_as : (o r : Result Compiled Refused) (code constants lines : List ℕ) {b k l : List ℕ} → r ≡ o → b ≡ output_after o code → k ≡ output_after o constants → l ≡ output_after o lines
+    → answer_view r b k l ≡ settled o code constants lines
+unfolding answer
+settled_as (Err e) r code constants lines is eb ek el = rw (is, eb, ek, el)
+settled_as (Ok d) r code constants lines is eb ek el = rw (is, eb, ek, el)
+
+-- and where a refusal is any number with a place
+pub refused_as : (number place : ℕ) (r : Result Compiled (ℕ × ℕ)) (code constants lines : List ℕ) {b k l : List ℕ} → let o : Result Compiled (ℕ × ℕ) = Err (number, place) in
+    r ≡ o → b ≡ output_after o code → k ≡ output_after o constants → l ≡ output_after o lines → numbered_view r b k l ≡ answer (room code constants lines) (refuse number place)
+unfolding answer
+refused_as number place r code constants lines is eb ek el = rw (is, eb, ek, el)
 
 -- what an outcome settles to is the definition's answer
 pub settled_is : (x : Res FinalizedFunction) {bytes words numbers b k l : List ℕ} {o : Result Compiled Refused} → Ends x bytes words numbers b k l o → length b ≡ length bytes → length k ≡ length words → length l ≡ length numbers

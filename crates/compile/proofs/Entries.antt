@@ -1,7 +1,7 @@
 -- The entry: 14, 7, 9, 1 and the lines before emission, and what it lends.
 use Rattle.std.proofs.Common.{◌≡◌, ℕ, ◌≤◌, true, false, List, ◌++◌, length, take, drop, sym, refl, ap, ◌∙◌, arith, length-append, length-drop, length-take-le}
 use lib.Seq.{take-append-le}
-use Rattle.definition.specs.Limits.{max_code, max_constants, max_nesting, bad_sheet, output_short}
+use Rattle.definition.specs.Limits.{max_constants, max_nesting, bad_sheet, output_short}
 use Rattle.definition.specs.Res.{Res, ok, refuse, ◌>>=◌, ◌>>◌, demand, given}
 use Rattle.definition.specs.Opcode.{Sheet}
 use Rattle.definition.specs.Sheet.{read_sheet}
@@ -29,15 +29,15 @@ use Rattle.store.proofs.Fills.{fitted-is, front, length-filled}
 use Rattle.optimize.proofs.Entry.{place-by, rules-read, rules-bad}
 use Rattle.runs.proofs.Safe.{compiled-safe}
 use Rattle.meaning.proofs.Faithful.{compiled-faithful}
-use Rattle.std.specs.Prelude.{Result, Ok, Err, None, OnOk}
-use Rattle.definition.specs.View.{refusal_number, res_of}
+use Rattle.std.specs.Prelude.{Result, Err, None, OnOk}
+use Rattle.definition.specs.View.{refusal_number}
 use Rattle.definition.specs.declared.Refusal.TheVariants.{OutputShort}
 use Rattle.definition.specs.declared.Refused.{Refused}
 use Rattle.compile.specs.declared.call.Compiled.{Compiled}
 use Rattle.compile.specs.View.{Patchable}
-use Rattle.compile.specs.Call.{room, Roomy, answer_view, settled, finishing, Ends}
+use Rattle.compile.specs.Call.{room, answer_view, output_after, finishing, Ends}
 use Rattle.compile.specs.Entry.{FromFile, behind_rules, behind_sheet, Finds}
-use Rattle.compile.proofs.Answers.{ends-here, patchable, emitted, settled_is, on_ok}
+use Rattle.compile.proofs.Answers.{ends-here, patchable, emitted, settled_as, settled_is, on_ok}
 
 ends_as : {x y : Res FinalizedFunction} {a b c d e f : List ℕ} {o : Result Compiled Refused} → x ≡ y → Ends x a b c d e f o → Ends y a b c d e f o
 ends_as is k = rw is at k
@@ -152,9 +152,9 @@ answered {r} {sheet} {rules} {program} {a} k = (k, (λ z. compiled-safe r sheet 
 
 -- the same of what code answers
 module _ (sheet rules program : List ℕ) {code constants lines b k l : List ℕ} (b' k' l' : List ℕ) {o : Result Compiled Refused} (f : Finds sheet rules program code constants lines b k l o) (r : Result Compiled Refused)
-    (is : answer_view r b' k' l' ≡ settled o b k l) (eb : length b ≡ length code) (ek : length k ≡ length constants) (el : length l ≡ length lines) where
+    (same : r ≡ o) (sb : b' ≡ output_after o b) (sk : k' ≡ output_after o k) (sl : l' ≡ output_after o l) (eb : length b ≡ length code) (ek : length k ≡ length constants) (el : length l ≡ length lines) where
   pub call-answers : Compiles (room code constants lines) sheet rules program (answer_view r b' k' l')
-  call-answers = record { place = f.place; free = f.free; is = is ∙ settled_is (compile_into f.place (room code constants lines) sheet rules program) f.ends eb ek el }
+  call-answers = record { place = f.place; free = f.free; is = settled_as o r b k l same sb sk sl ∙ settled_is (compile_into f.place (room code constants lines) sheet rules program) f.ends eb ek el }
 
   pub answered-safe : OnOk r (Safe sheet rules program (answer_view r b' k' l'))
   answered-safe = on_ok (λ a. Safe sheet rules program a) r b' k' l' (answered call-answers).1.0

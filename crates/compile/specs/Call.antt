@@ -8,7 +8,7 @@ use Rattle.definition.specs.declared.Refused.{Refused}
 use Rattle.definition.specs.Opcode.{Sheet}
 use Rattle.definition.specs.Rules.{Rule}
 use Rattle.definition.specs.Emit as def
-use Rattle.definition.specs.Lent.{filled, entry_numbers}
+use Rattle.definition.specs.Lent.{zeros, filled, entry_numbers}
 use Rattle.definition.specs.Compile as compile
 use Rattle.definition.specs.Compile.{FinalizedFunction, Room, answer}
 use Rattle.compile.specs.View.{finalizing}
@@ -71,7 +71,17 @@ pub record Ends (x : Res FinalizedFunction) (bytes words numbers bytes' words' n
   pub is : res_of (λ c. c) r ≡ outcome_of x
   pub held : (f : FinalizedFunction) → x ≡ ok f → Held f bytes words numbers bytes' words' numbers'
 
+-- what an output holds once an outcome is answered: 0 all through after a refusal, else what it held
+abbrev pub output_after : {E : Type 0} → Result Compiled E → List ℕ → List ℕ
+output_after (Err e) xs = zeros (length xs)
+output_after (Ok r) xs = xs
+
 -- the answer that follows: only here are outputs zeroed
 abbrev pub settled : Result Compiled Refused → List ℕ → List ℕ → List ℕ → compile.Answer
 settled (Err e) code constants lines = answer (room code constants lines) (refuse (refusal_number e.refusal) e.place)
 settled (Ok r) code constants lines = answer_view (Ok r) code constants lines
+
+-- the answer where a refusal is any number with a place, as (u8, usize)
+abbrev pub numbered_view : Result Compiled (ℕ × ℕ) → List ℕ → List ℕ → List ℕ → compile.Answer
+numbered_view (Err e) code constants lines = record (answer_view (Ok (record { bytes = 0; depth = 0; constants = 0; entries = 0 })) code constants lines) { number = e.0; place = e.1 }
+numbered_view (Ok r) code constants lines = answer_view (Ok r) code constants lines

@@ -1,9 +1,9 @@
 // What the call answers, and what the lent outputs then hold.
 ghost use Rattle.std.specs.Prelude.{◌≡◌};
 ghost use Rattle.definition.specs.Compile.{roomy};
-ghost use Rattle.compile.specs.Call.{room_of, answer_view, settled};
+ghost use Rattle.compile.specs.Call.{room_of, output_after};
 
-use definition::{ENTRY_SIZE, MAX_CODE, MAX_CONSTANTS, MAX_LINES, Refused};
+use definition::{ENTRY_SIZE, MAX_CODE, MAX_CONSTANTS, MAX_LINES};
 use emit::Constant;
 
 // A program that is compiled: how many bytes, constants and line entries the outputs hold, and the depth.
@@ -29,14 +29,17 @@ pub fn roomy(code: usize, constants: usize, lines: usize) -> bool
     )
 }
 
-// What a program came to, as it is answered: a refusal zeroes every output, and a result is in them already.
-pub fn settle(
-    outcome: Result<Compiled, Refused>,
+// What a program came to, as it is answered: a refusal zeroes every output, and a result is in them already. Any type may say what a refusal is.
+pub fn settle<E>(
+    outcome: Result<Compiled, E>,
     code: &mut [u8],
     constants: &mut [Constant],
     lines: &mut [u16],
-) -> Result<Compiled, Refused>
-    ensures { answer_view result code.new constants.new lines.new ≡ settled outcome code.old constants.old lines.old }
+) -> Result<Compiled, E>
+    ensures same { result ≡ outcome }
+    ensures code { code.new ≡ output_after outcome code.old }
+    ensures constants { constants.new ≡ output_after outcome constants.old }
+    ensures lines { lines.new ≡ output_after outcome lines.old }
 {
     if outcome.is_err() {
         store::set_from(code, 0, 0);

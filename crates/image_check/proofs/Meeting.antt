@@ -25,9 +25,9 @@ module _ (end : ℕ) (flags marks work : List ℕ) (t : Trip) (h q : ℕ) (ready
   T = table_of t marks work
 
   -- it is no place
-  pub met-off : is_place flags end q ≡ false → Meets end flags marks work t h q marks work None
+  pub met-off : is_place flags end q ≡ false → (r : std.Option Trip) → r ≡ None → Meets end flags marks work t h q marks work r
   unfolding met_if view
-  met-off e = record { ready = tt; fewer = omega arith; is = sym (ap (λ b. met_if b h q T) e) }
+  met-off e r off = rw off (record { ready = tt; fewer = omega arith; is = sym (ap (λ b. met_if b h q T) e) })
 
   module _ (there : is_place flags end q ≡ true) where
     abbrev here : Node

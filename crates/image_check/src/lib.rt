@@ -57,7 +57,7 @@ fn meet(
     ensures { Meets end flags.now marks.old work.old t h q marks.new work.new result }
 {
     if !is_place(flags, end, q) {
-        return None;
+        return None; // astray
     }
     // A mark is a height and one, 0 where nothing was: lent numbers, cleared once.
     let mark = marks[q];
