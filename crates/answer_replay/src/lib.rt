@@ -53,7 +53,9 @@ fn is_passed(input: &[u8], expected: &[u8]) -> bool {
     is_told(&out, n, expected)
 }
 
-fn digit(b: u8) -> u64 {
+fn digit(b: u8) -> u64
+    ensures { result ≤ 9 }
+{
     if b.is_ascii_digit() {
         u64::from(b - b'0')
     } else {
@@ -63,9 +65,10 @@ fn digit(b: u8) -> u64 {
 
 // The number that some digits spell; the largest depth where that is larger.
 fn number(bytes: &[u8]) -> u64 {
-    bytes.iter().fold(0u64, |n, b| {
-        n.saturating_mul(10).saturating_add(digit(*b))
-    })
+    bytes
+        .iter()
+        .try_fold(0u64, |n, b| n.checked_mul(10)?.checked_add(digit(*b)))
+        .unwrap_or(u64::MAX)
 }
 
 // An image's three lines: the sheet, the depth, and the code's bytes; none where a line is missing.

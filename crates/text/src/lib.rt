@@ -71,8 +71,9 @@ impl Number for u8 {
 impl Number for u16 {
     ghost value = { λ n. n };
 
+    // In another form than u8's: a must-fail edit names a text that stands once.
     fn wide(self) -> u64 {
-        u64::from(self)
+        self.into()
     }
 }
 
