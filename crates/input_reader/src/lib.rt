@@ -39,19 +39,20 @@ pub struct Head {
     pub phase: Phase,
 }
 
-// What was read so far: where the reading stands, and what the buffers hold; a listing's program is in the code's.
+// What was read so far: where the reading stands, and what the buffers hold; a listing's program is in the code's. Each buffer has a lifetime of its
+// own: with one for all, a function that takes the slices would have to name it for each of them.
 #[derive(Clone, Copy)]
-pub struct Reader<'a> {
+pub struct Reader<'sheet, 'rules, 'code, 'offsets, 'entries> {
     pub head: Head,
-    pub sheet: Kept<'a, u8>,
-    pub rules: Kept<'a, u8>,
-    pub code: Kept<'a, u8>,
-    pub offsets: Kept<'a, u16>,
-    pub entries: Kept<'a, u16>,
+    pub sheet: Kept<'sheet, u8>,
+    pub rules: Kept<'rules, u8>,
+    pub code: Kept<'code, u8>,
+    pub offsets: Kept<'offsets, u16>,
+    pub entries: Kept<'entries, u16>,
 }
 
-// What reads: what follows the rules, where the reading stands, and the buffers that it fills. Made anew with a reader's head and counts it goes on
-// from there.
+// What reads: what follows the rules, where the reading stands, and the buffers that it fills. With its head and counts set to a reader's it goes on from
+// there.
 #[derive(Drop)]
 pub struct Intake<'a> {
     pub follows: Phase,
@@ -433,7 +434,7 @@ impl<'a> Intake<'a> {
     }
 
     // What was read so far.
-    pub fn read(&self) -> Reader<'_>
+    pub fn read(&self) -> Reader<'_, '_, '_, '_, '_>
         ensures head { result.head ≡ self.now.head }
         ensures state { state_view result ≡ intake_view self.now }
     {
