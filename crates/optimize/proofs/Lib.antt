@@ -4,6 +4,7 @@ pub mod Lines
 pub mod Bounds
 pub mod Runs
 pub mod Filling
+pub mod Copying
 pub mod Handed
 pub mod Whole
 pub mod Entry

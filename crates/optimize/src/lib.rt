@@ -11,6 +11,7 @@ ghost use Rattle.field.specs.View.{option_of};
 ghost use Rattle.definition.specs.Optimize.{run, remap_line_map};
 ghost use Rattle.opcode.specs.Table.{IsTable, sheet_in};
 ghost use Rattle.rules.specs.View.{rules_in};
+ghost use Rattle.store.specs.Fill.{fitted_with};
 ghost use Rattle.line_map.specs.View.{entry_view};
 ghost use Rattle.rewrite.specs.View.{Clear};
 ghost use Rattle.optimize.specs.View.{Small, Marks, Bounds, Runnable, pipeline, passes, Ran, Rewrote, Passed, given, map_in, fixed_in, CheckedOffset, Checks, offset_view, entry_offsets, remapped_view, Remaps};
@@ -199,6 +200,17 @@ pub fn optimize(
     n
 }
 
+// store's `fill_from` by a loop: a slice copied from one lent list to another is a call of memmove, which the library for C would need from outside.
+fn fill_from<T: Copy>(from: &[T], out: &mut [T], blank: T)
+    ensures { out.new ≡ fitted_with blank (length out.old) from.now }
+{
+    let n = out.len().min(from.len());
+    for i in 0..n {
+        out[i] = from[i];
+    }
+    store::set_from(out, n, blank);
+}
+
 // What code and protected offsets called alone come to, in lent outputs that have room for them. The code is copied once, here.
 fn rewrite_into(
     sheet: &[u8],
@@ -219,8 +231,8 @@ fn rewrite_into(
 {
     let n = code.len();
     let k = protected.len();
-    store::fill_from(code, bytes, 0);
-    store::fill_from(protected, offsets, 0);
+    fill_from(code, bytes, 0);
+    fill_from(protected, offsets, 0);
     optimize(
         sheet,
         rules,

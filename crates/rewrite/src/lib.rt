@@ -64,17 +64,6 @@ fn seen(sheet: &[u8], bytes: &[u8]) -> Instruction
     }
 }
 
-// So many bytes at `from`, put at `to`, which is not behind it. No `copy_within`: the library for C would need memmove from outside.
-fn copy_down(code: &mut [u8], from: usize, to: usize, size: usize) -> usize
-    requires { (to ≤ from) × (from + size ≤ length code.old) }
-    ensures { Puts (take size (drop from code.old)) code.old code.new to result }
-{
-    for i in 0..size {
-        code[to + i] = code[from + i];
-    }
-    to + size
-}
-
 // What an action leaves of the instruction of `size` bytes at `from`, put at `to`, which is not behind it.
 fn apply(code: &mut [u8], from: usize, to: usize, size: usize, action: Action) -> usize
     requires to_le_from { (to ≤ from) × (from + size ≤ length code.old) }
@@ -82,7 +71,10 @@ fn apply(code: &mut [u8], from: usize, to: usize, size: usize, action: Action) -
     ensures { Puts (applied (action_view action) (take size (drop from code.old))) code.old code.new to result }
 {
     match action {
-        Action::Keep => copy_down(code, from, to, size),
+        Action::Keep => {
+            code.copy_within(from..from + size, to);
+            to + size
+        }
         Action::Remove => to,
         Action::RewriteOperand(n) => {
             let [low, high] = n.to_le_bytes();

@@ -20,7 +20,7 @@ pub bounds-code-to-in-RewriteOperand-2 : goal.bounds-code-to-in-RewriteOperand-2
 bounds-code-to-in-RewriteOperand-2 c = simp length-set (omega (arith, c.requires.to_le_from, three (ap action_view c.in-RewriteOperand.is) c.requires.fitting))
 
 pub returns-in-Keep : goal.returns-in-Keep
-returns-in-Keep c = puts-kept c.args.from c.args.size (ap action_view c.in-Keep.is) c.copy_down.ensures
+returns-in-Keep c = puts-kept _ _ _ _ (ap action_view c.in-Keep.is) c.requires.to_le_from.1 c.copy_within.ensures.after
 
 pub returns-in-Remove : goal.returns-in-Remove
 returns-in-Remove c = puts-removed _ c.args.from _ c.args.size (ap action_view c.in-Remove.is) (omega (arith, c.requires.to_le_from))
