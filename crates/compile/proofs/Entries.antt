@@ -35,9 +35,9 @@ use Rattle.definition.specs.declared.Refusal.TheVariants.{OutputShort}
 use Rattle.definition.specs.declared.Refused.{Refused}
 use Rattle.compile.specs.declared.call.Compiled.{Compiled}
 use Rattle.compile.specs.View.{Patchable}
-use Rattle.compile.specs.Call.{room, answer_view, output_after, settled, finishing, Ends}
+use Rattle.compile.specs.Call.{room, answer_view, settled, finishing, Ends}
 use Rattle.compile.specs.Entry.{FromFile, behind_rules, behind_sheet, Finds}
-use Rattle.compile.proofs.Answers.{ends-here, patchable, emitted, settled_as, settled_is, on_ok}
+use Rattle.compile.proofs.Answers.{ends-here, patchable, emitted, settled_is, on_ok}
 
 ends_as : {x y : Res FinalizedFunction} {a b c d e f : List ℕ} {o : Result Compiled Refused} → x ≡ y → Ends x a b c d e f o → Ends y a b c d e f o
 ends_as is k = rw is at k
@@ -150,19 +150,14 @@ sheet-good {sheet} {table} d = good sheet (sheet_in table) d.is
 pub answered : {r : Room} {sheet rules program : List ℕ} {a : compile.Answer} → Compiles r sheet rules program a → Compiles r sheet rules program a × ((a.number ≡ 0 → Safe sheet rules program a) × (a.number ≡ 0 → length rules ≡ 0 → Faithful sheet program a))
 answered {r} {sheet} {rules} {program} {a} k = (k, (λ z. compiled-safe r sheet rules program a k z, λ z e. compiled-faithful r sheet rules program a k z e))
 
--- the same of what an outcome settles to, in whatever form it is answered
+-- the same of what code answers: of any answer that its outcome settles to, and of a result
 module _ (sheet rules program : List ℕ) {code constants lines b k l : List ℕ} {o : Result Compiled Refused} (f : Finds sheet rules program code constants lines b k l o) where
-  pub settled-answers : {a : compile.Answer} → a ≡ settled o b k l → length b ≡ length code → length k ≡ length constants → length l ≡ length lines → Compiles (room code constants lines) sheet rules program a
-  settled-answers same eb ek el = record { place = f.place; free = f.free; is = same ∙ settled_is (compile_into f.place (room code constants lines) sheet rules program) f.ends eb ek el }
+  pub call-answers : {a : compile.Answer} → a ≡ settled o b k l → length b ≡ length code → length k ≡ length constants → length l ≡ length lines → Compiles (room code constants lines) sheet rules program a
+  call-answers same eb ek el = record { place = f.place; free = f.free; is = same ∙ settled_is (compile_into f.place (room code constants lines) sheet rules program) f.ends eb ek el }
 
--- and of what code answers
-module _ (sheet rules program : List ℕ) {code constants lines b k l : List ℕ} (b' k' l' : List ℕ) {o : Result Compiled Refused} (f : Finds sheet rules program code constants lines b k l o) (r : Result Compiled Refused)
-    (same : r ≡ o) (sb : b' ≡ output_after o b) (sk : k' ≡ output_after o k) (sl : l' ≡ output_after o l) (eb : length b ≡ length code) (ek : length k ≡ length constants) (el : length l ≡ length lines) where
-  pub call-answers : Compiles (room code constants lines) sheet rules program (answer_view r b' k' l')
-  call-answers = settled-answers sheet rules program f (settled_as o r b k l same sb sk sl) eb ek el
+module _ {r : Room} {sheet rules program : List ℕ} (o : Result Compiled Refused) (b k l : List ℕ) (d : Compiles r sheet rules program (answer_view o b k l)) where
+  pub answered-safe : OnOk o (Safe sheet rules program (answer_view o b k l))
+  answered-safe = on_ok (λ a. Safe sheet rules program a) o b k l (answered d).1.0
 
-  pub answered-safe : OnOk r (Safe sheet rules program (answer_view r b' k' l'))
-  answered-safe = on_ok (λ a. Safe sheet rules program a) r b' k' l' (answered call-answers).1.0
-
-  pub answered-faithful : OnOk r (length rules ≡ 0 → Faithful sheet program (answer_view r b' k' l'))
-  answered-faithful = on_ok (λ a. length rules ≡ 0 → Faithful sheet program a) r b' k' l' (answered call-answers).1.1
+  pub answered-faithful : OnOk o (length rules ≡ 0 → Faithful sheet program (answer_view o b k l))
+  answered-faithful = on_ok (λ a. length rules ≡ 0 → Faithful sheet program a) o b k l (answered d).1.1
