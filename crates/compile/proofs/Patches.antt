@@ -1,10 +1,10 @@
 -- Pending patches of the book, one by one: where their labels are bound, and their bytes written.
-use Rattle.std.proofs.Common.{◌≡◌, ℕ, zero, suc, ◌+◌, ◌-◌, ◌/◌, ◌%◌, ◌^◌, ◌<◌, ◌≤◌, Bool, true, false, eqb, leb, List, [], ◌∷◌, ◌++◌, length, get_or, take, drop, set, sym, refl, ap, ◌∙◌, subst, append_assoc, add-one, arith, length-set, take_all, take-suc-set, eqb-true, le-leb, leb-false, leb-true}
+use Rattle.std.proofs.Common.{◌≡◌, ℕ, zero, suc, ◌+◌, ◌-◌, ◌/◌, ◌%◌, ◌^◌, ◌<◌, ◌≤◌, Bool, true, false, eqb, List, [], ◌∷◌, ◌++◌, length, get_or, take, drop, set, sym, refl, ap, ◌∙◌, subst, append_assoc, add-one, arith, length-set, take_all, take-suc-set, eqb-true}
 use mathlib.Core.Option.{Option}
 use mathlib.Core.List.{map-append}
-use borrow.Author.Tests.{eqb-false, lt-leb}
+use borrow.Author.Tests.{eqb-false}
 use lib.Seq.{sets-eq}
-use Rattle.definition.specs.Limits.{max_code, max_back, max_forward, far_branch}
+use Rattle.definition.specs.Limits.{max_code, far_branch}
 use Rattle.definition.specs.Res.{Res, ok, refuse, ◌>>◌, demand}
 use Rattle.definition.specs.Emit as def
 use Rattle.definition.specs.Emit.{le16}

@@ -1,5 +1,4 @@
-use Rattle.std.proofs.Common.{arith}
-use Rattle.compile.proofs.Patches.{each-patch, patch-begins, patch-goes-on, patch-ends}
+use Rattle.compile.proofs.Patches.{each-patch, patch-begins, patch-goes-on}
 use Rattle.compile.proofs.patch_jumps.Goals as goal
 
 pub loop-i-init : goal.loop-i-init

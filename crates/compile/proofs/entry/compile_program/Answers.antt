@@ -2,7 +2,7 @@ use Rattle.std.proofs.Common.{ℕ, sym}
 use Rattle.std.proofs.lemmas.Result.{err_from_is_err_and}
 use lib.ListN.{length-replicate}
 use Rattle.opcode.specs.Table.{sheet_in}
-use Rattle.rules.specs.View.{table_size, rules_in}
+use Rattle.rules.specs.View.{table_size}
 use Rattle.rules.proofs.File.{file-fit}
 use Rattle.optimize.proofs.Entry.{rules-read}
 use Rattle.program.proofs.Check.{accepted}
