@@ -3,3 +3,5 @@ pub mod Places
 pub mod Whole
 pub mod Answers
 pub mod Entries
+pub mod Named
+pub mod NamedEmission

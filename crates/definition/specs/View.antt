@@ -1,10 +1,11 @@
--- What the refusals of code stand for: a number, and a number with a place.
-use Rattle.std.specs.Prelude.{ℕ, Result, Ok, Err}
+-- What the refusals of code stand for: a number, and a number with a place; and which of them have a name.
+use Rattle.std.specs.Prelude.{ℕ, ◌≡◌, Result, Ok, Err}
 use Rattle.definition.specs.Limits.{bad_text, bad_form, bad_range, no_loop, too_deep, wrong_lines, bad_sheet, bad_code, bad_rule, code_full, labels_full, lines_full, constants_full, output_short, far_branch, astray, bad_height}
 use Rattle.definition.specs.Res.{Res, ok, refuse}
 use Rattle.definition.specs.declared.Refusal.{Refusal}
 use Rattle.definition.specs.declared.Refusal.TheVariants.{BadText, BadForm, BadRange, NoLoop, TooDeep, WrongLines, BadSheet, BadCode, BadRule, CodeFull, LabelsFull, LinesFull, ConstantsFull, OutputShort, FarBranch, Astray, BadHeight, Other}
 use Rattle.definition.specs.declared.Refused.{Refused}
+use Rattle.definition.specs.declared.Unnamed.{Unnamed}
 
 abbrev pub refusal_number : Refusal → ℕ
 refusal_number BadText = bad_text
@@ -30,3 +31,7 @@ refusal_number (Other u) = u.number
 abbrev pub res_of : {T A : Type 0} → (T → A) → Result T Refused → Res A
 res_of f (Ok x) = ok (f x)
 res_of f (Err e) = refuse (refusal_number e.refusal) e.place
+
+-- a refusal that has a name in Limits
+abbrev pub Named : Refusal → Type 0
+Named r = (u : Unnamed) → r ≡ Other u → ⊥

@@ -11,3 +11,4 @@ pub mod Checking
 pub mod One
 pub mod Tells
 pub mod Example
+pub mod Named

@@ -64,7 +64,7 @@ module _ (s : Sheet) where
   unfolding branch Numbered
   branch-numbered r o d l e = numbered-bind _ _ (add-numbered r _ other e) (λ x p. tt)
 
-  act-numbered : (c : Call) (e : Emitter) → Told c → Numbered (act s c e)
+  pub act-numbered : (c : Call) (e : Emitter) → Told c → Numbered (act s c e)
   unfolding act pooled Told Numbered
   act-numbered (create_label h) e t = numbered-demand _ labels_full 0 _ (omega arith, omega arith) (λ q. tt)
   act-numbered (bind_label l) e t = tt

@@ -1,6 +1,7 @@
 pub mod Heights
 pub mod Emission
 pub mod Refusals
+pub mod Named
 pub mod Faultless
 pub mod Answers
 pub mod Roles

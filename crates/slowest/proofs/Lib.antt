@@ -9,3 +9,4 @@ pub mod Ways
 pub mod Reading
 pub mod Swept
 pub mod Followed
+pub mod Named
