@@ -1,10 +1,10 @@
 -- Every refusal that is answered has a name: what the clauses say of its number rules out one of no name (`Refusal::Other`). A walk that is handed in refused
 -- is answered as it was, so it is no such answer.
 use Rattle.std.proofs.Common.{◌≡◌, ℕ, zero, suc, ◌≤◌, Bool, true, false, List, [], ◌∷◌, sym, refl, arith}
-use Rattle.std.specs.Prelude.{Result, Ok, Err}
+use Rattle.std.specs.Prelude.{Result, Err}
 use Rattle.std.proofs.Math.Option.{Option, some, none}
-use Rattle.definition.specs.Limits.{max_nesting, bad_sheet, bad_code, code_full, labels_full, lines_full, output_short, far_branch}
-use Rattle.definition.specs.Res.{Res, ok, refuse, ◌>>=◌, ◌>>◌}
+use Rattle.definition.specs.Limits.{bad_sheet, bad_code, code_full, labels_full, lines_full, output_short, far_branch}
+use Rattle.definition.specs.Res.{Res, ok, refuse}
 use Rattle.definition.specs.Opcode.{Sheet}
 use Rattle.definition.specs.Tree.{Fault}
 use Rattle.definition.specs.Program as def
@@ -18,11 +18,11 @@ use Rattle.definition.specs.Claims.{left, right}
 use Rattle.definition.specs.View.{refusal_number, res_of, Named}
 use Rattle.definition.specs.declared.Refusal.{Refusal}
 use Rattle.definition.specs.declared.Refused.{Refused}
-use Rattle.definition.proofs.Named.{small-named}
+use Rattle.field.proofs.Named.{small-named}
 use Rattle.field.proofs.Refusals.{LineTold, at_told, anything}
-use Rattle.runs.proofs.Refusals.{Numbered, Told, numbered-bind, numbered-demand, numbered-given, rules-numbered, expr-fault, stmt-fault, expr-told, stmt-told, header-numbered, read-numbered}
+use Rattle.runs.proofs.Refusals.{Numbered, Told, numbered-bind, numbered-then, numbered-demand, numbered-given, rules-numbered, expr-fault, stmt-fault, expr-told, stmt-told, header-numbered, read-numbered}
 use Rattle.runs.proofs.Answers.{call-refused, reach-number}
-use Rattle.runs.proofs.Named.{numbered-named}
+use Rattle.runs.proofs.Named.{refused-named, numbered-named}
 use Rattle.program_line.specs.declared.Next.{Next}
 use Rattle.program_line.specs.Scan.{Found}
 use Rattle.program.specs.declared.Cursor.{Cursor}
@@ -60,11 +60,7 @@ many-numbered zero f t c = tt
 many-numbered (suc n) f t c = numbered-bind (f c) _ (t c) (λ d q. many-numbered n f t d)
 
 walk-named : {f : def.Cursor → Res def.Cursor} {text : List ℕ} {c : Cursor} {r : Result Cursor Stop} (s : Stop) → ((d : def.Cursor) → Numbered (f d)) → Walked f text c r → r ≡ Err s → Named s.refusal
-unfolding Numbered
-walk-named {f} {text} {c} s told walked is =
-    let at : f (record { at = c.at; row = c.row }) ≡ refuse (refusal_number s.refusal) s.at.row = sym (rw is at walked.did) in
-    let t : Numbered {A = def.Cursor} (refuse (refusal_number s.refusal) s.at.row) = rw at at (told (record { at = c.at; row = c.row })) in
-    small-named s.refusal (omega (arith, t.1))
+walk-named s told walked is = refused-named s.refusal (sym (rw is at walked.did)) (told _)
 
 module _ (heed : Bool) (left variables : ℕ) (text : List ℕ) {c : Cursor} {r : Result Cursor Stop} (s : Stop) where
   pub expr-walk-named : Walked (over_expr heed left variables text) text c r → r ≡ Err s → Named s.refusal
@@ -78,14 +74,9 @@ module _ (heed : Bool) (left variables : ℕ) (text : List ℕ) {c : Cursor} {r 
 pub check-named : (text : List ℕ) {r : Result Checked Refused} (e : Refused) → res_of checked_view r ≡ program.checked text → r ≡ Err e → Named e.refusal
 unfolding program.checked Numbered
 check-named text e same = numbered-named checked_view e same
-    (numbered-bind (def.read_program text) _ (read-numbered text) (λ p q. numbered-bind _ _ (header-numbered _ (at_told (λ l. Unit {0}) header_forms max_nesting text 0 (anything header_forms))) (λ h q'. tt)))
+    (numbered-bind (def.read_program text) _ (read-numbered text) (λ p q. numbered-bind _ _ (header-numbered text) (λ h q'. tt)))
 
 -- ---- rewriting called alone
-
-then-numbered : {A B : Type 0} (m : Res A) (k : Res B) → Numbered m → Numbered k → Numbered (m >> k)
-unfolding ◌>>◌ Numbered
-then-numbered (ok a) k t u = u
-then-numbered (refuse n p) k t u = t
 
 places-numbered : (places xs : List ℕ) → Numbered (boundaries places xs)
 unfolding boundaries Numbered
@@ -94,7 +85,7 @@ places-numbered places (x ∷ xs) = numbered-demand _ bad_code x _ (omega arith,
 
 checks-numbered : (s : Sheet) (g : Given) → Numbered (checked s g)
 unfolding checked
-checks-numbered s g = numbered-demand _ bad_code _ _ (omega arith, omega arith) (λ q. then-numbered _ _ (places-numbered _ g.protected) (places-numbered _ _))
+checks-numbered s g = numbered-demand _ bad_code _ _ (omega arith, omega arith) (λ q. numbered-then _ _ (places-numbered _ g.protected) (places-numbered _ _))
 
 rewriting-numbered : (place : ℕ) (room : alone.Room) (sheet rules : List ℕ) (g : Given) → Numbered (rewrite_into place room sheet rules g)
 unfolding rewrite_into rewrite_files read_rules Numbered
@@ -104,7 +95,7 @@ rewriting-numbered place room sheet rules g =
     numbered-bind _ _ (rules-numbered 1 _) λ rs q₂.
     numbered-demand _ code_full 0 _ (omega arith, omega arith) λ q₃.
     numbered-demand _ labels_full 0 _ (omega arith, omega arith) λ q₄.
-    numbered-demand _ lines_full 0 _ (omega arith, omega arith) λ q₅. then-numbered _ _ (checks-numbered s g) tt
+    numbered-demand _ lines_full 0 _ (omega arith, omega arith) λ q₅. numbered-then _ _ (checks-numbered s g) tt
 
 alone-small : (room : alone.Room) (x : Res Rewritten) → Numbered x → (alone.answer room x).number ≤ far_branch
 unfolding alone.answer Numbered

@@ -1,6 +1,6 @@
--- Emission brings in no refusal without a name (`Refusal::Other`): an emitter that has none is answered without one, by each method but a caller's own
--- `Emitter::refuse`, and by each part that emits what stands in a text.
-use Rattle.std.proofs.Common.{◌≡◌, ℕ, ◌≤◌, List, [], ◌∷◌, sym, refl, subst, arith}
+-- Emission brings in no refusal without a name (`Refusal::Other`): an emitter that has none is answered without one, by each part that emits what stands in a text
+-- and by each method. But a caller's own `Emitter::refuse` brings one in by its number, and `Emitter::fail` where it is handed one.
+use Rattle.std.proofs.Common.{◌≡◌, ℕ, ◌≤◌, List, [], sym, refl, subst, arith}
 use Rattle.std.specs.Prelude.{Some, None}
 use Rattle.std.specs.Prelude as std
 use Rattle.definition.specs.Limits.{max_nesting, far_branch}
@@ -12,13 +12,12 @@ use Rattle.definition.specs.Program.{expr_at, stmt_at}
 use Rattle.definition.specs.Emit as emitter
 use Rattle.definition.specs.Emit.{Call, act, refused}
 use Rattle.definition.specs.Walk.{Calls}
-use Rattle.definition.specs.Expr.{emit_expr}
 use Rattle.definition.specs.Stmt.{emit_stmts}
 use Rattle.definition.specs.Claims.{Each, empty, ◌also◌}
 use Rattle.definition.specs.View.{refusal_number, Named}
 use Rattle.definition.specs.declared.Refusal.{Refusal}
 use Rattle.definition.specs.declared.Refused.{Refused}
-use Rattle.definition.proofs.Named.{small-named, same-named}
+use Rattle.field.proofs.Named.{small-named, same-named}
 use Rattle.runs.proofs.Refusals.{Numbered, expr-told, stmt-told, block-of}
 use Rattle.runs.proofs.Faultless as calls
 use Rattle.runs.proofs.Faultless.{Tells, expr-tells, told-tells}
@@ -26,7 +25,7 @@ use Rattle.runs.proofs.Answers.{act-numbered}
 use Rattle.program.specs.declared.Cursor.{Cursor}
 use Rattle.program_shape.specs.Shape.{block_at}
 use Rattle.emit.specs.declared.Emitter.{Emitter}
-use Rattle.emit.specs.View.{World, world, state, standing, Stage, going, halted, stage_of}
+use Rattle.emit.specs.View.{World, state, standing, Stage, going, halted, stage_of}
 use Rattle.emit.specs.Steps.{Step, ◌>->◌, Did, met_at, once, call, calls, run, Kept, Bare, Begun}
 use Rattle.expr.specs.Went.{Went, WentExpr}
 

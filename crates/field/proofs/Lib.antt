@@ -4,4 +4,5 @@ pub mod Numbers
 pub mod Parts
 pub mod Fields
 pub mod Results
+pub mod Named
 pub mod Refusals

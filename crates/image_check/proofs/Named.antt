@@ -6,7 +6,7 @@ use Rattle.definition.specs.Check.{Astray, HeightFault, Answers, Checks, refuses
 use Rattle.definition.specs.View.{refusal_number, Named}
 use Rattle.definition.specs.declared.Refusal.{Refusal}
 use Rattle.definition.specs.declared.Refused.{Refused}
-use Rattle.definition.proofs.Named.{small-named}
+use Rattle.field.proofs.Named.{small-named}
 use Rattle.image_check.specs.View.{fault_of, number_of, place_of, Admitted, Rejects}
 
 module _ (r : Refusal) where

@@ -6,20 +6,22 @@ use Rattle.definition.specs.Limits.{output_short}
 use Rattle.definition.specs.Res.{Res, ok, refuse}
 use Rattle.definition.specs.Rules.{Rule, read_rules}
 use Rattle.definition.specs.View.{refusal_number, res_of, Named}
+use Rattle.definition.specs.declared.Refusal.{Refusal}
 use Rattle.definition.specs.declared.Refused.{Refused}
-use Rattle.definition.proofs.Named.{small-named}
+use Rattle.field.proofs.Named.{small-named}
 use Rattle.opcode.specs.Table.{table_size}
 use Rattle.opcode.specs.Reading.{Answers}
 use Rattle.rules.specs.View.{read_into, answer_of, Answered}
 use Rattle.runs.proofs.Refusals.{Numbered, numbered-demand, rules-numbered}
 
--- an answer of code that stands for one of the definition's, whose refusal has a number from 1 to 14
-pub numbered-named : {T A : Type 0} (f : T → A) {r : Result T Refused} {x : Res A} (e : Refused) → res_of f r ≡ x → Numbered x → r ≡ Err e → Named e.refusal
+-- a refusal with a number from 1 to 14
+pub refused-named : {A : Type 0} {x : Res A} (r : Refusal) {place : ℕ} → x ≡ refuse (refusal_number r) place → Numbered x → Named r
 unfolding Numbered
-numbered-named {A = A} f {x = x} e same told is =
-    let at : x ≡ refuse (refusal_number e.refusal) e.place = sym (rw is at same) in
-    let t : Numbered {A = A} (refuse (refusal_number e.refusal) e.place) = rw at at told in
-    small-named e.refusal (omega (arith, t.1))
+refused-named {A = A} r {place} is told = let t : Numbered {A = A} (refuse (refusal_number r) place) = rw is at told in small-named r (omega (arith, t.1))
+
+-- an answer of code that stands for one of the definition's
+pub numbered-named : {T A : Type 0} (f : T → A) {r : Result T Refused} {x : Res A} (e : Refused) → res_of f r ≡ x → Numbered x → r ≡ Err e → Named e.refusal
+numbered-named f e same told is = refused-named e.refusal (sym (rw is at same)) told
 
 pub sheet-named : {room : ℕ} {text table : List ℕ} {r : Result (Unit {0}) Refused} (e : Refused) → Answers room text table (res_of (λ u. u) r) → r ≡ Err e → Named e.refusal
 sheet-named {room} {text} {table} e answers is = by (leb table_size room) refl

@@ -26,6 +26,11 @@ unfolding ◌>>=◌ Numbered
 numbered-bind (ok a) f t g = g a refl
 numbered-bind (refuse n p) f t g = t
 
+pub numbered-then : {A B : Type 0} (m : Res A) (k : Res B) → Numbered m → Numbered k → Numbered (m >> k)
+unfolding ◌>>◌ Numbered
+numbered-then (ok a) k t u = u
+numbered-then (refuse n p) k t u = t
+
 pub numbered-demand : {A : Type 0} (b : Bool) (n p : ℕ) (m : Res A) → Number n → (b ≡ true → Numbered m) → Numbered (demand b n p >> m)
 unfolding ◌>>◌ demand Numbered
 numbered-demand true n p m t k = k refl
@@ -156,7 +161,7 @@ mutual
 
 -- a reader of such trees
 abbrev pub Reads : {T : Type 0} → (T → Type 0) → Reader T → Type 0
-Reads Told part = (c : Cursor) → Told (part c).0
+Reads Good part = (c : Cursor) → Good (part c).0
 
 expr-of : (expr : Reader Expr) (c : Cursor) (l : ExprLine) → Reads ExprTold expr → ExprTold (expr_of expr c l).0
 unfolding expr_of ExprTold
@@ -234,17 +239,20 @@ stmt-told zero v text c = no-level (stmt_forms v) text c.at
 stmt-told (suc left) v text c = stmt-by _ _ _ (λ d. expr-told left v text d) (λ d. stmt-told left v text d) (λ n d. arms-told left text _ n (λ x. stmt-told left v text x) d)
     text c _ (at_told (λ x. Unit {0}) (stmt_forms v) (suc left) text c.at (anything (stmt_forms v)))
 
-pub header-numbered : (l : Line Header) → LineTold (λ x. Unit {0}) l → Numbered (header_of l)
+header-by : (l : Line Header) → LineTold (λ x. Unit {0}) l → Numbered (header_of l)
 unfolding header_of LineTold Numbered
-header-numbered (is h) g = tt
-header-numbered (not n) g = g
+header-by (is h) g = tt
+header-by (not n) g = g
 
-fault-numbered : {A : Type 0} (x : Option Fault) (m : Res A) → Told x → Numbered m → Numbered (no_fault x >> m)
-unfolding no_fault ◌>>◌ Told Numbered
-fault-numbered none m t k = k
-fault-numbered (some f) m t k = t
+pub header-numbered : (text : List ℕ) → Numbered (header_of (line_at header_forms max_nesting text 0))
+header-numbered text = header-by _ (at_told (λ x. Unit {0}) header_forms max_nesting text 0 (anything header_forms))
+
+fault-numbered : (x : Option Fault) → Told x → Numbered (no_fault x)
+unfolding no_fault Told Numbered
+fault-numbered none t = tt
+fault-numbered (some f) t = t
 
 pub read-numbered : (text : List ℕ) → Numbered (read_program text)
 unfolding read_program top_stmts Numbered
-read-numbered text = numbered-demand _ bad_text 0 _ (omega arith, omega arith) (λ q. numbered-bind _ _ (header-numbered _ (at_told (λ x. Unit {0}) header_forms max_nesting text 0 (anything header_forms)))
-    (λ h a. fault-numbered (fault_of_block (top_stmts h text).0) _ (block-fault _ (block-of _ h.statements (λ d. stmt-told max_nesting h.variables text d) _)) (numbered-demand _ wrong_lines _ _ (omega arith, omega arith) (λ b. tt))))
+read-numbered text = numbered-demand _ bad_text 0 _ (omega arith, omega arith) (λ q. numbered-bind _ _ (header-numbered text)
+    (λ h a. numbered-then _ _ (fault-numbered _ (block-fault _ (block-of _ h.statements (λ d. stmt-told max_nesting h.variables text d) _))) (numbered-demand _ wrong_lines _ _ (omega arith, omega arith) (λ b. tt))))

@@ -5,7 +5,7 @@ use Rattle.definition.specs.Slowest.{Answer, refused, looping, measured, Measure
 use Rattle.definition.specs.View.{refusal_number, Named}
 use Rattle.definition.specs.declared.Refusal.{Refusal}
 use Rattle.definition.specs.declared.Refused.{Refused}
-use Rattle.definition.proofs.Named.{small-named}
+use Rattle.field.proofs.Named.{small-named}
 use Rattle.image_check.proofs.Named.{checks-named}
 use Rattle.slowest.specs.declared.Measured.{Measured}
 use Rattle.slowest.specs.View.{answer_view}

@@ -1,12 +1,12 @@
 -- A refusal that has a name is known by its number.
-use Rattle.std.proofs.Common.{◌≡◌, ℕ, ◌≤◌, List, [], ◌∷◌, get_or, sym, refl, ap, ◌∙◌, arith}
+use Rattle.std.proofs.Common.{◌≡◌, ◌≤◌, List, [], ◌∷◌, get_or, sym, refl, ap, ◌∙◌, arith}
 use Rattle.definition.specs.Limits.{far_branch}
 use Rattle.definition.specs.declared.Unnamed.{Unnamed}
 use Rattle.definition.specs.declared.Refusal.{Refusal}
 use Rattle.definition.specs.declared.Refusal.TheVariants.{BadText, BadForm, BadRange, NoLoop, TooDeep, WrongLines, BadSheet, BadCode, BadRule, CodeFull, LabelsFull, LinesFull, ConstantsFull, OutputShort, FarBranch, Astray, BadHeight, Other}
 use Rattle.definition.specs.View.{refusal_number, Named}
 
--- it is one up to 15
+-- a refusal whose number is at most 15 has a name
 pub small-named : (r : Refusal) → refusal_number r ≤ far_branch → Named r
 small-named r small u e = omega (arith, (rw e at small), u.unnamed.past_far_branch)
 
@@ -39,10 +39,10 @@ known Astray h = record { is = refl; apart = λ u e. u.unnamed.not_astray e }
 known BadHeight h = record { is = refl; apart = λ u e. u.unnamed.not_bad_height e }
 known (Other u) h = absurd (h u refl)
 
--- what has its number has a name
+-- so has one whose number is that of a refusal that has a name
 pub same-named : (r s : Refusal) → Named r → refusal_number s ≡ refusal_number r → Named s
 same-named r s h e u at = (known r h).apart u (rw at at e)
 
--- and is that refusal
+-- and it is the same refusal
 pub named-same : (r s : Refusal) → Named r → refusal_number s ≡ refusal_number r → s ≡ r
 named-same r s h e = sym (known s (same-named r s h e)).is ∙ ap (λ n. get_or by_number n BadText) e ∙ (known r h).is
