@@ -20,7 +20,7 @@ use Rattle.definition.specs.declared.Refusal.{Refusal}
 use Rattle.definition.specs.declared.Refused.{Refused}
 use Rattle.field.proofs.Named.{small-named}
 use Rattle.field.proofs.Refusals.{LineTold, at_told, anything}
-use Rattle.runs.proofs.Refusals.{Numbered, Told, numbered-bind, numbered-then, numbered-demand, numbered-given, rules-numbered, expr-fault, stmt-fault, expr-told, stmt-told, header-numbered, read-numbered}
+use Rattle.runs.proofs.Refusals.{Numbered, Told, numbered-bind, numbered-then, numbered-demand, numbered-given, rules-numbered, expr-first, stmt-first, expr-told, stmt-told, header-numbered, read-numbered}
 use Rattle.runs.proofs.Answers.{call-refused, reach-number}
 use Rattle.runs.proofs.Named.{refused-named, numbered-named}
 use Rattle.program_line.specs.declared.Next.{Next}
@@ -64,10 +64,10 @@ walk-named s told walked is = refused-named s.refusal (sym (rw is at walked.did)
 
 module _ (heed : Bool) (left variables : ℕ) (text : List ℕ) {c : Cursor} {r : Result Cursor Stop} (s : Stop) where
   pub expr-walk-named : Walked (over_expr heed left variables text) text c r → r ≡ Err s → Named s.refusal
-  expr-walk-named = walk-named s (λ d. outcome-numbered heed _ _ (expr-fault _ (expr-told left variables text d)))
+  expr-walk-named = walk-named s (λ d. outcome-numbered heed _ _ (expr-first _ (expr-told left variables text d)))
 
   pub stmts-walk-named : (n : ℕ) → Walked (many n (over_stmt heed left variables text)) text c r → r ≡ Err s → Named s.refusal
-  stmts-walk-named n = walk-named s (many-numbered n _ (λ d. outcome-numbered heed _ _ (stmt-fault _ (stmt-told left variables text d))))
+  stmts-walk-named n = walk-named s (many-numbered n _ (λ d. outcome-numbered heed _ _ (stmt-first _ (stmt-told left variables text d))))
 
 -- ---- the check of a program
 

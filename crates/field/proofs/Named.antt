@@ -19,22 +19,25 @@ record Known (r : Refusal) : Type 0 where
   is : get_or by_number (refusal_number r) BadText ≡ r
   apart : (u : Unnamed) → u.number ≡ refusal_number r → ⊥
 
+low : {r : Refusal} → get_or by_number (refusal_number r) BadText ≡ r → refusal_number r ≤ far_branch → Known r
+low is small = record { is = is; apart = λ u e. omega (arith, e, small, u.unnamed.past_far_branch) }
+
 known : (r : Refusal) → Named r → Known r
-known BadText h = record { is = refl; apart = λ u e. omega (arith, e, u.unnamed.past_far_branch) }
-known BadForm h = record { is = refl; apart = λ u e. omega (arith, e, u.unnamed.past_far_branch) }
-known BadRange h = record { is = refl; apart = λ u e. omega (arith, e, u.unnamed.past_far_branch) }
-known NoLoop h = record { is = refl; apart = λ u e. omega (arith, e, u.unnamed.past_far_branch) }
-known TooDeep h = record { is = refl; apart = λ u e. omega (arith, e, u.unnamed.past_far_branch) }
-known WrongLines h = record { is = refl; apart = λ u e. omega (arith, e, u.unnamed.past_far_branch) }
-known BadSheet h = record { is = refl; apart = λ u e. omega (arith, e, u.unnamed.past_far_branch) }
-known BadCode h = record { is = refl; apart = λ u e. omega (arith, e, u.unnamed.past_far_branch) }
-known BadRule h = record { is = refl; apart = λ u e. omega (arith, e, u.unnamed.past_far_branch) }
-known CodeFull h = record { is = refl; apart = λ u e. omega (arith, e, u.unnamed.past_far_branch) }
-known LabelsFull h = record { is = refl; apart = λ u e. omega (arith, e, u.unnamed.past_far_branch) }
-known LinesFull h = record { is = refl; apart = λ u e. omega (arith, e, u.unnamed.past_far_branch) }
-known ConstantsFull h = record { is = refl; apart = λ u e. omega (arith, e, u.unnamed.past_far_branch) }
-known OutputShort h = record { is = refl; apart = λ u e. omega (arith, e, u.unnamed.past_far_branch) }
-known FarBranch h = record { is = refl; apart = λ u e. omega (arith, e, u.unnamed.past_far_branch) }
+known BadText h = low refl (omega arith)
+known BadForm h = low refl (omega arith)
+known BadRange h = low refl (omega arith)
+known NoLoop h = low refl (omega arith)
+known TooDeep h = low refl (omega arith)
+known WrongLines h = low refl (omega arith)
+known BadSheet h = low refl (omega arith)
+known BadCode h = low refl (omega arith)
+known BadRule h = low refl (omega arith)
+known CodeFull h = low refl (omega arith)
+known LabelsFull h = low refl (omega arith)
+known LinesFull h = low refl (omega arith)
+known ConstantsFull h = low refl (omega arith)
+known OutputShort h = low refl (omega arith)
+known FarBranch h = low refl (omega arith)
 known Astray h = record { is = refl; apart = λ u e. u.unnamed.not_astray e }
 known BadHeight h = record { is = refl; apart = λ u e. u.unnamed.not_bad_height e }
 known (Other u) h = absurd (h u refl)

@@ -1,4 +1,4 @@
--- A tree whose faults have numbers, as any that is read, or that has no fault, is emitted without a refusal of another.
+-- A tree whose faults have numbers from 1 to 14, as one that is read or that has no fault, is emitted with refusals by such numbers alone.
 use Prim.Native.Nat.{ℕ}
 use mathlib.Core.Path.{◌≡◌, refl}
 use mathlib.Core.List.{List, [], ◌∷◌, ◌++◌}
@@ -60,7 +60,7 @@ pub silent : Tells nothing
 unfolding nothing
 silent = record { told = λ n. empty }
 
--- ---- trees whose faults have numbers
+-- ---- trees whose faults have such numbers
 
 pub expr-tells : (e : Expr) (h : ℕ) → ExprTold e → Tells (emit_expr e h)
 unfolding emit_expr ExprTold Told

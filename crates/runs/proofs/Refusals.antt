@@ -116,46 +116,46 @@ unfoldable mutual
   ArmsTold (bad_arm f) = Number f.number
 
 -- so has the first of them
-pub expr-fault : (e : Expr) → ExprTold e → Told (fault_of_expr e)
+pub expr-first : (e : Expr) → ExprTold e → Told (fault_of_expr e)
 unfolding fault_of_expr ExprTold Told
-expr-fault (const k) t = tt
-expr-fault (bool b) t = tt
-expr-fault (read v) t = tt
-expr-fault (binary o a b) t = told-or _ _ (expr-fault a t.0) (expr-fault b t.1)
-expr-fault (unary o a) t = expr-fault a t
-expr-fault (compare c a b) t = told-or _ _ (expr-fault a t.0) (expr-fault b t.1)
-expr-fault (short_circuit o a b) t = told-or _ _ (expr-fault a t.0) (expr-fault b t.1)
-expr-fault (bad f) t = t
+expr-first (const k) t = tt
+expr-first (bool b) t = tt
+expr-first (read v) t = tt
+expr-first (binary o a b) t = told-or _ _ (expr-first a t.0) (expr-first b t.1)
+expr-first (unary o a) t = expr-first a t
+expr-first (compare c a b) t = told-or _ _ (expr-first a t.0) (expr-first b t.1)
+expr-first (short_circuit o a b) t = told-or _ _ (expr-first a t.0) (expr-first b t.1)
+expr-first (bad f) t = t
 
-labels-fault : (ls : List CaseLabel) → LabelsTold ls → Told (fault_of_labels ls)
+labels-first : (ls : List CaseLabel) → LabelsTold ls → Told (fault_of_labels ls)
 unfolding fault_of_labels LabelTold LabelsTold Told
-labels-fault [] t = tt
-labels-fault (value k ∷ ls) t = labels-fault ls t.1
-labels-fault (range a b ∷ ls) t = labels-fault ls t.1
-labels-fault (bad_label f ∷ ls) t = t.0
+labels-first [] t = tt
+labels-first (value k ∷ ls) t = labels-first ls t.1
+labels-first (range a b ∷ ls) t = labels-first ls t.1
+labels-first (bad_label f ∷ ls) t = t.0
 
 mutual
   unfolding fault_of_stmt StmtTold Told
 
-  pub stmt-fault : (s : Stmt) → StmtTold s → Told (fault_of_stmt s)
-  stmt-fault (assign s v e) t = expr-fault e t
-  stmt-fault (if s c b d) t = told-or _ _ (expr-fault c t.0) (told-or _ _ (block-fault b t.1) (block-fault d t.2))
-  stmt-fault (case s e xs b) t = told-or _ _ (expr-fault e t.0) (told-or _ _ (arms-fault xs t.1) (block-fault b t.2))
-  stmt-fault (for s i v k a b c) t = told-or _ _ (expr-fault a t.0) (told-or _ _ (expr-fault b t.1) (block-fault c t.2))
-  stmt-fault (loop s i b c) t = told-or _ _ (block-fault b t.0) (block-fault c t.1)
-  stmt-fault (exit s i) t = tt
-  stmt-fault (continue s i) t = tt
-  stmt-fault (return s) t = tt
-  stmt-fault (bad_stmt f) t = t
+  pub stmt-first : (s : Stmt) → StmtTold s → Told (fault_of_stmt s)
+  stmt-first (assign s v e) t = expr-first e t
+  stmt-first (if s c b d) t = told-or _ _ (expr-first c t.0) (told-or _ _ (block-first b t.1) (block-first d t.2))
+  stmt-first (case s e xs b) t = told-or _ _ (expr-first e t.0) (told-or _ _ (arms-first xs t.1) (block-first b t.2))
+  stmt-first (for s i v k a b c) t = told-or _ _ (expr-first a t.0) (told-or _ _ (expr-first b t.1) (block-first c t.2))
+  stmt-first (loop s i b c) t = told-or _ _ (block-first b t.0) (block-first c t.1)
+  stmt-first (exit s i) t = tt
+  stmt-first (continue s i) t = tt
+  stmt-first (return s) t = tt
+  stmt-first (bad_stmt f) t = t
 
-  block-fault : (b : Block) → BlockTold b → Told (fault_of_block b)
-  block-fault done t = tt
-  block-fault (s then b) t = told-or _ _ (stmt-fault s t.0) (block-fault b t.1)
+  block-first : (b : Block) → BlockTold b → Told (fault_of_block b)
+  block-first done t = tt
+  block-first (s then b) t = told-or _ _ (stmt-first s t.0) (block-first b t.1)
 
-  arms-fault : (xs : Arms) → ArmsTold xs → Told (fault_of_arms xs)
-  arms-fault no_arms t = tt
-  arms-fault (arm ls b xs) t = told-or _ _ (labels-fault ls t.0) (told-or _ _ (block-fault b t.1) (arms-fault xs t.2))
-  arms-fault (bad_arm f) t = t
+  arms-first : (xs : Arms) → ArmsTold xs → Told (fault_of_arms xs)
+  arms-first no_arms t = tt
+  arms-first (arm ls b xs) t = told-or _ _ (labels-first ls t.0) (told-or _ _ (block-first b t.1) (arms-first xs t.2))
+  arms-first (bad_arm f) t = t
 
 -- ---- what is read
 
@@ -255,4 +255,4 @@ fault-numbered (some f) t = t
 pub read-numbered : (text : List ℕ) → Numbered (read_program text)
 unfolding read_program top_stmts Numbered
 read-numbered text = numbered-demand _ bad_text 0 _ (omega arith, omega arith) (λ q. numbered-bind _ _ (header-numbered text)
-    (λ h a. numbered-then _ _ (fault-numbered _ (block-fault _ (block-of _ h.statements (λ d. stmt-told max_nesting h.variables text d) _))) (numbered-demand _ wrong_lines _ _ (omega arith, omega arith) (λ b. tt))))
+    (λ h a. numbered-then _ _ (fault-numbered _ (block-first _ (block-of _ h.statements (λ d. stmt-told max_nesting h.variables text d) _))) (numbered-demand _ wrong_lines _ _ (omega arith, omega arith) (λ b. tt))))
